@@ -1,0 +1,1 @@
+// Laws of the integers, in specs/. There is no code.

@@ -1,0 +1,52 @@
+-- Two's complement by the code's own steps, at each width: −1 − (2 ^ bits − 1 − n) for bits n of the upper half, and the way back.
+use Prim.Native.Nat.{ℕ, _+_, _*_, _-_, _^_, _≤_, _<_}
+use mathlib.Core.Path.{_≡_, _∙_, sym, ap}
+use native.Mathlib.Omega.{arith}
+use lib.IntN.{ℤ, pos, negsuc, natAbs, _-ℤ_}
+use lib.Signed.{_<ℤ_}
+use mir.Syntax.{Width}
+use mir.Val.{SFits, bits, hbits, toZ, ofZ}
+use mir.ValLaws.{toZ-ofZ, toZ-pos, bits-suc}
+use Rattle.integers.specs.Parts.{signed, difference-parts, magnitude-parts}
+use Rattle.integers.specs.TwosComplement.{signedOf, signed-large}
+
+module _ (w : Width) where
+  -- the whole width is twice the half
+  twice : 2 ^ bits w ≡ 2 * 2 ^ hbits w
+  twice = rw bits-suc (omega arith)
+
+  module _ (n : ℕ) (upper : 2 ^ hbits w ≤ n) (below : n < 2 ^ bits w) where
+    rest : ℕ
+    rest = 2 ^ bits w - 1 - n
+
+    rest-read : toZ w rest ≡ pos rest
+    unfolding rest
+    rest-read = toZ-pos w (2 ^ bits w - 1 - n) (omega (arith, twice))
+
+    pub complement-fits : SFits w (negsuc 0 -ℤ toZ w (2 ^ bits w - 1 - n))
+    unfolding rest
+    complement-fits = rw rest-read (omega (signed, twice, difference-parts (negsuc 0) (pos (2 ^ bits w - 1 - n))))
+
+    pub complement-read : toZ w (ofZ w (negsuc 0 -ℤ toZ w (2 ^ bits w - 1 - n))) ≡ signedOf (bits w) n
+    unfolding rest
+    complement-read =
+        let half : 2 ^ (bits w - 1) ≡ 2 ^ hbits w = ap (λ (k : ℕ). 2 ^ k) (omega (arith, bits-suc w)) in
+        toZ-ofZ w (negsuc 0 -ℤ toZ w (2 ^ bits w - 1 - n)) complement-fits
+        ∙ ap (λ (z : ℤ). negsuc 0 -ℤ z) rest-read
+        ∙ omega (signed, difference-parts (negsuc 0) (pos (2 ^ bits w - 1 - n)), difference-parts (pos n) (pos (2 ^ bits w)))
+        ∙ sym (signed-large (bits w) n (omega arith))
+
+  module _ (z : ℤ) (fits : SFits w z) where
+    pub read-back : toZ w (ofZ w z) ≡ z
+    read-back = toZ-ofZ w z fits
+
+    module _ (negative : z <ℤ pos 0) where
+      pub below-fits : SFits w (negsuc 0 -ℤ toZ w (ofZ w z))
+      below-fits = rw read-back (omega (signed, difference-parts (negsuc 0) z))
+
+      -- −1 − z is one less than z's magnitude
+      pub below-read : toZ w (ofZ w (negsuc 0 -ℤ toZ w (ofZ w z))) ≡ pos (natAbs z - 1)
+      below-read =
+          toZ-ofZ w (negsuc 0 -ℤ toZ w (ofZ w z)) below-fits
+          ∙ ap (λ (y : ℤ). negsuc 0 -ℤ y) read-back
+          ∙ omega (signed, difference-parts (negsuc 0) z, magnitude-parts z)

@@ -1,0 +1,63 @@
+-- Laws of runs of words.
+use Prim.Native.Nat.{ℕ, zero, suc, _+_, _*_, _^_, _≤_, _<_}
+use mathlib.Core.Path.{_≡_, refl, _∙_, ap}
+use mathlib.Core.Logic.{_≢_}
+use mathlib.Core.List.{List, [], _∷_}
+use native.Mathlib.Omega.{arith}
+use lib.ListN.{length, getD}
+use Rattle.words.specs.Bytes.{Bytes}
+use Rattle.words.specs.Words.{AreWords, wordAt, putWord, wordsAt, putWords}
+use Rattle.words.proofs.Memory.{length-put, bytes-put, word-put-same, word-put-other, put-back}
+
+pub length-words : (m : List ℕ) (k n : ℕ) → length (wordsAt m k n) ≡ n
+unfolding wordsAt
+length-words m k zero = refl
+length-words m k (suc n) = rw (length-words m (k + 1) n)
+
+pub word-of-words : (m : List ℕ) (k n j : ℕ) → j < n → getD (wordsAt m k n) j 0 ≡ wordAt m (k + j)
+unfolding wordsAt
+word-of-words m k zero j h = absurd (omega arith)
+word-of-words m k (suc n) zero h =
+    let z : k + 0 ≡ k = omega arith in
+    rw z
+word-of-words m k (suc n) (suc j) h =
+    let s : k + suc j ≡ k + 1 + j = omega arith in
+    rw s (word-of-words m (k + 1) n j (omega arith))
+
+pub length-puts : (m : List ℕ) (k : ℕ) (vs : List ℕ) → length (putWords m k vs) ≡ length m
+unfolding putWords
+length-puts m k [] = refl
+length-puts m k (v ∷ vs) = length-puts (putWord m k v) (k + 1) vs ∙ length-put m k v
+
+pub bytes-puts : (m : List ℕ) (k : ℕ) (vs : List ℕ) → Bytes m → Bytes (putWords m k vs)
+unfolding putWords
+bytes-puts m k [] bytes = bytes
+bytes-puts m k (v ∷ vs) bytes = bytes-puts (putWord m k v) (k + 1) vs (bytes-put m k v bytes)
+
+pub word-puts-other : (m : List ℕ) (k : ℕ) (vs : List ℕ) (j : ℕ) → ((i : ℕ) → i < length vs → j ≢ k + i) → wordAt (putWords m k vs) j ≡ wordAt m j
+unfolding putWords
+word-puts-other m k [] j apart = refl
+word-puts-other m k (v ∷ vs) j apart =
+    word-puts-other (putWord m k v) (k + 1) vs j (λ i h e. apart (i + 1) (omega arith) (omega arith))
+    ∙ word-put-other m k v j (λ e. apart 0 (omega arith) (omega arith))
+
+pub word-puts-same : (m : List ℕ) (k : ℕ) (vs : List ℕ) (j : ℕ) → (k + length vs) * 8 ≤ length m → AreWords vs → j < length vs → wordAt (putWords m k vs) (k + j) ≡ getD vs j 0
+unfolding putWords
+word-puts-same m k [] j fits small h = absurd (omega arith)
+word-puts-same m k (v ∷ vs) zero fits small h =
+    let z : k + 0 ≡ k = omega arith in
+    rw z
+    (word-puts-other (putWord m k v) (k + 1) vs k (λ i g e. omega arith)
+    ∙ word-put-same m k v (omega arith) (small 0))
+word-puts-same m k (v ∷ vs) (suc j) fits small h =
+    let s : k + suc j ≡ k + 1 + j = omega arith in
+    let long : (k + 1 + length vs) * 8 ≤ length (putWord m k v) = rw length-put (omega arith) in
+    rw s (word-puts-same (putWord m k v) (k + 1) vs j long (λ i. small (suc i)) (omega arith))
+
+-- words stored where they stand change nothing
+pub puts-back : (m : List ℕ) (k n : ℕ) → Bytes m → putWords m k (wordsAt m k n) ≡ m
+unfolding wordsAt putWords
+puts-back m k zero bytes = refl
+puts-back m k (suc n) bytes =
+    ap (λ (l : List ℕ). putWords l (k + 1) (wordsAt m (k + 1) n)) (put-back m k bytes)
+    ∙ puts-back m (k + 1) n bytes

@@ -1,0 +1,51 @@
+use mathlib.Core.Path.{sym}
+use lib.IntN.{pos}
+use lib.Signed.{_≤ℤ_, _<ℤ_}
+use mir.Syntax.{w64}
+use mir.Val.{SFits}
+use Rattle.integers.specs.Parts.{signed, magnitude-parts}
+use Rattle.integers.specs.TwosComplement.{bits-nonneg, bits-negative}
+use Rattle.words.proofs.Complement.{read-back, below-fits, below-read}
+use Rattle.words.proofs.signed.bits64.Statement.{statement}
+use Rattle.words.proofs.signed.bits64.Tie as tie
+
+negative : (c : tie.Then1) → c .before .args .z <ℤ pos 0
+negative c = omega (signed, read-back w64 (c .before .args .z) (c .before .fits .z))
+
+natural : (c : tie.Else1) → pos 0 ≤ℤ c .before .args .z
+natural c = omega (signed, read-back w64 (c .before .args .z) (c .before .fits .z))
+
+sub-result : tie.Need-sub-result
+sub-result c = below-fits w64 (c .before .args .z) (c .before .fits .z) (negative c)
+
+cast-result : tie.Need-cast-result
+cast-result c =
+    let z = c .before .args .z in
+    let fits : SFits w64 z = c .before .fits .z in
+    rw (below-read w64 z fits (negative c)) (tt, omega (signed, magnitude-parts z))
+
+sub-result-2 : tie.Need-sub-result-2
+sub-result-2 c =
+    let z = c .before .args .z in
+    let fits : SFits w64 z = c .before .fits .z in
+    rw (below-read w64 z fits (negative c)) (omega (signed, magnitude-parts z))
+
+cast-result-2 : tie.Need-cast-result-2
+cast-result-2 c =
+    let z = c .before .args .z in
+    let fits : SFits w64 z = c .before .fits .z in
+    rw (read-back w64 z fits) (omega (signed, natural c), omega (signed, magnitude-parts z))
+
+returns : tie.Need-returns
+returns c =
+    let z = c .before .args .z in
+    rw (below-read w64 z (c .before .fits .z) (negative c), bits-negative 64 z (negative c)) (omega (signed, negative c, magnitude-parts z))
+
+returns-2 : tie.Need-returns-2
+returns-2 c =
+    let z = c .before .args .z in
+    rw (read-back w64 z (c .before .fits .z)) (sym (bits-nonneg 64 z (natural c)))
+
+pub bits64-spec : {M : Type 1} → statement M
+bits64-spec =
+    tie.close (tie.spec sub-result cast-result sub-result-2 cast-result-2 returns returns-2)
