@@ -1,0 +1,22 @@
+//! Document 01's rules, tried on the second implementation.
+
+mod blocks;
+mod day;
+mod dice;
+mod edges;
+mod example_a;
+mod example_b;
+mod faults;
+mod fields;
+mod fillings;
+mod lines;
+mod listing;
+mod minus_two;
+mod orders;
+mod precedence;
+mod readers;
+mod refusals;
+mod rosters;
+mod soundness;
+mod trial;
+mod walk;
