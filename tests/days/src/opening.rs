@@ -1,4 +1,4 @@
-//! The answer to an opening on memory that is long enough: questions 2, 3 and 4, asked of the bytes.
+//! The answer to an opening on memory that is long enough: questions 2, 3 and 4.
 
 use crate::plain::Roster;
 

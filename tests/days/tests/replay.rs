@@ -34,6 +34,19 @@ fn openings_differ() {
     assert_eq!((&*difference.left, &*difference.right), ("0", "1"));
 }
 
+#[test]
+fn answers_differ() {
+    let refuses_all = faults()
+        .into_iter()
+        .find(|fault| fault.name == "refuses all");
+    let mut refuses_all = refuses_all.expect("a gate that refuses all").gate();
+    let day = kind("small").day(1);
+    let difference = first_difference(&day, &mut gate::reference(), &mut refuses_all);
+    let difference = difference.expect("the first LIMIT is accepted, and refused");
+    assert_eq!(difference.what, "event 1");
+    assert_eq!((&*difference.left, &*difference.right), ("0", "24"));
+}
+
 /// The reference, but one figure of one position is read as one more once an order is open there.
 struct Misread {
     lent: Lent,

@@ -105,7 +105,7 @@ impl Draft {
     }
 
     /// What each limit still leaves to an order of this side: TCI or TVI as it is; what LCI or LVI
-    /// leaves; and, for a weight other than 0, what LCC or LVC leaves. None where a line is not set.
+    /// leaves; for a weight other than 0, what LCC or LVC leaves. None where a line is not set.
     pub fn rooms(&self, account: u16, instrument: u16, side: Side) -> Option<Vec<i64>> {
         let roster = &self.book.roster;
         let (group, weight) = (roster.group(instrument), roster.weight(instrument));

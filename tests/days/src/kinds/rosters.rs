@@ -17,7 +17,7 @@ pub const KIND: Kind = Kind {
 const LARGEST_WEIGHT: i32 = 1_000_000;
 
 /// How many rosters there are, one for each seed before they come again.
-const ROSTERS: u64 = 153;
+const ROSTERS: u64 = 159;
 
 /// One of the rosters, and a few events, which have no desk to go to where it is refused.
 fn day(seed: u64) -> Day {
@@ -44,7 +44,7 @@ fn rosters(seed: u64) -> Vec<Vec<u8>> {
         rosters.push(sound.bytes());
         rosters.extend(of_other_lengths(&sound.bytes()));
         rosters.extend(of_other_sizes(&sound.bytes()));
-        rosters.extend(of_one_more(&sound));
+        rosters.extend(of_one_more_or_none(&sound));
         rosters.extend(of_other_numbers(&mut random, &sound));
         rosters.extend(of_other_weights(&mut random, &sound));
     }
@@ -85,23 +85,18 @@ fn of_other_sizes(sound: &[u8]) -> Vec<Vec<u8>> {
     rosters
 }
 
-/// One more of each, with all that goes with it.
-fn of_one_more(sound: &RosterSpec) -> Vec<Vec<u8>> {
-    let mut contract = sound.clone();
-    contract.groups_of.push(1);
-    let mut instrument = sound.clone();
-    instrument.instruments.push((1, 1));
-    let account = RosterSpec {
-        accounts: sound.accounts + 1,
-        ..sound.clone()
-    };
-    let group = RosterSpec {
-        groups: sound.groups + 1,
-        ..sound.clone()
-    };
-    [account, group, contract, instrument]
-        .map(|spec| spec.bytes())
-        .to_vec()
+/// One more of each, and no contract or instrument, with all that goes with it.
+fn of_one_more_or_none(sound: &RosterSpec) -> Vec<Vec<u8>> {
+    let mut specs = vec![sound.clone(); 7];
+    specs[0].accounts += 1;
+    specs[1].groups += 1;
+    specs[2].groups_of.push(1);
+    specs[3].instruments.push((1, 1));
+    specs[4].instruments.clear();
+    specs[5].groups_of.clear();
+    specs[6].instruments.clear();
+    specs[6].groups_of.clear();
+    specs.iter().map(RosterSpec::bytes).collect()
 }
 
 /// A contract's group and an instrument's contract at and past the ends of what there is.

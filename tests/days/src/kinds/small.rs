@@ -1,5 +1,5 @@
-//! Small days, whose fillings can all be enumerated: few accounts and instruments, at most four open
-//! orders with totals from 1 to 4, and limits of the same size.
+//! Small days, whose fillings can all be enumerated: few accounts and instruments, at most four
+//! open orders with totals from 1 to 4, and limits that two or three orders reach.
 
 use wire::Fields;
 

@@ -43,10 +43,12 @@ fn quantities_stand_at_their_bounds_and_past_them() {
 fn balances_and_blocks_stand_at_their_bounds_and_past_them() {
     let days = all("figures");
     let balance = |wanted| {
-        answers(
-            &days,
-            |step| matches!(step.event(), Some(Event::Balance { account: 1, figure, .. }) if figure == wanted),
-        )
+        answers(&days, |step| match step.event() {
+            Some(Event::Balance {
+                account, figure, ..
+            }) => (account, figure) == (1, wanted),
+            _ => false,
+        })
     };
     for figure in [-LARGEST, 1 - LARGEST, -1, 0, 1, LARGEST - 1, LARGEST] {
         assert!(balance(figure).contains(&0), "{figure}");
