@@ -1,0 +1,168 @@
+-- Ids of the open orders: they stay strictly ascending, so each names at most one order, and an order is found by its id
+-- wherever it stands.
+use Prim.Native.Nat.{ℕ, _≤_, _<_}
+use mathlib.Core.Path.{_≡_, refl, sym, _∙_, ap}
+use mathlib.Core.Logic.{_↔_, _≢_, _⊎_, inl, inr, ⊎-elim}
+use mathlib.Core.Bool.{Bool, true, false, cond}
+use mathlib.Core.List.{List, [], _∷_, _++_, List·Memᴰ, List·Memᴰ·head, List·Memᴰ·tail, List·Memᴰ·not-nil, List·Memᴰ·cases-cons, List·Memᴰ·append-cases, Memᴰ·append-left, Memᴰ·append-right}
+use mathlib.Core.Option.{none, some}
+use native.Mathlib.Omega.{arith}
+use lib.Dec.{ltb, eqb}
+use borrow.Author.Tests.{eqb-true, eqb-false, eq-eqb, ne-eqb}
+use Rattle.ledger.specs.declared.order.Order.{Order}
+use Rattle.ledger.specs.Orders.{filledBy, replacedTotal, closes}
+use Rattle.ledger.proofs.Ways.{by-number}
+use Rattle.book.specs.OpenOrders.{find, insert, change, kept}
+use Rattle.book.specs.Sound.{Ascending, nothing, next}
+
+-- what a change makes of an order: nothing, or an order of the same id
+pub data Became (o : Order) : List Order → Type 0 where
+  gone : Became o []
+  became : {o′ : Order} → o′ .id ≡ o .id → Became o (o′ ∷ [])
+
+kept-became : (o o′ : Order) → o′ .id ≡ o .id → Became o (kept o′)
+unfolding kept
+kept-became o o′ e = by (closes o′)
+  where
+    by : (t : Bool) → Became o (cond t [] (o′ ∷ []))
+    by true = gone
+    by false = became e
+
+pub replaced-became : (n : ℕ) (o : Order) → Became o (replacedTotal o n ∷ [])
+unfolding replacedTotal
+replaced-became n o = became refl
+
+pub filled-became : (n : ℕ) (o : Order) → Became o (kept (filledBy o n))
+unfolding filledBy
+filled-became n o = kept-became o (filledBy o n) refl
+
+-- ---- ascending
+pub ascending-from : {m n : ℕ} {os : List Order} → m ≤ n → Ascending n os → Ascending m os
+ascending-from l nothing = nothing
+ascending-from {m} l (next {o} h a) = next {least = m} {o = o} (omega arith) a
+
+pub ascending-above : {least : ℕ} {os : List Order} → Ascending least os → (x : Order) → List·Memᴰ x os → least < x .id
+ascending-above nothing x m = absurd (List·Memᴰ·not-nil m)
+ascending-above (next {least} {o} {os} h a) x m =
+    ⊎-elim (λ e. rw e h) (λ k. let l = ascending-above a x k in omega arith) (List·Memᴰ·cases-cons m)
+
+-- ---- find
+find-cons : (n : ℕ) (x : Order) (os : List Order) → find n (x ∷ os) ≡ cond (eqb (x .id) n) (some x) (find n os)
+unfolding find
+find-cons n x os = refl
+
+-- an id that no order has is not found, and one that is not found no order has
+pub absent : (n : ℕ) (os : List Order) → ((x : Order) → List·Memᴰ x os → x .id ≢ n) → find n os ≡ none
+unfolding find
+absent n [] h = refl
+absent n (x ∷ os) h = rw (ne-eqb (x .id) n (h x (List·Memᴰ·head refl))) (absent n os (λ y m. h y (List·Memᴰ·tail m)))
+
+pub not-found : (n : ℕ) (os : List Order) → find n os ≡ none → (x : Order) → List·Memᴰ x os → x .id ≢ n
+unfolding find
+not-found n [] e x m = absurd (List·Memᴰ·not-nil m)
+not-found n (y ∷ os) e x m = by (eqb (y .id) n) refl e (λ d. not-found n os d x)
+  where
+    by : (t : Bool) → eqb (y .id) n ≡ t → cond t (some y) (find n os) ≡ none → (find n os ≡ none → List·Memᴰ x os → x .id ≢ n) → x .id ≢ n
+    by true d e rest = absurd (let z : _≡_ {A = ℕ} 0 1 = cc in omega arith)
+    by false d e rest = ⊎-elim (λ same. rw same (eqb-false (y .id) n d)) (rest e) (List·Memᴰ·cases-cons m)
+
+-- the order that is found is the member with that id: where it stands makes no difference
+pub find-member : {least : ℕ} {os : List Order} → Ascending least os → (n : ℕ) (o : Order) → (find n os ≡ some o) ↔ (List·Memᴰ o os × (o .id ≡ n))
+unfolding find
+find-member nothing n o =
+    (λ e. absurd (let z : _≡_ {A = ℕ} 0 1 = cc in omega arith), λ h. absurd (List·Memᴰ·not-nil (h .0)))
+find-member (next {o = x} {os} l a) n o =
+    by-number (x .id) n (λ t. (cond t (some x) (find n os) ≡ some o) ↔ (List·Memᴰ o (x ∷ os) × (o .id ≡ n))) here
+    (there (find-member a n o))
+  where
+    here : x .id ≡ n → (some x ≡ some o) ↔ (List·Memᴰ o (x ∷ os) × (o .id ≡ n))
+    here d = (
+      λ e. let same : o ≡ x = cc in (List·Memᴰ·head same, rw same d),
+      λ h. ⊎-elim (λ same. rw same) (λ m. let above = ascending-above a o m in absurd (omega (arith, h .1))) (List·Memᴰ·cases-cons (h .0)),
+    )
+
+    there : (find n os ≡ some o) ↔ (List·Memᴰ o os × (o .id ≡ n)) → x .id ≢ n → (find n os ≡ some o) ↔ (List·Memᴰ o (x ∷ os) × (o .id ≡ n))
+    there rest apart = (
+      λ e. (List·Memᴰ·tail (rest .0 e .0), rest .0 e .1),
+      λ h. ⊎-elim (λ same. absurd (apart (rw (← same) (h .1)))) (λ m. rest .1 (m, h .1)) (List·Memᴰ·cases-cons (h .0)),
+    )
+
+-- ---- an order joins whose id is not open
+pub insert-find : (o : Order) (os : List Order) → find (o .id) os ≡ none → (n : ℕ) → find n (insert o os) ≡ cond (eqb (o .id) n) (some o) (find n os)
+unfolding insert find
+insert-find o [] e n = refl
+insert-find o (x ∷ os) e n = by (ltb (o .id) (x .id)) (insert-find o os rest n)
+  where
+    fresh : x .id ≢ o .id
+    fresh = not-found (o .id) (x ∷ os) e x (List·Memᴰ·head refl)
+
+    rest : find (o .id) os ≡ none
+    rest = rw (ne-eqb (x .id) (o .id) fresh) at (sym (find-cons (o .id) x os) ∙ e)
+
+    either : (y z : Bool) → (y ≡ true → z ≡ true → ⊥) → find n (insert o os) ≡ cond y (some o) (find n os) → cond z (some x) (find n (insert o os)) ≡ cond y (some o) (cond z (some x) (find n os))
+    either true true h d = absurd (h refl refl)
+    either true false h d = d
+    either false true h d = refl
+    either false false h d = d
+
+    by : (t : Bool) → find n (insert o os) ≡ cond (eqb (o .id) n) (some o) (find n os) → find n (cond t (o ∷ (x ∷ os)) (x ∷ insert o os)) ≡ cond (eqb (o .id) n) (some o) (cond (eqb (x .id) n) (some x) (find n os))
+    by true d = refl
+    by false d = either (eqb (o .id) n) (eqb (x .id) n) (λ y z. fresh (eqb-true (x .id) n z ∙ sym (eqb-true (o .id) n y))) d
+
+-- ---- an order changes
+pub change-ascending : {least : ℕ} {os : List Order} → Ascending least os → (id : ℕ) (f : Order → List Order) → ((o : Order) → Became o (f o)) → Ascending least (change id f os)
+unfolding change
+change-ascending nothing id f b = nothing
+change-ascending (next {least} {o = x} {os} h a) id f b = by (eqb (x .id) id) (f x) (b x) (change-ascending a id f b)
+  where
+    by : (t : Bool) (l : List Order) → Became x l → Ascending (x .id) (change id f os) → Ascending least (cond t (l ++ os) (x ∷ change id f os))
+    by true l gone rest = ascending-from (omega arith) a
+    by true l (became {o′} e) rest = next {least = least} {o = o′} {os = os} (omega arith) (rw e a)
+    by false l c rest = next h rest
+
+-- an order of another id is found as before
+pub change-find : (id : ℕ) (f : Order → List Order) → ((o : Order) → Became o (f o)) → (os : List Order) (n : ℕ) → n ≢ id → find n (change id f os) ≡ find n os
+unfolding change find
+change-find id f b [] n apart = refl
+change-find id f b (x ∷ os) n apart = by (eqb (x .id) id) refl (f x) (b x) (change-find id f b os n apart)
+  where
+    by : (t : Bool) → eqb (x .id) id ≡ t → (l : List Order) → Became x l → find n (change id f os) ≡ find n os → find n (cond t (l ++ os) (x ∷ change id f os)) ≡ cond (eqb (x .id) n) (some x) (find n os)
+    by true d l gone rest = rw (ne-eqb (x .id) n (λ e. apart (sym e ∙ eqb-true (x .id) id d)))
+    by true d l (became {o′} same) rest =
+        rw (ne-eqb (o′ .id) n (λ e. apart (sym e ∙ (same ∙ eqb-true (x .id) id d))), ne-eqb (x .id) n (λ e. apart (sym e ∙ eqb-true (x .id) id d)))
+    by false d l c rest = rw rest
+
+-- the members after it are what the order became and the others, none of which has its id
+pub change-exactly : {least : ℕ} {os : List Order} → Ascending least os → (id : ℕ) (f : Order → List Order) (o : Order) → find id os ≡ some o → (x : Order) → List·Memᴰ x (change id f os) ↔ (List·Memᴰ x (f o) ⊎ (List·Memᴰ x os × (x .id ≢ id)))
+unfolding change find
+change-exactly nothing id f o e x = absurd (let z : _≡_ {A = ℕ} 0 1 = cc in omega arith)
+change-exactly (next {o = y} {os} h a) id f o e x = by (eqb (y .id) id) refl e (λ d. change-exactly a id f o d x)
+  where
+    by : (t : Bool) → eqb (y .id) id ≡ t → cond t (some y) (find id os) ≡ some o → (find id os ≡ some o → List·Memᴰ x (change id f os) ↔ (List·Memᴰ x (f o) ⊎ (List·Memᴰ x os × (x .id ≢ id)))) → List·Memᴰ x (cond t (f y ++ os) (y ∷ change id f os)) ↔ (List·Memᴰ x (f o) ⊎ (List·Memᴰ x (y ∷ os) × (x .id ≢ id)))
+    by true d e rest =
+        let here = eqb-true (y .id) id d in
+        let same : y ≡ o = cc in
+        rw (← same) (
+          λ m. ⊎-elim (λ k. inl k) (λ k. let l = ascending-above a x k in inr (List·Memᴰ·tail k, λ c. omega arith)) (List·Memᴰ·append-cases (f y) m),
+          ⊎-elim (λ k. Memᴰ·append-left os k)
+              (λ k. ⊎-elim (λ c. absurd (k .1 (rw c here))) (λ m. Memᴰ·append-right (f y) m) (List·Memᴰ·cases-cons (k .0))),
+        )
+    by false d e rest =
+        let apart = eqb-false (y .id) id d in (
+          λ m. ⊎-elim (λ c. inr (List·Memᴰ·head c, rw c apart)) (λ k. ⊎-elim (λ u. inl u) (λ u. inr (List·Memᴰ·tail (u .0), u .1)) (rest e .0 k)) (List·Memᴰ·cases-cons m),
+          ⊎-elim (λ k. List·Memᴰ·tail (rest e .1 (inl k)))
+              (λ k. ⊎-elim (λ c. List·Memᴰ·head c) (λ u. List·Memᴰ·tail (rest e .1 (inr (u, k .1)))) (List·Memᴰ·cases-cons (k .0))),
+        )
+
+-- ---- a list whose cut is known
+pub ascending-before : {least : ℕ} (front : List Order) (o : Order) (back : List Order) → Ascending least (front ++ (o ∷ back)) → (x : Order) → List·Memᴰ x front → x .id < o .id
+ascending-before [] o back a x m = absurd (List·Memᴰ·not-nil m)
+ascending-before (y ∷ front) o back (next h a) x m =
+    ⊎-elim (λ e. rw e (ascending-above a o (Memᴰ·append-right front (List·Memᴰ·head refl)))) (ascending-before front o back a x) (List·Memᴰ·cases-cons m)
+
+pub change-between : (f : Order → List Order) (front : List Order) (o : Order) (back : List Order) → ((x : Order) → List·Memᴰ x front → x .id < o .id) → change (o .id) f (front ++ (o ∷ back)) ≡ front ++ (f o ++ back)
+unfolding change
+change-between f [] o back h = rw (eq-eqb (o .id) (o .id) refl)
+change-between f (x ∷ front) o back h =
+    let l = h x (List·Memᴰ·head refl) in
+    rw (ne-eqb (x .id) (o .id) (λ e. omega arith)) (ap (λ xs. x ∷ xs) (change-between f front o back (λ y m. h y (List·Memᴰ·tail m))))

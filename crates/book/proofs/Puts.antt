@@ -1,0 +1,71 @@
+-- The manual's example B, dollar options with puts (tables 8 to 14), as a day of events. A buy of a put is judged by the
+-- group's short limit.
+use Prim.Native.Nat.{ℕ, _-_}
+use mathlib.Core.Path.{_≡_, refl}
+use mathlib.Core.List.{List, [], _∷_}
+use lib.ListN.{getD}
+use lib.IntN.{ℤ, pos, negℤ}
+use Rattle.integers.specs.Sum.{sumOver, below}
+use Rattle.ledger.specs.declared.order.Side.the-variants.{Buy, Sell}
+use Rattle.ledger.specs.Derivatives.{one}
+use Rattle.ledger.specs.Orders.{remaining, filledBy, replacedTotal, closes}
+use Rattle.ledger.specs.Roster.{Roster, groupOfInstrument}
+use Rattle.ledger.specs.Positions.{standsIn, openOn, ofInstrument, groupPart, sumGroup, potential}
+use Rattle.ledger.specs.Fillings.{fillMoves}
+use Rattle.limits.specs.Lines.{lineInForce, limit}
+use Rattle.limits.specs.Questions.{firstNo}
+use Rattle.limits.specs.Asked.{limitsSet, sizeFits, movesInstrument, movesGroup, within, positionQuestions}
+use Rattle.book.specs.declared.Figures.{Figures}
+use Rattle.book.specs.declared.LimitLine.the-variants.{Default, OfGroup}
+use Rattle.book.specs.declared.Event.{Event}
+use Rattle.book.specs.declared.Event.the-variants.{Limit, Balance, New}
+use Rattle.book.specs.Market.{derivatives}
+use Rattle.book.specs.OpenOrders.{find, insert, change, kept}
+use Rattle.book.specs.Books.{emptyBook, unsets, lineOf, groupLineOf, setLine, setBlock, newOrder, work, mark}
+use Rattle.book.specs.Table.{isEvent, accountKnown, itemKnown, figuresFit, notYetTrading, idOpen, quantityFits, entered, idFree, placeFree, questionsBefore, limitQuestions, answer}
+use Rattle.book.specs.Kept.{begun, keep}
+use Rattle.book.proofs.Days.{answersTo, endOf, groupLineAt}
+
+abbrev minus : ℕ → ℤ
+minus n = negℤ (pos n)
+
+-- puts 1 to 5, K8DB K8D0 K8D5 K8D8 K8D9; calls 6 to 13, K880 K881 K882 K883 K885 K886 K887 K888
+abbrev roster : Roster
+roster =
+    record {
+      accounts = 1;
+      groups = 1;
+      contracts = 1;
+      instruments = 13;
+      groupOf = λ c. 1;
+      contractOf = λ i. 1;
+      weight = λ i. getD (minus 2200 ∷ minus 9500 ∷ minus 7600 ∷ minus 4000 ∷ minus 5900 ∷ pos 500 ∷ pos 500 ∷ pos 500 ∷ pos 500 ∷ pos 2400 ∷ pos 500 ∷ pos 1200 ∷ pos 6000 ∷ []) (i - 1) (pos 0);
+    }
+
+abbrev line : Figures
+line = record { tci = pos 1000; tvi = pos 1000; lci = pos 2000; lvi = pos 0 }
+
+-- balances of 2,000 in K8D8, K8D0, K8D9 and K8DB; sells of 2,000 in K8D8 and in K8D0, by two orders each
+abbrev morning : List Event
+morning =
+    Limit 1 (Default 1 line)
+    ∷ Limit 1 (OfGroup 1 (pos 5000) (pos 5000))
+    ∷ Balance 1 4 (pos 2000)
+    ∷ Balance 1 2 (pos 2000)
+    ∷ Balance 1 5 (pos 2000)
+    ∷ Balance 1 1 (pos 2000)
+    ∷ New Sell 1 4 1 (pos 1000)
+    ∷ New Sell 1 4 2 (pos 1000)
+    ∷ New Sell 1 2 3 (pos 1000)
+    ∷ New Sell 1 2 4 (pos 1000)
+    ∷ []
+
+morning-accepted : (answersTo roster begun morning ≡ 0 ∷ 0 ∷ 0 ∷ 0 ∷ 0 ∷ 0 ∷ 0 ∷ 0 ∷ 0 ∷ 0 ∷ []) × (groupLineAt roster (endOf roster begun morning) 1 1 ≡ minus 16200000 ∷ pos 43200000 ∷ [])
+unfolding sumOver below remaining filledBy replacedTotal closes groupOfInstrument standsIn openOn ofInstrument groupPart sumGroup potential fillMoves lineInForce limit firstNo limitsSet sizeFits movesInstrument movesGroup within positionQuestions derivatives one find insert change kept emptyBook unsets lineOf groupLineOf setLine setBlock newOrder work mark isEvent accountKnown itemKnown figuresFit notYetTrading idOpen quantityFits entered idFree placeFree questionsBefore limitQuestions answer begun keep
+morning-accepted = (refl, refl)
+
+-- tables 12 to 14: a buy of 1,000 K8D5, a put, fails the group's short limit; a sell of 1,000 K888 its own; a buy of 1,000
+-- K885 passes
+tables : (answersTo roster (endOf roster begun morning) (New Buy 1 3 5 (pos 1000) ∷ New Sell 1 13 6 (pos 1000) ∷ New Buy 1 10 7 (pos 1000) ∷ []) ≡ 24 ∷ 22 ∷ 0 ∷ []) × (groupLineAt roster (endOf roster (endOf roster begun morning) (New Buy 1 10 7 (pos 1000) ∷ [])) 1 1 ≡ minus 13800000 ∷ pos 43200000 ∷ [])
+unfolding sumOver below remaining filledBy replacedTotal closes groupOfInstrument standsIn openOn ofInstrument groupPart sumGroup potential fillMoves lineInForce limit firstNo limitsSet sizeFits movesInstrument movesGroup within positionQuestions derivatives one find insert change kept emptyBook unsets lineOf groupLineOf setLine setBlock newOrder work mark isEvent accountKnown itemKnown figuresFit notYetTrading idOpen quantityFits entered idFree placeFree questionsBefore limitQuestions answer begun keep
+tables = (refl, refl)

@@ -1,0 +1,66 @@
+-- "Set again" is document 01's sentence, line by line.
+use Prim.Native.Nat.{ℕ}
+use mathlib.Core.Path.{_≡_, refl, sym, _∙_, ap}
+use mathlib.Core.Logic.{_↔_, _⊎_, inl, inr, ⊎-elim}
+use mathlib.Core.Bool.{true, false}
+use mathlib.Core.Option.{Option, none, some}
+use native.Mathlib.Omega.{arith}
+use Rattle.ledger.specs.declared.order.Order.{Order}
+use Rattle.ledger.specs.Roster.{Roster}
+use Rattle.ledger.specs.Positions.{instrument}
+use Rattle.limits.specs.Lines.{isSet}
+use Rattle.book.specs.declared.LimitLine.the-variants.{Own, Default, OfGroup}
+use Rattle.book.specs.declared.Event.{Event}
+use Rattle.book.specs.declared.Event.the-variants.{Limit, Balance, Block, New, Replace, Cancel, Fill, Junk}
+use Rattle.book.specs.Books.{Book, setLine, work}
+use Rattle.book.specs.SetAgain.{LineName, ownLine, defaultLine, lineSet, lineOver, SetsAgain}
+use Rattle.book.proofs.Tables.{at-each}
+use Rattle.book.proofs.LimitsStay.{test, under-own, under-default}
+
+-- only a LIMIT sets a line
+none-set : {P : Type 0} (x : LineName) → _≡_ {A = Option LineName} none (some x) → P
+none-set x e = absurd (let z : _≡_ {A = ℕ} 0 1 = cc in omega arith)
+
+-- an event that sets a default line leaves every own line
+default-keeps-own : (unit : Order → ℕ) (b : Book) (e : Event) (a c i : ℕ) → lineSet e ≡ some (defaultLine a c) → work unit b e .linesOf a .ownOf i ≡ b .linesOf a .ownOf i
+unfolding work lineSet setLine
+default-keeps-own unit b (Limit d (Own j f)) a c i e = absurd (let z : _≡_ {A = ℕ} 0 1 = cc in omega arith)
+default-keeps-own unit b (Limit d (Default k f)) a c i e =
+    at-each d (setLine (Default k f) (b .linesOf d)) (b .linesOf) (λ ls. ls .ownOf i ≡ b .linesOf a .ownOf i) a (λ own. rw own) (λ _. refl)
+default-keeps-own unit b (Limit d (OfGroup g x y)) a c i e = absurd (let z : _≡_ {A = ℕ} 0 1 = cc in omega arith)
+default-keeps-own unit b (Balance d j z) a c i e = refl
+default-keeps-own unit b (Block what z) a c i e = refl
+default-keeps-own unit b (New s d j id n) a c i e = refl
+default-keeps-own unit b (Replace id n) a c i e = refl
+default-keeps-own unit b (Cancel id) a c i e = refl
+default-keeps-own unit b (Fill id n) a c i e = refl
+default-keeps-own unit b Junk a c i e = refl
+
+module _ (unit : Order → ℕ) (r : Roster) (b : Book) (e : Event) (a : ℕ) where
+  -- an instrument's limit is set again by a LIMIT on its own line where that is set before or after it, or on its contract's default line where its
+  -- own is not set
+  pub instrument-set-again : (i : ℕ) → SetsAgain unit r b e a (instrument i) ↔ (((lineSet e ≡ some (ownLine a i)) × ((isSet (b .linesOf a .ownOf i) ≡ true) ⊎ (isSet (work unit b e .linesOf a .ownOf i) ≡ true))) ⊎ ((lineSet e ≡ some (defaultLine a (r .contractOf i))) × (isSet (b .linesOf a .ownOf i) ≡ false)))
+  instrument-set-again i = (⊎-elim before after, ⊎-elim own-back default-back)
+    where
+      b′ : Book
+      b′ = work unit b e
+
+      before : lineSet e ≡ some (lineOver r b a (instrument i)) → ((lineSet e ≡ some (ownLine a i)) × ((isSet (b .linesOf a .ownOf i) ≡ true) ⊎ (isSet (work unit b e .linesOf a .ownOf i) ≡ true))) ⊎ ((lineSet e ≡ some (defaultLine a (r .contractOf i))) × (isSet (b .linesOf a .ownOf i) ≡ false))
+      before h =
+          ⊎-elim (λ set. inl (h ∙ ap some (under-own r b a i set), inl set)) (λ unset. inr (h ∙ ap some (under-default r b a i unset), unset))
+          (test (isSet (b .linesOf a .ownOf i)))
+
+      after : lineSet e ≡ some (lineOver r (work unit b e) a (instrument i)) → ((lineSet e ≡ some (ownLine a i)) × ((isSet (b .linesOf a .ownOf i) ≡ true) ⊎ (isSet (work unit b e .linesOf a .ownOf i) ≡ true))) ⊎ ((lineSet e ≡ some (defaultLine a (r .contractOf i))) × (isSet (b .linesOf a .ownOf i) ≡ false))
+      after h =
+          ⊎-elim (λ set. inl (h ∙ ap some (under-own r b′ a i set), inr set))
+          (λ unset.
+          let d = h ∙ ap some (under-default r b′ a i unset) in
+          inr (d, ap isSet (sym (default-keeps-own unit b e a (r .contractOf i) i d)) ∙ unset))
+          (test (isSet (work unit b e .linesOf a .ownOf i)))
+
+      own-back : (lineSet e ≡ some (ownLine a i)) × ((isSet (b .linesOf a .ownOf i) ≡ true) ⊎ (isSet (work unit b e .linesOf a .ownOf i) ≡ true)) → SetsAgain unit r b e a (instrument i)
+      own-back h =
+          ⊎-elim (λ set. inl (h .0 ∙ ap some (sym (under-own r b a i set)))) (λ set. inr (h .0 ∙ ap some (sym (under-own r b′ a i set)))) (h .1)
+
+      default-back : (lineSet e ≡ some (defaultLine a (r .contractOf i))) × (isSet (b .linesOf a .ownOf i) ≡ false) → SetsAgain unit r b e a (instrument i)
+      default-back h = inl (h .0 ∙ ap some (sym (under-default r b a i (h .1))))

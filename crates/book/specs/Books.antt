@@ -1,0 +1,130 @@
+-- Document 01, "The plain book", and what an accepted event does to it.
+use Prim.Native.Nat.{ℕ}
+use mathlib.Core.Bool.{Bool, true, false, not, _&&_, cond}
+use mathlib.Core.List.{List, [], _∷_}
+use mathlib.Core.Option.{Option, none, some}
+use lib.Dec.{eqb}
+use lib.IntN.{ℤ, pos, negsuc, natAbs, _+ℤ_}
+use Rattle.ledger.specs.declared.order.Order.{Order}
+use Rattle.ledger.specs.declared.order.Side.{Side}
+use Rattle.ledger.specs.Orders.{filledBy, replacedTotal}
+use Rattle.ledger.specs.Fillings.{fillMoves}
+use Rattle.limits.specs.Lines.{Line, GroupLine, Lines}
+use Rattle.limits.specs.Asked.{isZero}
+use Rattle.book.specs.declared.Figures.{Figures}
+use Rattle.book.specs.declared.LimitLine.{LimitLine}
+use Rattle.book.specs.declared.LimitLine.the-variants.{Own, Default, OfGroup}
+use Rattle.book.specs.declared.Blocked.{Blocked}
+use Rattle.book.specs.declared.Blocked.the-variants.{Account, Instrument, GroupFor}
+use Rattle.book.specs.declared.Event.{Event}
+use Rattle.book.specs.declared.Event.the-variants.{Limit, Balance, Block, New, Replace, Cancel, Fill, Junk}
+use Rattle.book.specs.OpenOrders.{find, insert, change, kept}
+
+-- which accounts, instruments (for all) and groups (for an account) are blocked
+pub record Blocks : Type 0 where
+  pub account : ℕ → Bool
+  pub instrument : ℕ → Bool
+  pub group : ℕ → ℕ → Bool
+
+-- balances S by account and instrument, lines by account, blocks, open orders ascending by id
+pub record Book : Type 0 where
+  pub balanceOf : ℕ → ℕ → ℤ
+  pub linesOf : ℕ → Lines
+  pub blocks : Blocks
+  pub orders : List Order
+
+-- it begins with balances 0 and no line, block or open order
+unfoldable pub emptyBook : Book
+emptyBook =
+    record {
+      balanceOf = λ a i. pos 0;
+      linesOf = λ a. record { ownOf = λ i. none; defaultOf = λ c. none; lineOfGroup = λ g. none };
+      blocks = record { account = λ a. false; instrument = λ i. false; group = λ a g. false };
+      orders = [];
+    }
+
+-- a table with x at number n
+abbrev pub at : {A : Type 0} → ℕ → A → (ℕ → A) → ℕ → A
+at n x f k = cond (eqb k n) x (f k)
+
+abbrev pub isMinusOne : ℤ → Bool
+isMinusOne (pos n) = false
+isMinusOne (negsuc n) = eqb n 0
+
+-- −1 throughout
+unfoldable pub unsets : Figures → Bool
+unsets f = isMinusOne (f .tci) && isMinusOne (f .tvi) && isMinusOne (f .lci) && isMinusOne (f .lvi)
+
+-- the line that figures name: −1 throughout means not set
+unfoldable pub lineOf : Figures → Option Line
+lineOf f =
+    cond (unsets f) none
+    (some (record { tci = natAbs (f .tci); tvi = natAbs (f .tvi); lci = natAbs (f .lci); lvi = natAbs (f .lvi) }))
+
+unfoldable pub groupLineOf : ℤ → ℤ → Option GroupLine
+groupLineOf x y =
+    cond (isMinusOne x && isMinusOne y) none (some (record { lcc = natAbs x; lvc = natAbs y }))
+
+-- the figures become that line
+unfoldable pub setLine : LimitLine → Lines → Lines
+setLine (Own i f) ls =
+    record { ownOf = at i (lineOf f) (ls .ownOf); defaultOf = ls .defaultOf; lineOfGroup = ls .lineOfGroup }
+setLine (Default c f) ls =
+    record { ownOf = ls .ownOf; defaultOf = at c (lineOf f) (ls .defaultOf); lineOfGroup = ls .lineOfGroup }
+setLine (OfGroup g x y) ls =
+    record { ownOf = ls .ownOf; defaultOf = ls .defaultOf; lineOfGroup = at g (groupLineOf x y) (ls .lineOfGroup) }
+
+-- the figure becomes that block: 1 to block, 0 to lift
+unfoldable pub setBlock : Blocked → Bool → Blocks → Blocks
+setBlock (Account a) on bs =
+    record { account = at a on (bs .account); instrument = bs .instrument; group = bs .group }
+setBlock (Instrument i) on bs =
+    record { account = bs .account; instrument = at i on (bs .instrument); group = bs .group }
+setBlock (GroupFor a g) on bs =
+    record { account = bs .account; instrument = bs .instrument; group = at a (at g on (bs .group a)) (bs .group) }
+
+-- the order that a NEW enters: filled 0
+unfoldable pub newOrder : Side → ℕ → ℕ → ℕ → ℤ → Order
+newOrder s a i id n =
+    record { id = id; account = a; instrument = i; side = s; total = natAbs n; filled = 0 }
+
+-- balances after a fill of the order found, by n
+abbrev pub filledBalances : (Order → ℕ) → Option Order → ℕ → (ℕ → ℕ → ℤ) → ℕ → ℕ → ℤ
+filledBalances unit none n s a i = s a i
+filledBalances unit (some o) n s a i = s a i +ℤ fillMoves unit a i o n
+
+abbrev pub withOrders : Book → List Order → Book
+withOrders b os = record { balanceOf = b .balanceOf; linesOf = b .linesOf; blocks = b .blocks; orders = os }
+
+-- what an accepted event does.
+-- LIMIT, BALANCE, BLOCK: the figures become that line, S or block. NEW: an order joins. REPLACE: the order with that id gets
+-- the new total. CANCEL: that order leaves. FILL: its filled rises by the quantity, and S moves; at remaining 0 it leaves.
+unfoldable pub work : (Order → ℕ) → Book → Event → Book
+work unit b (Limit a l) =
+    record { balanceOf = b .balanceOf; linesOf = at a (setLine l (b .linesOf a)) (b .linesOf); blocks = b .blocks; orders = b .orders }
+work unit b (Balance a i z) =
+    record { balanceOf = at a (at i z (b .balanceOf a)) (b .balanceOf); linesOf = b .linesOf; blocks = b .blocks; orders = b .orders }
+work unit b (Block what z) =
+    record { balanceOf = b .balanceOf; linesOf = b .linesOf; blocks = setBlock what (not (isZero z)) (b .blocks); orders = b .orders }
+work unit b (New s a i id n) = withOrders b (insert (newOrder s a i id n) (b .orders))
+work unit b (Replace id n) = withOrders b (change id (λ o. replacedTotal o (natAbs n) ∷ []) (b .orders))
+work unit b (Cancel id) = withOrders b (change id (λ o. []) (b .orders))
+work unit b (Fill id n) =
+    record {
+      balanceOf = filledBalances unit (find id (b .orders)) (natAbs n) (b .balanceOf);
+      linesOf = b .linesOf;
+      blocks = b .blocks;
+      orders = change id (λ o. kept (filledBy o (natAbs n))) (b .orders);
+    }
+work unit b Junk = b
+
+-- beside the book: which accounts are marked as trading. Only an accepted NEW sets that mark.
+unfoldable pub mark : (ℕ → Bool) → Event → ℕ → Bool
+mark trading (Limit a l) = trading
+mark trading (Balance a i z) = trading
+mark trading (Block what z) = trading
+mark trading (New s a i id n) = at a true trading
+mark trading (Replace id n) = trading
+mark trading (Cancel id) = trading
+mark trading (Fill id n) = trading
+mark trading Junk = trading

@@ -1,0 +1,125 @@
+-- Document 01, "Events": 48 bytes decoded (question 6); any other bytes are junk.
+use Prim.Native.Nat.{ℕ, _+_, _*_}
+use mathlib.Core.Bool.{Bool, true, false, not, _&&_, _||_, cond}
+use mathlib.Core.List.{List}
+use lib.Dec.{leb, ltb, eqb}
+use lib.ListN.{length}
+use lib.IntN.{ℤ}
+use Rattle.words.specs.Fields.{u8At, u16At, u64At, i64At}
+use Rattle.ledger.specs.Records.{sideOf}
+use Rattle.limits.specs.Asked.{isZero}
+use Rattle.book.specs.declared.Figures.{Figures}
+use Rattle.book.specs.declared.Event.{Event}
+use Rattle.book.specs.declared.LimitLine.the-variants.{Own, Default, OfGroup}
+use Rattle.book.specs.declared.Blocked.the-variants.{Account, Instrument, GroupFor}
+use Rattle.book.specs.declared.Event.the-variants.{Limit, Balance, Block, New, Replace, Cancel, Fill, Junk}
+
+-- the fields, in the order of the bytes: kind, side, account, item, level, zero, order id, four figures
+abbrev pub kindOf : List ℕ → ℕ
+kindOf e = u8At e 0
+
+abbrev pub sideField : List ℕ → ℕ
+sideField e = u8At e 1
+
+abbrev pub accountField : List ℕ → ℕ
+accountField e = u16At e 2
+
+abbrev pub itemField : List ℕ → ℕ
+itemField e = u16At e 4
+
+abbrev pub levelField : List ℕ → ℕ
+levelField e = u8At e 6
+
+abbrev pub zeroField : List ℕ → ℕ
+zeroField e = u8At e 7
+
+abbrev pub idField : List ℕ → ℕ
+idField e = u64At e 8
+
+-- figure one is figureField e 0
+abbrev pub figureField : List ℕ → ℕ → ℤ
+figureField e j = i64At e (16 + j * 8)
+
+abbrev pub byKind : {A : Type 0} → ℕ → A → A → A → A → A → A → A → A
+byKind k limit balance block new replace cancel fill =
+    cond (eqb k 1) limit (cond (eqb k 2) balance (cond (eqb k 3) block (cond (eqb k 4) new (cond (eqb k 5) replace (cond (eqb k 6) cancel fill)))))
+
+abbrev pub byLevel : {A : Type 0} → ℕ → A → A → A → A
+byLevel l one two three = cond (eqb l 1) one (cond (eqb l 2) two three)
+
+abbrev pub between : ℕ → ℕ → ℕ → Bool
+between low high n = leb low n && leb n high
+
+-- which fields a kind and level names, and how many figures
+pub record Named : Type 0 where
+  pub side : Bool
+  pub account : Bool
+  pub item : Bool
+  pub level : Bool
+  pub id : Bool
+  pub figures : ℕ
+
+abbrev pub naming : Bool → Bool → Bool → Bool → Bool → ℕ → Named
+naming s a i l d n = record { side = s; account = a; item = i; level = l; id = d; figures = n }
+
+unfoldable pub named : ℕ → ℕ → Named
+named kind level =
+    -- of each: side, account, item, level, id; how many figures
+    byKind kind
+    (byLevel level (naming false true true true false 4)
+    (naming false true true true false 4)
+    (naming false true true true false 2))
+    (naming false true true false false 1)
+    (byLevel level (naming false true false true false 1)
+    (naming false false true true false 1)
+    (naming false true true true false 1))
+    (naming true true true false true 1)
+    (naming false false false false true 1)
+    (naming false false false false true 0)
+    (naming false false false false true 1)
+
+-- 6: is the event 48 bytes, the kind 1 to 7, a named side and level one of the listed values, a named id non-zero, every
+-- unnamed field zero?
+unfoldable pub wellFormed : List ℕ → Bool
+wellFormed e =
+    let n = named (kindOf e) (levelField e) in
+    eqb (length e) 48
+    && between 1 7 (kindOf e)
+    && cond (n .side) (between 1 2 (sideField e)) (eqb (sideField e) 0)
+    && (n .account || eqb (accountField e) 0)
+    && (n .item || eqb (itemField e) 0)
+    && cond (n .level) (between 1 3 (levelField e)) (eqb (levelField e) 0)
+    && eqb (zeroField e) 0
+    && cond (n .id) (not (eqb (idField e) 0)) (eqb (idField e) 0)
+    && (ltb 0 (n .figures) || isZero (figureField e 0))
+    && (ltb 1 (n .figures) || isZero (figureField e 1))
+    && (ltb 2 (n .figures) || isZero (figureField e 2))
+    && (ltb 3 (n .figures) || isZero (figureField e 3))
+
+abbrev pub figuresOf : List ℕ → Figures
+figuresOf e =
+    record { tci = figureField e 0; tvi = figureField e 1; lci = figureField e 2; lvi = figureField e 3 }
+
+-- the event that well-formed bytes name
+unfoldable pub eventOf : List ℕ → Event
+eventOf e =
+    byKind (kindOf e)
+    (Limit (accountField e)
+    (byLevel (levelField e)
+    (Own (itemField e) (figuresOf e))
+    (Default (itemField e) (figuresOf e))
+    (OfGroup (itemField e) (figureField e 0) (figureField e 1))))
+    (Balance (accountField e) (itemField e) (figureField e 0))
+    (Block
+    (byLevel (levelField e)
+    (Account (accountField e))
+    (Instrument (itemField e))
+    (GroupFor (accountField e) (itemField e)))
+    (figureField e 0))
+    (New (sideOf (sideField e)) (accountField e) (itemField e) (idField e) (figureField e 0))
+    (Replace (idField e) (figureField e 0))
+    (Cancel (idField e))
+    (Fill (idField e) (figureField e 0))
+
+unfoldable pub decode : List ℕ → Event
+decode e = cond (wellFormed e) (eventOf e) Junk

@@ -1,0 +1,10 @@
+pub mod Market
+pub mod Decoding
+pub mod OpenOrders
+pub mod Books
+pub mod Table
+pub mod Sound
+pub mod Kept
+pub mod SetAgain
+pub mod Demand3
+pub mod Contract

@@ -1,0 +1,49 @@
+-- "A limit that applies is set again by an accepted LIMIT, −1 included, on the group's line or on a line in force before or
+-- after it": lines are known by name, not by figures.
+use Prim.Native.Nat.{ℕ}
+use mathlib.Core.Path.{_≡_}
+use mathlib.Core.Logic.{_⊎_}
+use mathlib.Core.Bool.{cond}
+use mathlib.Core.Option.{Option, none, some}
+use Rattle.ledger.specs.declared.order.Order.{Order}
+use Rattle.ledger.specs.Roster.{Roster}
+use Rattle.ledger.specs.Positions.{Place, instrument, group}
+use Rattle.limits.specs.Lines.{Lines, isSet}
+use Rattle.book.specs.declared.LimitLine.{LimitLine}
+use Rattle.book.specs.declared.LimitLine.the-variants.{Own, Default, OfGroup}
+use Rattle.book.specs.declared.Event.{Event}
+use Rattle.book.specs.declared.Event.the-variants.{Limit, Balance, Block, New, Replace, Cancel, Fill, Junk}
+use Rattle.book.specs.Books.{Book, work}
+
+-- a line by name, of an account
+pub data LineName : Type 0 where
+  ownLine : ℕ → ℕ → LineName
+  defaultLine : ℕ → ℕ → LineName
+  groupLine : ℕ → ℕ → LineName
+
+abbrev pub nameOf : ℕ → LimitLine → LineName
+nameOf a (Own i f) = ownLine a i
+nameOf a (Default c f) = defaultLine a c
+nameOf a (OfGroup g x y) = groupLine a g
+
+-- the line that an event sets
+unfoldable pub lineSet : Event → Option LineName
+lineSet (Limit a l) = some (nameOf a l)
+lineSet (Balance a i z) = none
+lineSet (Block what z) = none
+lineSet (New s a i id n) = none
+lineSet (Replace id n) = none
+lineSet (Cancel id) = none
+lineSet (Fill id n) = none
+lineSet Junk = none
+
+-- the line that a position of account a is under: the group's line, or the line in force
+unfoldable pub lineOver : Roster → Book → ℕ → Place → LineName
+lineOver r b a (instrument i) =
+    cond (isSet (b .linesOf a .ownOf i)) (ownLine a i) (defaultLine a (r .contractOf i))
+lineOver r b a (group g) = groupLine a g
+
+-- an accepted event sets the limit of account a's position again
+abbrev pub SetsAgain : (Order → ℕ) → Roster → Book → Event → ℕ → Place → Type 0
+SetsAgain unit r b e a p =
+    (lineSet e ≡ some (lineOver r b a p)) ⊎ (lineSet e ≡ some (lineOver r (work unit b e) a p))

@@ -1,0 +1,60 @@
+// Events as plain data: what 48 bytes say. The crate's definitions and laws are in specs/ and proofs/.
+use ledger::order::Side;
+
+// The four figures of an instrument's or a contract's line, as an event names them.
+pub struct Figures {
+    pub tci: i64,
+    pub tvi: i64,
+    pub lci: i64,
+    pub lvi: i64,
+}
+
+// The line that a LIMIT sets, with its figures: levels 1, 2 and 3.
+pub enum LimitLine {
+    Own { instrument: u64, figures: Figures },
+    Default { contract: u64, figures: Figures },
+    OfGroup { group: u64, lcc: i64, lvc: i64 },
+}
+
+// What a BLOCK blocks: levels 1, 2 and 3.
+pub enum Blocked {
+    Account { account: u64 },
+    Instrument { instrument: u64 },
+    GroupFor { account: u64, group: u64 },
+}
+
+// An event of each kind, or bytes that are none.
+pub enum Event {
+    Limit {
+        account: u64,
+        line: LimitLine,
+    },
+    Balance {
+        account: u64,
+        instrument: u64,
+        balance: i64,
+    },
+    Block {
+        what: Blocked,
+        on: i64,
+    },
+    New {
+        side: Side,
+        account: u64,
+        instrument: u64,
+        id: u64,
+        quantity: i64,
+    },
+    Replace {
+        id: u64,
+        total: i64,
+    },
+    Cancel {
+        id: u64,
+    },
+    Fill {
+        id: u64,
+        quantity: i64,
+    },
+    Junk,
+}

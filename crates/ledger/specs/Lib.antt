@@ -1,0 +1,10 @@
+pub mod Orders
+pub mod Roster
+pub mod Positions
+pub mod Fillings
+pub mod Moves
+pub mod Records
+pub mod Derivatives
+pub mod Gathered
+pub mod Bounds
+pub mod Answers

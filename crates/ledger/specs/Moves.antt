@@ -1,0 +1,16 @@
+-- Which side of which position an order's fills move.
+use Prim.Native.Nat.{ℕ}
+use mathlib.Core.Path.{_≡_}
+use mathlib.Core.Logic.{_≢_}
+use lib.IntN.{pos}
+use Rattle.ledger.specs.declared.order.Order.{Order}
+use Rattle.ledger.specs.Roster.{Roster, groupOfInstrument}
+use Rattle.ledger.specs.Positions.{Way, Place, instrument, group, wayOf, wayBy}
+
+-- a buy moves its instrument long and, by the sign of K, its group long or short; a sell does the opposite; K = 0 moves no group
+abbrev pub Moves : Roster → Order → Place → Way → Type 0
+Moves r o (instrument i) w = (o .instrument ≡ i) × (wayOf (o .side) ≡ w)
+Moves r o (group g) w =
+    (groupOfInstrument r (o .instrument) ≡ g)
+    × (r .weight (o .instrument) ≢ pos 0)
+    × (wayBy (r .weight (o .instrument)) (wayOf (o .side)) ≡ w)

@@ -1,0 +1,134 @@
+-- Laws of lines in lent bytes: a side's figure, the part that holds the line in force, and which lines are set.
+use Prim.Native.Nat.{ℕ, _+_, _*_, _≤_, _<_}
+use mathlib.Core.Path.{_≡_, refl, _∙_}
+use mathlib.Core.Bool.{Bool, true, false, cond, false≢true}
+use mathlib.Core.List.{List}
+use mathlib.Core.Option.{Option, none, some}
+use native.Mathlib.Nat.{add-zero}
+use native.Mathlib.Omega.{arith}
+use lib.ListN.{length}
+use Rattle.words.specs.Words.{wordAt, partOf}
+use Rattle.words.proofs.Parts.{length-part, word-part}
+use Rattle.ledger.specs.declared.order.Order.{Order}
+use Rattle.ledger.specs.declared.order.Side.{Side}
+use Rattle.ledger.specs.declared.order.Side.the-variants.{Buy, Sell}
+use Rattle.ledger.specs.Roster.{Roster, groupOfInstrument}
+use Rattle.ledger.specs.Positions.{wayOf}
+use Rattle.limits.specs.Lines.{Line, largestOrder, largestPosition, largestOfGroup, orElse, lineInForce, isSet}
+use Rattle.limits.specs.InBytes.{lineAt, groupLineAt, sideWord, saysSet, whereSet, linesIn, linePart}
+use Rattle.limits.specs.Bounds.{LineBounds, GroupLineBounds, SetWords, InForce, OfGroup}
+
+-- ---- a side's figure
+pub side-below : (s : Side) → sideWord s < 2
+side-below Buy = omega arith
+side-below Sell = omega arith
+
+module _ (m : List ℕ) where
+  pub order-figure : (s : Side) → wordAt m (sideWord s) ≡ largestOrder s (lineAt m 0)
+  unfolding lineAt
+  order-figure Buy = refl
+  order-figure Sell = refl
+
+  pub position-figure : (s : Side) → wordAt m (2 + sideWord s) ≡ largestPosition (wayOf s) (lineAt m 0)
+  unfolding lineAt
+  position-figure Buy = refl
+  position-figure Sell = refl
+
+  pub group-figure : (s : Side) → wordAt m (sideWord s) ≡ largestOfGroup (wayOf s) (groupLineAt m 0)
+  unfolding groupLineAt
+  group-figure Buy = refl
+  group-figure Sell = refl
+
+pub group-figure-small : (m : List ℕ) (s : Side) → GroupLineBounds m → largestOfGroup (wayOf s) (groupLineAt m 0) ≤ 100000000000
+group-figure-small m s bounds = rw (← group-figure m s) (bounds .small (sideWord s) (side-below s))
+
+-- ---- a part that holds one line
+module _ (m : List ℕ) (k : ℕ) where
+  pub line-in-part : lineAt (partOf m (k * 4) 4) 0 ≡ lineAt m k
+  unfolding lineAt
+  line-in-part =
+      let first : wordAt (partOf m (k * 4) 4) 0 ≡ wordAt m (k * 4) = word-part m (k * 4) 4 0 (omega arith) ∙ rw (add-zero (k * 4)) in
+      rw (first, word-part m (k * 4) 4 1 (omega arith), word-part m (k * 4) 4 2 (omega arith), word-part m (k * 4) 4 3 (omega arith))
+
+  pub group-line-in-part : groupLineAt (partOf m (k * 2) 2) 0 ≡ groupLineAt m k
+  unfolding groupLineAt
+  group-line-in-part =
+      let first : wordAt (partOf m (k * 2) 2) 0 ≡ wordAt m (k * 2) = word-part m (k * 2) 2 0 (omega arith) ∙ rw (add-zero (k * 2)) in
+      rw (first, word-part m (k * 2) 2 1 (omega arith))
+
+-- ---- the part of the line in force
+module _ (own default : List ℕ) (set i c : ℕ) where
+  pub own-part : saysSet set ≡ true → partOf own (i * 4) 4 ≡ linePart own default set i c
+  unfolding linePart
+  own-part e = rw e
+
+  pub default-part : saysSet set ≡ false → partOf default (c * 4) 4 ≡ linePart own default set i c
+  unfolding linePart
+  default-part e = rw e
+
+  module _ (own-long : i * 32 + 32 ≤ length own) (default-long : c * 32 + 32 ≤ length default) where
+    pub length-in-force : length (linePart own default set i c) ≡ 32
+    unfolding linePart
+    length-in-force = by (saysSet set)
+      where
+        by : (t : Bool) → length (cond t (partOf own (i * 4) 4) (partOf default (c * 4) 4)) ≡ 32
+        by true = length-part own (i * 4) 4 (omega arith)
+        by false = length-part default (c * 4) 4 (omega arith)
+
+    -- its figures are small where all of the account's are
+    pub small-in-force : ((k : ℕ) → wordAt own k ≤ 100000000000) → ((k : ℕ) → wordAt default k ≤ 100000000000) → LineBounds (linePart own default set i c)
+    unfolding linePart
+    small-in-force own-small default-small =
+        record { long = omega (arith, length-in-force); small = λ k h. by k h (saysSet set) }
+      where
+        by : (k : ℕ) → k < 4 → (t : Bool) → wordAt (cond t (partOf own (i * 4) 4) (partOf default (c * 4) 4)) k ≤ 100000000000
+        by k h true = rw (word-part own (i * 4) 4 k h) (own-small (i * 4 + k))
+        by k h false = rw (word-part default (c * 4) 4 k h) (default-small (c * 4 + k))
+
+-- ---- which lines are set
+set-by-word : {A : Type 0} (w : ℕ) (l : A) → isSet (whereSet w l) ≡ saysSet w
+unfolding whereSet
+set-by-word {A} w l = by (saysSet w)
+  where
+    by : (t : Bool) → isSet (cond t (some l) none) ≡ t
+    by true = refl
+    by false = refl
+
+where-set : {A : Type 0} (w : ℕ) (l : A) → isSet (whereSet w l) ≡ true → whereSet w l ≡ some l
+unfolding whereSet
+where-set {A} w l = by (saysSet w)
+  where
+    by : (t : Bool) → isSet (cond {A = Option A} t (some l) none) ≡ true → cond {A = Option A} t (some l) none ≡ some l
+    by true e = refl
+    by false e = absurd (false≢true e)
+
+-- the own line where it is set, else the default line
+whole : (t u : Bool) (l d : Line) (x y : List ℕ) → lineAt x 0 ≡ l → lineAt y 0 ≡ d → isSet (orElse (cond t (some l) none) (cond u (some d) none)) ≡ true → orElse (cond t (some l) none) (cond u (some d) none) ≡ some (lineAt (cond t x y) 0)
+whole true u l d x y e f h = rw e
+whole false true l d x y e f h = rw f
+whole false false l d x y e f h = absurd (false≢true h)
+
+module _ (own ownSet default defaultSet ofGroup groupSet : List ℕ) (r : Roster) (o : Order) where
+  -- the set words that question 17 takes
+  pub set-words : SetWords r (linesIn own ownSet default defaultSet ofGroup groupSet) o (wordAt ownSet (o .instrument)) (wordAt defaultSet (r .contractOf (o .instrument))) (wordAt groupSet (groupOfInstrument r (o .instrument)))
+  unfolding linesIn
+  set-words =
+      record {
+        own = set-by-word (wordAt ownSet (o .instrument)) (lineAt own (o .instrument));
+        default = set-by-word (wordAt defaultSet (r .contractOf (o .instrument))) (lineAt default (r .contractOf (o .instrument)));
+        of-group = set-by-word (wordAt groupSet (groupOfInstrument r (o .instrument))) (groupLineAt ofGroup (groupOfInstrument r (o .instrument)));
+      }
+
+  -- the line in force, where it is set, stands in its part
+  pub in-force : isSet (lineInForce r (linesIn own ownSet default defaultSet ofGroup groupSet) (o .instrument)) ≡ true → InForce r (linesIn own ownSet default defaultSet ofGroup groupSet) o (linePart own default (wordAt ownSet (o .instrument)) (o .instrument) (r .contractOf (o .instrument)))
+  unfolding linesIn lineInForce linePart whereSet
+  in-force =
+      whole (saysSet (wordAt ownSet (o .instrument))) (saysSet (wordAt defaultSet (r .contractOf (o .instrument)))) _ _ _ _
+      (line-in-part own (o .instrument))
+      (line-in-part default (r .contractOf (o .instrument)))
+
+  -- the group's line, where it is set, stands in its part
+  pub of-group : isSet (linesIn own ownSet default defaultSet ofGroup groupSet .lineOfGroup (groupOfInstrument r (o .instrument))) ≡ true → OfGroup r (linesIn own ownSet default defaultSet ofGroup groupSet) o (partOf ofGroup (groupOfInstrument r (o .instrument) * 2) 2)
+  unfolding linesIn
+  of-group e =
+      rw (group-line-in-part ofGroup (groupOfInstrument r (o .instrument))) (where-set (wordAt groupSet (groupOfInstrument r (o .instrument))) (groupLineAt ofGroup (groupOfInstrument r (o .instrument))) e)

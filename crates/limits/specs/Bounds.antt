@@ -1,0 +1,43 @@
+-- What the questions need of the lent bytes, and which lines stand in them.
+use Prim.Native.Nat.{ℕ, _≤_, _<_}
+use mathlib.Core.Path.{_≡_}
+use mathlib.Core.List.{List}
+use mathlib.Core.Option.{some}
+use lib.ListN.{length}
+use Rattle.words.specs.Words.{wordAt}
+use Rattle.ledger.specs.declared.order.Order.{Order}
+use Rattle.ledger.specs.Roster.{Roster, Numbered, groupOfInstrument}
+use Rattle.ledger.specs.Records.{rosterIn}
+use Rattle.ledger.specs.Bounds.{GroupBounds}
+use Rattle.limits.specs.Lines.{Lines, lineInForce, isSet}
+use Rattle.limits.specs.InBytes.{lineAt, groupLineAt, saysSet}
+
+-- ---- what is there, and how large
+pub record LineBounds (line : List ℕ) : Type 0 where
+  pub long : 32 ≤ length line
+  pub small : (k : ℕ) → k < 4 → wordAt line k ≤ 100000000000
+
+pub record GroupLineBounds (line : List ℕ) : Type 0 where
+  pub long : 16 ≤ length line
+  pub small : (k : ℕ) → k < 2 → wordAt line k ≤ 100000000000
+
+-- for an event that adds `added` contracts to what remains of order o
+pub record EventBounds (orders : List ℕ) (n : ℕ) (balances roster : List ℕ) (o : Order) (added : ℕ) : Type 0 where
+  pub positions : GroupBounds orders n balances roster (o .account)
+  pub instrument : Numbered (rosterIn roster .instruments) (o .instrument)
+  pub small : added ≤ 1000000000
+
+-- ---- which lines
+-- the set words of the lines that question 17 asks for
+pub record SetWords (r : Roster) (ls : Lines) (o : Order) (ownSet defaultSet groupSet : ℕ) : Type 0 where
+  pub own : isSet (ls .ownOf (o .instrument)) ≡ saysSet ownSet
+  pub default : isSet (ls .defaultOf (r .contractOf (o .instrument))) ≡ saysSet defaultSet
+  pub of-group : isSet (ls .lineOfGroup (groupOfInstrument r (o .instrument))) ≡ saysSet groupSet
+
+-- the bytes hold the line in force for the order
+abbrev pub InForce : Roster → Lines → Order → List ℕ → Type 0
+InForce r ls o line = lineInForce r ls (o .instrument) ≡ some (lineAt line 0)
+
+-- and the line of its group
+abbrev pub OfGroup : Roster → Lines → Order → List ℕ → Type 0
+OfGroup r ls o line = ls .lineOfGroup (groupOfInstrument r (o .instrument)) ≡ some (groupLineAt line 0)

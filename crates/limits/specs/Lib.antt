@@ -1,0 +1,7 @@
+pub mod Lines
+pub mod Questions
+pub mod Asked
+pub mod InBytes
+pub mod Raised
+pub mod Numbers
+pub mod Bounds

@@ -1,0 +1,56 @@
+-- The numbers of the answers, and the tables of the questions that they answer.
+use Prim.Native.Nat.{ℕ}
+use mathlib.Core.List.{List, [], _∷_}
+use Rattle.ledger.specs.declared.order.Order.{Order}
+use Rattle.ledger.specs.declared.order.Side.{Side}
+use Rattle.ledger.specs.declared.order.Side.the-variants.{Buy, Sell}
+use Rattle.ledger.specs.Roster.{Roster}
+use Rattle.ledger.specs.Positions.{Way, long, short}
+use Rattle.limits.specs.declared.questions.Existence.{Existence}
+use Rattle.limits.specs.declared.questions.Existence.the-variants.{Configured, NotConfigured}
+use Rattle.limits.specs.declared.questions.SizeAnswer.{SizeAnswer}
+use Rattle.limits.specs.declared.questions.SizeAnswer.the-variants.{Fits, BuyTooLarge, SellTooLarge}
+use Rattle.limits.specs.declared.positions.PositionAnswer.{PositionAnswer}
+use Rattle.limits.specs.declared.positions.PositionAnswer.the-variants.{Within, LongInstrument, ShortInstrument, LongGroup, ShortGroup}
+use Rattle.limits.specs.Lines.{Lines}
+use Rattle.limits.specs.Questions.{Question}
+use Rattle.limits.specs.Asked.{limitsSet, sizeFits}
+
+abbrev pub existenceNumber : Existence → ℕ
+existenceNumber Configured = 0
+existenceNumber NotConfigured = 17
+
+abbrev pub sizeNumber : SizeAnswer → ℕ
+sizeNumber Fits = 0
+sizeNumber BuyTooLarge = 19
+sizeNumber SellTooLarge = 20
+
+abbrev pub positionNumber : PositionAnswer → ℕ
+positionNumber Within = 0
+positionNumber LongInstrument = 21
+positionNumber ShortInstrument = 22
+positionNumber LongGroup = 23
+positionNumber ShortGroup = 24
+
+-- the question of an order's size, on a side
+abbrev pub orderNumber : Side → ℕ
+orderNumber Buy = 19
+orderNumber Sell = 20
+
+-- the questions of a position on a side: an instrument's, a group's
+abbrev pub instrumentNumber : Way → ℕ
+instrumentNumber long = 21
+instrumentNumber short = 22
+
+abbrev pub groupNumber : Way → ℕ
+groupNumber long = 23
+groupNumber short = 24
+
+-- 17
+unfoldable pub existenceQuestions : Roster → Lines → Order → List Question
+existenceQuestions r ls o = record { number = 17; passes = limitsSet r ls o } ∷ []
+
+-- 19 and 20
+unfoldable pub sizeQuestions : (Order → ℕ) → Roster → Lines → Order → List Question
+sizeQuestions unit r ls o =
+    record { number = 19; passes = sizeFits unit r ls o Buy } ∷ record { number = 20; passes = sizeFits unit r ls o Sell } ∷ []

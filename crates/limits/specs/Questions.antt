@@ -1,0 +1,18 @@
+-- Questions in order: a "no" gives the number, and the first "no" is the answer.
+use Prim.Native.Nat.{ℕ}
+use mathlib.Core.Bool.{Bool, true, false, _&&_, cond}
+use mathlib.Core.List.{List, [], _∷_}
+
+pub record Question : Type 0 where
+  pub number : ℕ
+  pub passes : Bool
+
+-- the number of the first question that is answered no, else 0
+unfoldable pub firstNo : List Question → ℕ
+firstNo [] = 0
+firstNo (q ∷ qs) = cond (q .passes) (firstNo qs) (q .number)
+
+-- is every question answered yes
+unfoldable pub allPass : List Question → Bool
+allPass [] = true
+allPass (q ∷ qs) = q .passes && allPass qs

@@ -1,0 +1,63 @@
+//! A desk's roster, balances and open orders as flat little-endian words.
+
+use reference::{Desk, Order, Side};
+
+/// Words in a roster: four sizes, the groups of 8 contracts, the contracts and the weights of 32 instruments.
+const ROSTER_WORDS: usize = 76;
+/// Words in an account's balances: word i is the balance of instrument i.
+const BALANCE_WORDS: usize = 33;
+
+/// The words, least significant byte first.
+fn bytes(words: &[i64]) -> Vec<u8> {
+    words.iter().flat_map(|word| word.to_le_bytes()).collect()
+}
+
+/// The roster's words.
+pub fn roster(desk: &Desk) -> Vec<u8> {
+    let roster = &desk.roster;
+    let contracts = roster.group_of_contract.len();
+    let instruments = roster.contract_of.len();
+    let mut words = vec![0; ROSTER_WORDS];
+    words[0] = i64::from(roster.accounts);
+    words[1] = i64::from(roster.groups);
+    words[2] = contracts as i64;
+    words[3] = instruments as i64;
+    for (c, group) in roster.group_of_contract.iter().enumerate() {
+        words[4 + c] = i64::from(*group);
+    }
+    for i in 0..instruments {
+        words[12 + i] = i64::from(roster.contract_of[i]);
+        words[44 + i] = roster.weight[i];
+    }
+    bytes(&words)
+}
+
+/// An account's balances.
+pub fn balances(desk: &Desk, account: u16) -> Vec<u8> {
+    let mut words = vec![0; BALANCE_WORDS];
+    for i in 1..=desk.roster.contract_of.len() {
+        words[i] = desk.book.balances[account][i as u16];
+    }
+    bytes(&words)
+}
+
+/// The records of the open orders, eight words each; the last two have no meaning and hold junk.
+pub fn orders(orders: &[Order]) -> Vec<u8> {
+    let record = |order: &Order| {
+        let side = match order.side {
+            Side::Buy => 1,
+            Side::Sell => 2,
+        };
+        bytes(&[
+            order.id as i64,
+            i64::from(order.account),
+            i64::from(order.instrument),
+            side,
+            order.total as i64,
+            order.filled as i64,
+            -1,
+            i64::MIN,
+        ])
+    };
+    orders.iter().flat_map(record).collect()
+}

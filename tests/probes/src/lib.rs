@@ -1,0 +1,4 @@
+//! The ledger's proved code behind safe functions, and a desk's data as the flat words that it reads.
+
+pub mod flat;
+pub mod ledger;
