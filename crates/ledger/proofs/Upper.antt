@@ -1,6 +1,7 @@
 -- No filling passes a potential position, at any place and on any side.
 use Prim.Native.Nat.{ℕ}
 use mathlib.Core.List.{List, [], _∷_}
+use native.Mathlib.Omega.{arith}
 use lib.IntN.{ℤ}
 use lib.Signed.{_≤ℤ_}
 use Rattle.integers.specs.Parts.{signed, sum-parts, difference-parts}
@@ -27,7 +28,7 @@ module _ (unit : Order → ℕ) (a : ℕ) (S : ℕ → ℤ) where
       let whole = amount unit (sideTo w) a i o (remaining o) in
       let rest = openOn unit orders (sideTo w) a i in
       let all = openOn unit (o ∷ orders) (sideTo w) a i in
-      omega (signed, upper-instrument f i w, toward-sum w x y, fill-amounts unit a i o n w, amount-≤ unit (sideTo w) a i o n (remaining o) most, amount-nonneg unit (sideTo (opposite w)) a i o n, open-cons unit (sideTo w) a i o orders, sum-parts (toward w x) (toward w y), difference-parts here there, sum-parts s rest, sum-parts whole rest, sum-parts s all)
+      omega (signed, upper-instrument f i w, toward-sum w x y, fill-amounts unit a i o n w, amount-≤ unit (sideTo w) a i o n (remaining o) (omega arith), amount-nonneg unit (sideTo (opposite w)) a i o n, open-cons unit (sideTo w) a i o orders, sum-parts (toward w x) (toward w y), difference-parts here there, sum-parts s rest, sum-parts whole rest, sum-parts s all)
 
   pub upper : {orders : List Order} (f : Filling orders) (r : Roster) (p : Place) (w : Way) → position r (after unit a S f) p w ≤ℤ potential unit r orders a S p w
   upper {orders} f r p w =
