@@ -144,7 +144,7 @@ fn instrument_input_fits(orders: &[u8], n: usize, balances: &[u8], instrument: u
 }
 
 // Does what the positions of a group are computed from fit?
-fn group_input_fits(orders: &[u8], n: usize, balances: &[u8], roster: &[u8]) -> bool
+pub fn group_input_fits(orders: &[u8], n: usize, balances: &[u8], roster: &[u8]) -> bool
     ensures { λ r. ⌜ (r ≡ true → (a : ℕ) → GroupBounds (now (orders .entry)) n (now (balances .entry)) (now (roster .entry)) a) ⌝ }
 {
     if balances.len() < 264 {

@@ -114,9 +114,9 @@ module _ (own ownSet default defaultSet ofGroup groupSet : List ℕ) (r : Roster
   unfolding linesIn
   set-words =
       record {
-        own = set-by-word (wordAt ownSet (o .instrument)) (lineAt own (o .instrument));
-        default = set-by-word (wordAt defaultSet (r .contractOf (o .instrument))) (lineAt default (r .contractOf (o .instrument)));
-        of-group = set-by-word (wordAt groupSet (groupOfInstrument r (o .instrument))) (groupLineAt ofGroup (groupOfInstrument r (o .instrument)));
+        own = set-by-word (wordAt ownSet (o .instrument)) _;
+        default = set-by-word (wordAt defaultSet (r .contractOf (o .instrument))) _;
+        of-group = set-by-word (wordAt groupSet (groupOfInstrument r (o .instrument))) _;
       }
 
   -- the line in force, where it is set, stands in its part

@@ -1,6 +1,6 @@
 //! A desk's roster, balances and open orders as flat little-endian words.
 
-use reference::{Desk, Order, Side};
+use reference::{Desk, GroupLine, Line, Order, Side};
 
 /// Words in a roster: four sizes, the groups of 8 contracts, the contracts and the weights of 32 instruments.
 const ROSTER_WORDS: usize = 76;
@@ -32,6 +32,31 @@ pub fn roster(desk: &Desk) -> Vec<u8> {
     bytes(&words)
 }
 
+/// The four figures of a line: TCI, TVI, LCI, LVI.
+pub fn line(line: &Line) -> Vec<u8> {
+    bytes(&[line.tci, line.tvi, line.lci, line.lvi])
+}
+
+/// The two figures of a group line: LCC, LVC.
+pub fn group_line(line: &GroupLine) -> Vec<u8> {
+    bytes(&[line.lcc, line.lvc])
+}
+
+/// Lines of an account, numbered from 1, four words each; one that is not set holds junk.
+pub fn lines<'a>(lines: impl Iterator<Item = &'a Option<Line>>) -> Vec<u8> {
+    let unset = [u8::MAX; 32];
+    let figures = lines.flat_map(|own| own.as_ref().map_or(unset.to_vec(), line));
+    unset.into_iter().chain(figures).collect()
+}
+
+/// The number of a side: 1 buy, 2 sell.
+pub fn side(side: Side) -> u64 {
+    match side {
+        Side::Buy => 1,
+        Side::Sell => 2,
+    }
+}
+
 /// An account's balances.
 pub fn balances(desk: &Desk, account: u16) -> Vec<u8> {
     let mut words = vec![0; BALANCE_WORDS];
@@ -44,15 +69,11 @@ pub fn balances(desk: &Desk, account: u16) -> Vec<u8> {
 /// The records of the open orders, eight words each; the last two have no meaning and hold junk.
 pub fn orders(orders: &[Order]) -> Vec<u8> {
     let record = |order: &Order| {
-        let side = match order.side {
-            Side::Buy => 1,
-            Side::Sell => 2,
-        };
         bytes(&[
             order.id as i64,
             i64::from(order.account),
             i64::from(order.instrument),
-            side,
+            side(order.side) as i64,
             order.total as i64,
             order.filled as i64,
             -1,

@@ -1,4 +1,5 @@
-//! The ledger's proved code behind safe functions, and a desk's data as the flat words that it reads.
+//! The proved code of the lower crates behind safe functions, and a desk's data as the flat words that it reads.
 
 pub mod flat;
 pub mod ledger;
+pub mod limits;

@@ -69,15 +69,13 @@ fn compare_account(lent: &Lent, desk: &Desk, account: u16, records: &[u8], seen:
         let expected = lent
             .instrument_position(account, instrument)
             .expect("a position");
-        let read = ledger::instrument(
-            records,
-            count,
-            &balances,
-            account.into(),
-            instrument.into(),
-        );
+        let read = ledger::instrument(records, count, &balances, account.into(), instrument.into());
         let expected = [expected.balance, expected.long, expected.short];
-        assert_eq!(read, Ok(expected), "account {account} instrument {instrument}");
+        assert_eq!(
+            read,
+            Ok(expected),
+            "account {account} instrument {instrument}"
+        );
         seen.instruments += 1;
         seen.negative_balances += usize::from(expected[0] < 0);
     }
@@ -91,7 +89,11 @@ fn compare_account(lent: &Lent, desk: &Desk, account: u16, records: &[u8], seen:
             account.into(),
             group.into(),
         );
-        assert_eq!(read, Ok([expected.long, expected.short]), "account {account} group {group}");
+        assert_eq!(
+            read,
+            Ok([expected.long, expected.short]),
+            "account {account} group {group}"
+        );
         seen.groups += 1;
         seen.nonzero_groups += usize::from(expected.long != 0 && expected.short != 0);
     }
@@ -137,9 +139,18 @@ fn a_balance_and_a_weight_of_minus_two_count_as_minus_two() {
 fn input_that_does_not_fit_is_told() {
     let balances = vec![0; 264];
     let roster = vec![0; 608];
-    assert_eq!(ledger::instrument(&[], 1, &balances, 1, 1), Err(ledger::UNFIT));
-    assert_eq!(ledger::instrument(&[], 0, &balances[1..], 1, 1), Err(ledger::UNFIT));
-    assert_eq!(ledger::group(&[], 0, &balances, &roster[1..], 1, 1), Err(ledger::UNFIT));
+    assert_eq!(
+        ledger::instrument(&[], 1, &balances, 1, 1),
+        Err(ledger::UNFIT)
+    );
+    assert_eq!(
+        ledger::instrument(&[], 0, &balances[1..], 1, 1),
+        Err(ledger::UNFIT)
+    );
+    assert_eq!(
+        ledger::group(&[], 0, &balances, &roster[1..], 1, 1),
+        Err(ledger::UNFIT)
+    );
     assert_eq!(ledger::group(&[], 0, &balances, &roster, 1, 1), Ok([0, 0]));
     let mut large = balances.clone();
     large[8 + 7] = 64;
