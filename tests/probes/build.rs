@@ -2,7 +2,7 @@
 
 use std::path::Path;
 
-const ARCHIVES: [&str; 2] = ["ledger_probe", "limits_probe"];
+const ARCHIVES: [&str; 3] = ["ledger_probe", "limits_probe", "decoding_probe"];
 
 fn main() {
     let root = Path::new(env!("CARGO_MANIFEST_DIR")).join("../..");

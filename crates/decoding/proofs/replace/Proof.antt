@@ -1,0 +1,17 @@
+use borrow.Author.Needs.{needs}
+use Rattle.decoding.proofs.Laws.{refused, passed, replace-law}
+use Rattle.decoding.proofs.Signed.{handed-on}
+use Rattle.decoding.proofs.replace.Statement.{statement}
+use Rattle.decoding.proofs.replace.Tie as tie
+
+returns : tie.Need-returns
+returns c = simp (replace-law _ (c .before .before .before .before .pre), refused (c .before .id-and-figure .ensures) (c .if1 .taken))
+
+returns-2 : tie.Need-returns-2
+returns-2 c =
+    let one = c .before in
+    simp (replace-law _ (one .before .before .before .before .pre), passed (one .before .id-and-figure .ensures) (one .if1 .left), ← one .before .before .u64-at .ensures, handed-on (record { sfits = c .i64-at .ok }) (c .i64-at .ensures))
+
+pub replace-spec : {M : Type 1} → statement M
+replace-spec =
+    tie.close (tie.spec (λ c κs. search needs) (λ c κs. search needs) returns (λ c κs. search needs) returns-2)
