@@ -59,24 +59,37 @@ pub record Named : Type 0 where
   pub id : Bool
   pub figures : ℕ
 
-abbrev pub naming : Bool → Bool → Bool → Bool → Bool → ℕ → Named
-naming s a i l d n = record { side = s; account = a; item = i; level = l; id = d; figures = n }
+-- LIMIT: account, item, level, figures
+abbrev pub limitNames : ℕ → Named
+limitNames n = record { side = false; account = true; item = true; level = true; id = false; figures = n }
+
+-- BALANCE: account, instrument as item, figure one
+abbrev pub balanceNames : Named
+balanceNames = record { side = false; account = true; item = true; level = false; id = false; figures = 1 }
+
+-- BLOCK: level, figure one, and by the level account, item or both
+abbrev pub blockNames : Bool → Bool → Named
+blockNames account item =
+    record { side = false; account = account; item = item; level = true; id = false; figures = 1 }
+
+-- NEW: side, account, instrument as item, id, quantity as figure one
+abbrev pub newNames : Named
+newNames = record { side = true; account = true; item = true; level = false; id = true; figures = 1 }
+
+-- REPLACE and FILL: id, figure one; CANCEL: id
+abbrev pub orderNames : ℕ → Named
+orderNames n = record { side = false; account = false; item = false; level = false; id = true; figures = n }
 
 unfoldable pub named : ℕ → ℕ → Named
 named kind level =
-    -- of each: side, account, item, level, id; how many figures
     byKind kind
-    (byLevel level (naming false true true true false 4)
-    (naming false true true true false 4)
-    (naming false true true true false 2))
-    (naming false true true false false 1)
-    (byLevel level (naming false true false true false 1)
-    (naming false false true true false 1)
-    (naming false true true true false 1))
-    (naming true true true false true 1)
-    (naming false false false false true 1)
-    (naming false false false false true 0)
-    (naming false false false false true 1)
+    (byLevel level (limitNames 4) (limitNames 4) (limitNames 2))
+    balanceNames
+    (byLevel level (blockNames true false) (blockNames false true) (blockNames true true))
+    newNames
+    (orderNames 1)
+    (orderNames 0)
+    (orderNames 1)
 
 -- 6: is the event 48 bytes, the kind 1 to 7, a named side and level one of the listed values, a named id non-zero, every
 -- unnamed field zero?
