@@ -1,0 +1,83 @@
+-- The table of the layout: each field stands in a region of its own, the regions follow each other inside 8,192 words, and
+-- no two fields share a word.
+use Prim.Native.Nat.{ℕ, _+_, _*_, _≤_, _<_}
+use mathlib.Core.Path.{_≡_}
+use native.Mathlib.Omega.{arith}
+use Rattle.ledger.specs.Roster.{Numbered}
+use Rattle.layout.specs.Layout.{memoryBytes, memoryWords, kindWord, rosterWord, countWord, markWord, accountBlockWord, instrumentBlockWord, groupBlockRow, balanceRow, ownSetRow, defaultSetRow, groupSetRow, ownRow, defaultRow, groupRow}
+use Rattle.layout.specs.Stores.{orderWord}
+
+-- word k is one of the words from low to high − 1
+abbrev In : ℕ → ℕ → ℕ → Type 0
+In low high k = (low ≤ k) × (k < high)
+
+-- of account a, instrument i, contract c, group g and record p
+pub record Placed (a i c g p : ℕ) : Type 0 where
+  pub kind : In 0 1 kindWord
+  pub roster : In 1 77 rosterWord × In 1 77 (rosterWord + 75)
+  pub count : In 112 113 countWord
+  pub mark : In 128 144 (markWord a)
+  pub accountBlock : In 144 160 (accountBlockWord a)
+  pub instrumentBlock : In 160 192 (instrumentBlockWord i)
+  pub groupBlock : In 192 256 (groupBlockRow a + g)
+  pub balance : In 256 768 (balanceRow a + i)
+  pub ownSet : In 768 1280 (ownSetRow a + i)
+  pub defaultSet : In 1280 1408 (defaultSetRow a + c)
+  pub groupSet : In 1408 1472 (groupSetRow a + g)
+  pub own : In 1536 3584 (ownRow a + i * 4) × In 1536 3584 (ownRow a + i * 4 + 3)
+  pub default : In 3584 4096 (defaultRow a + c * 4) × In 3584 4096 (defaultRow a + c * 4 + 3)
+  pub ofGroup : In 4096 4224 (groupRow a + g * 2) × In 4096 4224 (groupRow a + g * 2 + 1)
+  pub order : In 4224 6272 (orderWord p) × In 4224 6272 (orderWord p + 7)
+  pub inside : (6272 ≤ memoryWords) × (memoryWords * 8 ≤ memoryBytes)
+
+pub placed : (a i c g p : ℕ) → Numbered 16 a → Numbered 32 i → Numbered 8 c → Numbered 4 g → p < 256 → Placed a i c g p
+placed a i c g p on-a on-i on-c on-g h =
+    record {
+      kind = omega arith;
+      roster = omega arith;
+      count = omega arith;
+      mark = omega arith;
+      accountBlock = omega arith;
+      instrumentBlock = omega arith;
+      groupBlock = omega arith;
+      balance = omega arith;
+      ownSet = omega arith;
+      defaultSet = omega arith;
+      groupSet = omega arith;
+      own = omega arith;
+      default = omega arith;
+      ofGroup = omega arith;
+      order = omega arith;
+      inside = omega arith;
+    }
+
+-- two places of a region that are one word, or lines with a word in common, are one place
+pub record Apart (a b i k : ℕ) : Type 0 where
+  pub balance : balanceRow a + i ≡ balanceRow b + k → (a ≡ b) × (i ≡ k)
+  pub ownSet : ownSetRow a + i ≡ ownSetRow b + k → (a ≡ b) × (i ≡ k)
+  pub own : (x y : ℕ) → x < 4 → y < 4 → ownRow a + i * 4 + x ≡ ownRow b + k * 4 + y → (a ≡ b) × (i ≡ k)
+
+pub record ApartOf (a b c d g h : ℕ) : Type 0 where
+  pub defaultSet : defaultSetRow a + c ≡ defaultSetRow b + d → (a ≡ b) × (c ≡ d)
+  pub default : (x y : ℕ) → x < 4 → y < 4 → defaultRow a + c * 4 + x ≡ defaultRow b + d * 4 + y → (a ≡ b) × (c ≡ d)
+  pub groupBlock : groupBlockRow a + g ≡ groupBlockRow b + h → (a ≡ b) × (g ≡ h)
+  pub groupSet : groupSetRow a + g ≡ groupSetRow b + h → (a ≡ b) × (g ≡ h)
+  pub ofGroup : (x y : ℕ) → x < 2 → y < 2 → groupRow a + g * 2 + x ≡ groupRow b + h * 2 + y → (a ≡ b) × (g ≡ h)
+
+pub apart : (a b i k : ℕ) → Numbered 32 i → Numbered 32 k → Apart a b i k
+apart a b i k on-i on-k =
+    record {
+      balance = λ e. omega arith;
+      ownSet = λ e. omega arith;
+      own = λ x y p q e. omega arith;
+    }
+
+pub apart-of : (a b c d g h : ℕ) → Numbered 8 c → Numbered 8 d → Numbered 4 g → Numbered 4 h → ApartOf a b c d g h
+apart-of a b c d g h on-c on-d on-g on-h =
+    record {
+      defaultSet = λ e. omega arith;
+      default = λ x y p q e. omega arith;
+      groupBlock = λ e. omega arith;
+      groupSet = λ e. omega arith;
+      ofGroup = λ x y p q e. omega arith;
+    }

@@ -1,0 +1,21 @@
+use mathlib.Core.Path.{_∙_}
+use native.Mathlib.Omega.{arith}
+use borrow.Author.Needs.{needs}
+use Rattle.layout.proofs.Shifting.{changed}
+use Rattle.layout.proofs.orders.replace_order.Statement.{statement}
+use Rattle.layout.proofs.orders.replace_order.Tie as tie
+
+put-order-requires : tie.Need-put-order-requires
+put-order-requires c κs =
+    let records = c .before .before .pre .0 in
+    omega (arith, records .long, records .count)
+
+returns : tie.Need-returns
+returns c =
+    let known = c .before .before .before .before in
+    let start = known .before in
+    c .before .before .put-order .ensures
+    ∙ changed (start .args .m .now) (λ i. known .slice-known .given i .fits) (start .pre .0) _ _ (start .pre .1)
+
+pub replace-order-spec : {M : Type 1} → statement M
+replace-order-spec = tie.close (tie.spec put-order-requires (λ c. search needs) returns)

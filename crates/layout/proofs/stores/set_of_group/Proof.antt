@@ -1,0 +1,26 @@
+use borrow.Author.Needs.{needs}
+use Rattle.words.specs.Words.{putWords}
+use Rattle.layout.proofs.stores.set_of_group.Statement.{statement}
+use Rattle.layout.proofs.stores.set_of_group.Tie as tie
+
+returns : tie.Need-returns
+unfolding putWords
+returns c = cc
+
+pub set-of-group-spec : {M : Type 1} → statement M
+set-of-group-spec =
+    tie.close
+    (tie.spec
+    (λ c. search needs)
+    (λ c. search needs)
+    (λ c. search needs)
+    (λ c. search needs)
+    (λ c κs. search needs)
+    (λ c. search needs)
+    (λ c κs. search needs)
+    (λ c. search needs)
+    (λ c. search needs)
+    (λ c. search needs)
+    (λ c κs. search needs)
+    (λ c. search needs)
+    returns)

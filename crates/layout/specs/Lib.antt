@@ -1,0 +1,5 @@
+pub mod Layout
+pub mod Rosters
+pub mod View
+pub mod Stores
+pub mod FieldStores

@@ -1,0 +1,68 @@
+-- Order records as they are stored: the one form of a memory whose open orders are a given list.
+use Prim.Native.Nat.{ℕ, zero, suc, _+_, _*_, _^_, _≤_, _<_}
+use mathlib.Core.Path.{_≡_}
+use mathlib.Core.Bool.{cond}
+use mathlib.Core.List.{List, [], _∷_}
+use lib.Dec.{ltb}
+use lib.ListN.{length}
+use Rattle.words.specs.Words.{wordAt, putWord, putWords, partOf}
+use Rattle.ledger.specs.declared.order.Order.{Order}
+use Rattle.ledger.specs.Records.{sideOf, numberOf, orderAt, ordersFrom}
+use Rattle.layout.specs.Layout.{countWord, ordersWord}
+
+-- the first word of record p
+abbrev pub orderWord : ℕ → ℕ
+orderWord p = ordersWord + p * 8
+
+-- the order in record p, and those in the n records from record p on
+abbrev pub orderIn : List ℕ → ℕ → Order
+orderIn m p = orderAt (partOf m ordersWord 2048) p
+
+abbrev pub ordersIn : List ℕ → ℕ → ℕ → List Order
+ordersIn m p n = ordersFrom (partOf m ordersWord 2048) p n
+
+-- the words of a record: the two spare ones behind them are left alone
+unfoldable pub fields : Order → List ℕ
+fields o =
+    o .id ∷ o .account ∷ o .instrument ∷ numberOf (o .side) ∷ o .total ∷ o .filled ∷ []
+
+unfoldable pub putOrder : List ℕ → ℕ → Order → List ℕ
+putOrder m p o = putWords m (orderWord p) (fields o)
+
+-- the records from place p on
+unfoldable pub putOrders : List ℕ → ℕ → List Order → List ℕ
+putOrders m p [] = m
+putOrders m p (o ∷ os) = putOrders (putOrder m p o) (p + 1) os
+
+-- the records from place 0 on, and the count; records behind the last are never spoken of
+unfoldable pub storeOrders : List ℕ → List Order → List ℕ
+storeOrders m os = putWord (putOrders m 0 os) countWord (length os)
+
+-- every figure is a word's
+pub record SmallOrder (o : Order) : Type 0 where
+  pub id : o .id < 2 ^ 64
+  pub account : o .account < 2 ^ 64
+  pub instrument : o .instrument < 2 ^ 64
+  pub total : o .total < 2 ^ 64
+  pub filled : o .filled < 2 ^ 64
+
+abbrev pub SmallOrders : List Order → Type 0
+SmallOrders [] = Unit
+SmallOrders (o ∷ os) = SmallOrder o × SmallOrders os
+
+-- the records of a memory that is long enough: at most 256, each with a side of 1 or 2
+pub record Records (m : List ℕ) : Type 0 where
+  pub long : 65536 ≤ length m
+  pub count : wordAt m countWord ≤ 256
+  pub sides : (p : ℕ) → p < wordAt m countWord → numberOf (sideOf (wordAt m (orderWord p + 3))) ≡ wordAt m (orderWord p + 3)
+
+-- the place of the first order with a larger id, else behind the last
+unfoldable pub rank : ℕ → List Order → ℕ
+rank id [] = 0
+rank id (o ∷ os) = cond (ltb id (o .id)) 0 (suc (rank id os))
+
+-- without the order at place p
+unfoldable pub without : ℕ → List Order → List Order
+without p [] = []
+without zero (o ∷ os) = os
+without (suc p) (o ∷ os) = o ∷ without p os

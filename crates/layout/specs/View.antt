@@ -1,0 +1,81 @@
+-- What a memory means: the roster, the plain book and the trading marks that it holds.
+use Prim.Native.Nat.{ℕ, _+_, _*_}
+use mathlib.Core.Bool.{Bool, true, false, not, _&&_, cond}
+use mathlib.Core.List.{List}
+use mathlib.Core.Option.{Option, none, some}
+use lib.Dec.{eqb}
+use lib.IntN.{ℤ, pos}
+use Rattle.words.specs.Words.{wordAt, signedAt, partOf}
+use Rattle.ledger.specs.Roster.{Roster}
+use Rattle.ledger.specs.declared.order.Order.{Order}
+use Rattle.ledger.specs.Records.{rosterIn, ordersFrom}
+use Rattle.limits.specs.Lines.{Line, GroupLine, Lines}
+use Rattle.book.specs.Decoding.{between}
+use Rattle.book.specs.Books.{Blocks, Book}
+use Rattle.book.specs.Kept.{Kept}
+use Rattle.layout.specs.Layout.{rosterWord, countWord, ordersWord, markWord, accountBlockWord, instrumentBlockWord, groupBlockRow, balanceRow, ownSetRow, defaultSetRow, groupSetRow, ownRow, defaultRow, groupRow}
+use Rattle.layout.specs.Rosters.{listed}
+
+-- the roster
+unfoldable pub rosterOf : List ℕ → Roster
+rosterOf m =
+    let r = rosterIn (partOf m rosterWord 76) in
+    listed (r .accounts) (r .groups) (r .contracts) (r .instruments) (r .groupOf) (r .contractOf) (r .weight)
+
+-- a word that is not 0 means yes
+abbrev pub flag : List ℕ → ℕ → Bool
+flag m k = not (eqb (wordAt m k) 0)
+
+-- the lines that six rows of words hold: figures in four or two words each, and apart from them whether each line is set
+abbrev pub lineAt : List ℕ → ℕ → Line
+lineAt m k =
+    record { tci = wordAt m k; tvi = wordAt m (k + 1); lci = wordAt m (k + 2); lvi = wordAt m (k + 3) }
+
+abbrev pub groupLineAt : List ℕ → ℕ → GroupLine
+groupLineAt m k = record { lcc = wordAt m k; lvc = wordAt m (k + 1) }
+
+-- what a place of an account says, where account and number are on the roster
+abbrev pub onRoster : {A : Type 0} → ℕ → ℕ → ℕ → ℕ → A → A → A
+onRoster accounts numbers a n x otherwise = cond (between 1 accounts a && between 1 numbers n) x otherwise
+
+unfoldable pub linesOf : List ℕ → ℕ → Lines
+linesOf m a =
+    let r = rosterOf m in
+    record {
+      ownOf =
+          λ i. onRoster (r .accounts) (r .instruments) a i (cond (flag m (ownSetRow a + i)) (some (lineAt m (ownRow a + i * 4))) none) none;
+      defaultOf =
+          λ c. onRoster (r .accounts) (r .contracts) a c (cond (flag m (defaultSetRow a + c)) (some (lineAt m (defaultRow a + c * 4))) none) none;
+      lineOfGroup =
+          λ g. onRoster (r .accounts) (r .groups) a g (cond (flag m (groupSetRow a + g)) (some (groupLineAt m (groupRow a + g * 2))) none) none;
+    }
+
+-- S, signed
+unfoldable pub balancesOf : List ℕ → ℕ → ℕ → ℤ
+balancesOf m a i =
+    onRoster (rosterOf m .accounts) (rosterOf m .instruments) a i (signedAt m (balanceRow a + i)) (pos 0)
+
+unfoldable pub blocksOf : List ℕ → Blocks
+blocksOf m =
+    let r = rosterOf m in
+    record {
+      account = λ a. between 1 (r .accounts) a && flag m (accountBlockWord a);
+      instrument = λ i. between 1 (r .instruments) i && flag m (instrumentBlockWord i);
+      group = λ a g. onRoster (r .accounts) (r .groups) a g (flag m (groupBlockRow a + g)) false;
+    }
+
+-- the open orders: a count, then that many records
+unfoldable pub openOrders : List ℕ → List Order
+openOrders m = ordersFrom (partOf m ordersWord 2048) 0 (wordAt m countWord)
+
+unfoldable pub bookOf : List ℕ → Book
+bookOf m =
+    record { balanceOf = balancesOf m; linesOf = linesOf m; blocks = blocksOf m; orders = openOrders m }
+
+-- which accounts are marked as trading
+unfoldable pub tradingOf : List ℕ → ℕ → Bool
+tradingOf m a = between 1 (rosterOf m .accounts) a && flag m (markWord a)
+
+-- the whole view
+unfoldable pub view : List ℕ → Kept
+view m = record { book = bookOf m; trading = tradingOf m }

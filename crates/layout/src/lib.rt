@@ -1,0 +1,3 @@
+// Where a desk stands in its lent memory, and its order records there.
+pub mod orders;
+pub mod stores;

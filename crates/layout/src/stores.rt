@@ -1,0 +1,135 @@
+// Single fields of a desk: a balance, a mark, a block, a line. Accounts and numbers count from 1.
+ghost use mathlib.Core.Path.{_≡_};
+ghost use mathlib.Core.Option.{none, some};
+ghost use Prim.Native.Nat.{_+_, _*_, _≤_};
+ghost use lib.ListN.{length};
+ghost use Rattle.layout.specs.Layout.{memoryBytes};
+ghost use Rattle.layout.specs.FieldStores.{bit, storeBalance, storeMark, blockAccount, blockInstrument, blockGroup, storeLine, storeOwn, storeDefault, storeOfGroup, lineWith, groupLineWith};
+use words::set_signed_word;
+use words::set_word;
+
+// S of an account and instrument becomes `z`.
+pub fn set_balance(m: &mut [u8], a: usize, i: usize, z: i64)
+    requires { ⌜ (memoryBytes ≤ length (now m)) × (a ≤ 16) × (i ≤ 32) ⌝ }
+    ensures { λ r. ⌜ now (m .exit) ≡ storeBalance (now (m .entry)) a i z ⌝ }
+{
+    set_signed_word(m, 223 + a * 32 + i, z);
+}
+
+// The account is marked as trading.
+pub fn set_mark(m: &mut [u8], a: usize)
+    requires { ⌜ (memoryBytes ≤ length (now m)) × (a ≤ 16) ⌝ }
+    ensures { λ r. ⌜ now (m .exit) ≡ storeMark (now (m .entry)) a ⌝ }
+{
+    set_word(m, 127 + a, 1);
+}
+
+// The word of a yes or no.
+fn bit_of(on: bool) -> u64
+    ensures { λ r. ⌜ r ≡ bit on ⌝ }
+{
+    if on { 1 } else { 0 }
+}
+
+// Blocks an account, or lifts its block.
+pub fn block_account(m: &mut [u8], a: usize, on: bool)
+    requires { ⌜ (memoryBytes ≤ length (now m)) × (a ≤ 16) ⌝ }
+    ensures { λ r. ⌜ now (m .exit) ≡ blockAccount (now (m .entry)) a on ⌝ }
+{
+    set_word(m, 143 + a, bit_of(on));
+}
+
+// Blocks an instrument for all, or lifts its block.
+pub fn block_instrument(m: &mut [u8], i: usize, on: bool)
+    requires { ⌜ (memoryBytes ≤ length (now m)) × (i ≤ 32) ⌝ }
+    ensures { λ r. ⌜ now (m .exit) ≡ blockInstrument (now (m .entry)) i on ⌝ }
+{
+    set_word(m, 159 + i, bit_of(on));
+}
+
+// Blocks a group for an account, or lifts its block.
+pub fn block_group(m: &mut [u8], a: usize, g: usize, on: bool)
+    requires { ⌜ (memoryBytes ≤ length (now m)) × (a ≤ 16) × (g ≤ 4) ⌝ }
+    ensures { λ r. ⌜ now (m .exit) ≡ blockGroup (now (m .entry)) a g on ⌝ }
+{
+    set_word(m, 187 + a * 4 + g, bit_of(on));
+}
+
+// Sets the line whose figures stand from word `k` on, and whether it is set in word `s`.
+fn put_line(m: &mut [u8], s: usize, k: usize, tci: u64, tvi: u64, lci: u64, lvi: u64)
+    requires { ⌜ (s * 8 + 8 ≤ length (now m)) × (k * 8 + 32 ≤ length (now m)) ⌝ }
+    ensures { λ r. ⌜ now (m .exit) ≡ storeLine (now (m .entry)) s k (some (lineWith tci tvi lci lvi)) ⌝ }
+{
+    set_word(m, k, tci);
+    set_word(m, k + 1, tvi);
+    set_word(m, k + 2, lci);
+    set_word(m, k + 3, lvi);
+    set_word(m, s, 1);
+}
+
+// Sets an instrument's own line.
+pub fn set_own(m: &mut [u8], a: usize, i: usize, tci: u64, tvi: u64, lci: u64, lvi: u64)
+    requires { ⌜ (memoryBytes ≤ length (now m)) × (a ≤ 16) × (i ≤ 32) ⌝ }
+    ensures { λ r. ⌜ now (m .exit) ≡ storeOwn (now (m .entry)) a i (some (lineWith tci tvi lci lvi)) ⌝ }
+{
+    put_line(
+        m,
+        735 + a * 32 + i,
+        1404 + a * 128 + i * 4,
+        tci,
+        tvi,
+        lci,
+        lvi,
+    );
+}
+
+// An instrument's own line is set no more.
+pub fn unset_own(m: &mut [u8], a: usize, i: usize)
+    requires { ⌜ (memoryBytes ≤ length (now m)) × (a ≤ 16) × (i ≤ 32) ⌝ }
+    ensures { λ r. ⌜ now (m .exit) ≡ storeOwn (now (m .entry)) a i none ⌝ }
+{
+    set_word(m, 735 + a * 32 + i, 0);
+}
+
+// Sets a contract's default line.
+pub fn set_default(m: &mut [u8], a: usize, c: usize, tci: u64, tvi: u64, lci: u64, lvi: u64)
+    requires { ⌜ (memoryBytes ≤ length (now m)) × (a ≤ 16) × (c ≤ 8) ⌝ }
+    ensures { λ r. ⌜ now (m .exit) ≡ storeDefault (now (m .entry)) a c (some (lineWith tci tvi lci lvi)) ⌝ }
+{
+    put_line(
+        m,
+        1271 + a * 8 + c,
+        3548 + a * 32 + c * 4,
+        tci,
+        tvi,
+        lci,
+        lvi,
+    );
+}
+
+// A contract's default line is set no more.
+pub fn unset_default(m: &mut [u8], a: usize, c: usize)
+    requires { ⌜ (memoryBytes ≤ length (now m)) × (a ≤ 16) × (c ≤ 8) ⌝ }
+    ensures { λ r. ⌜ now (m .exit) ≡ storeDefault (now (m .entry)) a c none ⌝ }
+{
+    set_word(m, 1271 + a * 8 + c, 0);
+}
+
+// Sets a group's line.
+pub fn set_of_group(m: &mut [u8], a: usize, g: usize, lcc: u64, lvc: u64)
+    requires { ⌜ (memoryBytes ≤ length (now m)) × (a ≤ 16) × (g ≤ 4) ⌝ }
+    ensures { λ r. ⌜ now (m .exit) ≡ storeOfGroup (now (m .entry)) a g (some (groupLineWith lcc lvc)) ⌝ }
+{
+    let k = 4086 + a * 8 + g * 2;
+    set_word(m, k, lcc);
+    set_word(m, k + 1, lvc);
+    set_word(m, 1403 + a * 4 + g, 1);
+}
+
+// A group's line is set no more.
+pub fn unset_of_group(m: &mut [u8], a: usize, g: usize)
+    requires { ⌜ (memoryBytes ≤ length (now m)) × (a ≤ 16) × (g ≤ 4) ⌝ }
+    ensures { λ r. ⌜ now (m .exit) ≡ storeOfGroup (now (m .entry)) a g none ⌝ }
+{
+    set_word(m, 1403 + a * 4 + g, 0);
+}

@@ -1,0 +1,30 @@
+use borrow.Author.Needs.{needs}
+use Rattle.words.specs.Words.{putWords}
+use Rattle.layout.specs.Rosters.{listed}
+use Rattle.opening.specs.Questions.{rosterFrom}
+use Rattle.opening.specs.Opening.{withSizes}
+use Rattle.opening.proofs.writing.put_sizes.Statement.{statement}
+use Rattle.opening.proofs.writing.put_sizes.Tie as tie
+
+returns : tie.Need-returns
+unfolding withSizes putWords rosterFrom listed
+returns c = cc
+
+pub put-sizes-spec : {M : Type 1} → statement M
+put-sizes-spec =
+    tie.close
+    (tie.spec
+    (λ c κs. search needs)
+    (λ c. search needs)
+    (λ c κs. search needs)
+    (λ c κs. search needs)
+    (λ c. search needs)
+    (λ c κs. search needs)
+    (λ c κs. search needs)
+    (λ c. search needs)
+    (λ c κs. search needs)
+    (λ c κs. search needs)
+    (λ c. search needs)
+    (λ c κs. search needs)
+    (λ c. search needs)
+    returns)

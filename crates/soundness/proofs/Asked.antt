@@ -1,0 +1,52 @@
+-- Tests as the code asks them, and the facts that they stand for.
+use Prim.Native.Nat.{ℕ, _≤_, _<_}
+use mathlib.Core.Path.{_≡_, refl, sym, _∙_}
+use mathlib.Core.Bool.{Bool, true, false, not}
+use native.Mathlib.Omega.{arith}
+use lib.Dec.{leb}
+use lib.IntN.{ℤ, pos, negsuc, natAbs}
+use lib.Signed.{leZ, ltZ}
+use borrow.Author.Tests.{not-true, not-false, le-leb, lt-leb}
+use Rattle.integers.specs.Parts.{signed, magnitude-parts}
+use Rattle.ledger.specs.Roster.{Numbered}
+use Rattle.limits.proofs.Answers.{and-true}
+use Rattle.book.specs.Decoding.{between}
+
+-- the answer t to a test u, asked by `!`
+pub said-no : (t u : Bool) → t ≡ u → not t ≡ true → u ≡ false
+said-no t u e h = sym e ∙ not-true t h
+
+pub said-yes : (t u : Bool) → t ≡ u → not t ≡ false → u ≡ true
+said-yes t u e h = sym e ∙ not-false t h
+
+-- two tests that mean the same
+pub same-test : (t u : Bool) → (t ≡ true → u ≡ true) → (t ≡ false → u ≡ false) → t ≡ u
+same-test true u f g = sym (f refl)
+same-test false u f g = sym (g refl)
+
+pub numbered-between : (most n : ℕ) → Numbered most n → between 1 most n ≡ true
+numbered-between most n h = and-true (leb 1 n) (leb n most) (le-leb 1 n (h .0)) (le-leb n most (h .1))
+
+-- ---- what the code's tests answer
+pub below-range : (low high n : ℕ) → n < low → false ≡ between low high n
+below-range low high n h = rw (lt-leb low n h)
+
+pub above-low : (low high n : ℕ) → low ≤ n → leb n high ≡ between low high n
+above-low low high n h = rw (le-leb low n h)
+
+-- x is what was read of y
+pub over : (most x y : ℕ) → x ≡ y → most < x → leb y most ≡ false
+over most x y e h = lt-leb y most (omega arith)
+
+pub within : (most x y : ℕ) → x ≡ y → x ≤ most → leb y most ≡ true
+within most x y e h = le-leb y most (omega arith)
+
+module _ (z : ℤ) where
+  pub weight-low : ltZ z (negsuc 999999) ≡ true → false ≡ leb (natAbs z) 1000000
+  weight-low h = sym (lt-leb (natAbs z) 1000000 (omega (signed, magnitude-parts z)))
+
+  pub weight-high : ltZ z (negsuc 999999) ≡ false → leZ z (pos 1000000) ≡ leb (natAbs z) 1000000
+  weight-high h =
+      same-test (leZ z (pos 1000000)) (leb (natAbs z) 1000000)
+      (λ e. le-leb (natAbs z) 1000000 (omega (signed, magnitude-parts z)))
+      (λ e. lt-leb (natAbs z) 1000000 (omega (signed, magnitude-parts z)))

@@ -1,0 +1,126 @@
+-- What a memory that holds a sound desk gives to the functions over its parts: the records are there, and no number is too large.
+use Prim.Native.Nat.{ℕ, _+_, _*_, _≤_, _<_}
+use mathlib.Core.Path.{_≡_, refl, sym, ap, _∙_}
+use mathlib.Core.List.{List}
+use native.Mathlib.Omega.{arith}
+use lib.IntN.{negℤ, natAbs}
+use lib.ListN.{length}
+use Rattle.integers.specs.Parts.{signed, sum-parts, negation-parts, magnitude-parts}
+use Rattle.words.specs.Words.{wordAt, signedAt, partOf}
+use Rattle.words.proofs.Parts.{length-part, word-part}
+use Rattle.ledger.specs.declared.order.Side.{Side}
+use Rattle.ledger.specs.declared.order.Side.the-variants.{Buy, Sell}
+use Rattle.ledger.specs.Orders.{remaining}
+use Rattle.ledger.specs.Roster.{Numbered}
+use Rattle.ledger.specs.Positions.{long, short, openOn, ofInstrument}
+use Rattle.ledger.specs.Records.{orderAt, ordersFrom, rosterIn}
+use Rattle.ledger.specs.Bounds.{OpenBounds, InstrumentBounds, GatherBounds, BalanceBounds, RosterBounds, GroupBounds}
+use Rattle.ledger.specs.Derivatives.{one}
+use Rattle.ledger.proofs.Counting.{small-orders}
+use Rattle.ledger.proofs.Sums.{open-nonneg}
+use Rattle.book.specs.Market.{derivatives}
+use Rattle.layout.specs.Layout.{countWord, rosterWord, ordersWord, balanceRow}
+use Rattle.layout.specs.Rosters.{listed}
+use Rattle.layout.specs.View.{rosterOf, balancesOf, openOrders, bookOf, tradingOf, view}
+use Rattle.soundness.specs.Cells.{Readable}
+use Rattle.soundness.specs.Held.{Held}
+use Rattle.soundness.proofs.Places.{balance-word}
+use Rattle.soundness.proofs.Records.{remaining-small}
+use Rattle.soundness.proofs.RosterLaws.{roster-long, contract-word, weight-word}
+use Rattle.soundness.proofs.SoundDesk.{all-fit, held-count}
+
+-- a signed word of a part is one of the whole
+signed-part : (m : List ℕ) (k n j : ℕ) → j < n → signedAt (partOf m k n) j ≡ signedAt m (k + j)
+unfolding signedAt
+signed-part m k n j h = rw (word-part m k n j h)
+
+-- what the roster's words say, where they are on the roster
+module _ (m : List ℕ) where
+  instruments-same : rosterIn (partOf m rosterWord 76) .instruments ≡ rosterOf m .instruments
+  unfolding rosterOf listed
+  instruments-same = refl
+
+  contract-same : (i : ℕ) → Numbered (rosterOf m .instruments) i → rosterOf m .contractOf i ≡ rosterIn (partOf m rosterWord 76) .contractOf i
+  unfolding rosterIn
+  contract-same = contract-word m
+
+  weight-same : (i : ℕ) → Numbered (rosterOf m .instruments) i → rosterOf m .weight i ≡ rosterIn (partOf m rosterWord 76) .weight i
+  unfolding rosterIn
+  weight-same = weight-word m
+
+module _ (m : List ℕ) (h : Held m) where
+  pub held-readable : Readable m
+  held-readable =
+      let f = h .book .roster in
+      record { long = h .long; accounts = f .accounts .1; groups = f .groups .1; contracts = f .contracts .1; instruments = f .instruments .1 }
+
+  -- ---- the roster
+  pub roster-bounds : RosterBounds (partOf m rosterWord 76) (rosterIn (partOf m rosterWord 76))
+  roster-bounds =
+      let f = h .book .roster in
+      record {
+        long = omega (arith, roster-long m (h .long));
+        instruments = omega (arith, instruments-same m, f .instruments .1);
+        contract = λ i l. let on = rw (instruments-same m) at l in let k = rw (contract-same m i on) at (f .contractOf i on) in (k .0, omega (arith, k .1, f .contracts .1));
+        weight = λ i l. let on = rw (instruments-same m) at l in rw (weight-same m i on) at (f .weight i on);
+      }
+
+  -- ---- the open orders
+  pub records-there : wordAt m countWord * 64 ≤ length (partOf m ordersWord 2048)
+  records-there = omega (arith, held-count m h, length-part m ordersWord 2048 (omega (arith, h .long)))
+
+  pub order-small : (p : ℕ) → p < wordAt m countWord → remaining (orderAt (partOf m ordersWord 2048) p) ≤ 1000000
+  order-small p l =
+      remaining-small (rosterOf m) (tradingOf m) (wordAt (partOf m ordersWord 2048) (p * 8 + 3)) (orderAt (partOf m ordersWord 2048) p) (all-fit m h p l)
+
+  -- B and V
+  pub open-small : (s : Side) (a i : ℕ) → natAbs (openOn one (ordersFrom (partOf m ordersWord 2048) 0 (wordAt m countWord)) s a i) ≤ 256000000
+  open-small s a i =
+      omega (arith, held-count m h, small-orders (partOf m ordersWord 2048) (wordAt m countWord) 1000000 order-small s a i)
+
+  -- ---- the balances
+  pub balance-small : (a i : ℕ) → natAbs (balancesOf m a i) ≤ 1000000000
+  unfolding view bookOf derivatives ofInstrument
+  balance-small a i =
+      let unit = derivatives .unit in
+      let z = balancesOf m a i in
+      let bought = openOn unit (openOrders m) Buy a i in
+      let sold = openOn unit (openOrders m) Sell a i in
+      omega (signed, h .book .bounded a i long, h .book .bounded a i short, open-nonneg unit Buy a i (openOrders m), open-nonneg unit Sell a i (openOrders m), sum-parts z bought, sum-parts (negℤ z) sold, negation-parts z, magnitude-parts z)
+
+  module _ (a : ℕ) (on : Numbered (rosterOf m .accounts) a) where
+    pub row-there : length (partOf m (balanceRow a) 33) ≡ 264
+    row-there = length-part m (balanceRow a) 33 (omega (arith, h .long, held-readable .accounts))
+
+    pub row-balance : (i : ℕ) → Numbered (rosterOf m .instruments) i → signedAt (partOf m (balanceRow a) 33) i ≡ balancesOf m a i
+    row-balance i l =
+        signed-part m (balanceRow a) 33 i (omega (arith, held-readable .instruments)) ∙ sym (balance-word m a i on l)
+
+    pub open-bounds : (s : Side) (i : ℕ) → OpenBounds (partOf m ordersWord 2048) (wordAt m countWord) s a i
+    open-bounds s i = record { long = records-there; small = omega (arith, open-small s a i) }
+
+    pub instrument-bounds : (i : ℕ) → Numbered (rosterOf m .instruments) i → InstrumentBounds (partOf m ordersWord 2048) (wordAt m countWord) (partOf m (balanceRow a) 33) a i
+    instrument-bounds i l =
+        record {
+          orders-long = records-there;
+          balances-long = omega (arith, row-there, held-readable .instruments);
+          small = λ s. omega (arith, open-small s a i, ap natAbs (row-balance i l), balance-small a i);
+        }
+
+    gather-bounds : GatherBounds (partOf m ordersWord 2048) (wordAt m countWord) a
+    gather-bounds =
+        record {
+          long = records-there;
+          instrument = λ p l. let f = all-fit m h p l in (f .instrument .0, omega (arith, f .instrument .1, held-readable .instruments));
+          unfilled = λ s i. omega (arith, open-small s a i);
+        }
+
+    balance-bounds : BalanceBounds (partOf m (balanceRow a) 33) (rosterIn (partOf m rosterWord 76) .instruments)
+    balance-bounds =
+        record {
+          long = omega (arith, row-there);
+          balance = λ i l. omega (arith, ap natAbs (row-balance i (rw (instruments-same m) at l)), balance-small a i);
+        }
+
+    pub group-bounds : GroupBounds (partOf m ordersWord 2048) (wordAt m countWord) (partOf m (balanceRow a) 33) (partOf m rosterWord 76) a
+    group-bounds = record { orders-small = gather-bounds; balances-small = balance-bounds; roster-small = roster-bounds }

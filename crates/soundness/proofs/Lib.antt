@@ -1,0 +1,14 @@
+pub mod Every
+pub mod Asked
+pub mod RosterLaws
+pub mod Records
+mod Gathering
+mod Places
+mod Whole
+pub mod Questions
+pub mod RosterFacts
+pub mod LineFacts
+pub mod OrderFacts
+pub mod PositionFacts
+pub mod SoundDesk
+pub mod Bounded

@@ -1,0 +1,86 @@
+-- S + B and −S + V of an account and instrument by the gathered cells, as the code asks them of a balance that may be any word.
+use Prim.Native.Nat.{ℕ, _+_, _≤_}
+use mathlib.Core.Path.{_≡_, refl, _∙_}
+use mathlib.Core.Bool.{true, false}
+use mathlib.Core.List.{List}
+use native.Mathlib.Omega.{arith}
+use lib.ListN.{getD}
+use lib.IntN.{ℤ, pos, negℤ, _+ℤ_, _-ℤ_}
+use lib.Signed.{leZ, ltZ}
+use mir.Syntax.{w64}
+use mir.Val.{SFits, toZ, ofZ}
+use mir.ValLaws.{toZ-pos, toZ-ofZ}
+use Rattle.integers.specs.Magnitude.{sized, magnitude-difference}
+use Rattle.integers.specs.Parts.{signed, sum-parts, difference-parts, negation-parts}
+use Rattle.words.specs.Words.{signedAt}
+use Rattle.ledger.specs.declared.order.Side.the-variants.{Buy, Sell}
+use Rattle.ledger.specs.Roster.{Numbered}
+use Rattle.ledger.specs.Positions.{Way, long, short, toward, sideTo, ofInstrument}
+use Rattle.ledger.specs.Derivatives.{one}
+use Rattle.book.specs.Market.{derivatives}
+use Rattle.layout.specs.Layout.{balanceRow}
+use Rattle.layout.specs.View.{rosterOf, balancesOf, openOrders}
+use Rattle.soundness.specs.Soundness.{positionSound, placeSound}
+use Rattle.soundness.specs.Cells.{Readable, cell, Gathered}
+use Rattle.soundness.proofs.Asked.{same-test, numbered-between}
+
+-- ---- the machine's numbers: what a cell holds as a signed number, and the two differences
+module _ (x : ℕ) (h : x ≤ 256000000) where
+  as-signed : toZ w64 x ≡ pos x
+  as-signed = toZ-pos w64 x (omega arith)
+
+  pub cell-fits : SFits w64 (pos x)
+  cell-fits = omega sized
+
+  pub room-fits : SFits w64 (pos 1000000000 -ℤ toZ w64 x)
+  room-fits = rw as-signed (omega (sized, magnitude-difference (pos 1000000000) (pos x)))
+
+  pub room-read : toZ w64 (ofZ w64 (pos 1000000000 -ℤ toZ w64 x)) ≡ pos 1000000000 -ℤ pos x
+  room-read = toZ-ofZ w64 (pos 1000000000 -ℤ toZ w64 x) room-fits ∙ rw as-signed
+
+  pub least-fits : SFits w64 (toZ w64 x -ℤ pos 1000000000)
+  least-fits = rw as-signed (omega (sized, magnitude-difference (pos x) (pos 1000000000)))
+
+  pub least-read : toZ w64 (ofZ w64 (toZ w64 x -ℤ pos 1000000000)) ≡ pos x -ℤ pos 1000000000
+  least-read = toZ-ofZ w64 (toZ w64 x -ℤ pos 1000000000) least-fits ∙ rw as-signed
+
+-- ---- positions
+-- one contract counts for 1
+pub unit-one : derivatives .unit ≡ one
+unfolding derivatives one
+unit-one = refl
+
+-- the balance of a place on the roster
+pub balance-word : (m : List ℕ) (a i : ℕ) → Numbered (rosterOf m .accounts) a → Numbered (rosterOf m .instruments) i → balancesOf m a i ≡ signedAt m (balanceRow a + i)
+unfolding balancesOf
+balance-word m a i h l = rw (numbered-between (rosterOf m .accounts) a h, numbered-between (rosterOf m .instruments) i l)
+
+-- the two tests, with b and v at most 1,000,000,000 beside any s
+long-same : (s : ℤ) (b : ℕ) → ltZ (pos 1000000000 -ℤ pos b) s ≡ false → leZ (s +ℤ pos b) (pos 1000000000) ≡ true
+long-same s b h = omega (signed, difference-parts (pos 1000000000) (pos b), sum-parts s (pos b))
+
+long-over : (s : ℤ) (b : ℕ) → ltZ (pos 1000000000 -ℤ pos b) s ≡ true → leZ (s +ℤ pos b) (pos 1000000000) ≡ false
+long-over s b h = omega (signed, difference-parts (pos 1000000000) (pos b), sum-parts s (pos b))
+
+short-same : (s : ℤ) (v : ℕ) → leZ (pos v -ℤ pos 1000000000) s ≡ leZ (negℤ s +ℤ pos v) (pos 1000000000)
+short-same s v =
+    same-test (leZ (pos v -ℤ pos 1000000000) s) (leZ (negℤ s +ℤ pos v) (pos 1000000000))
+    (λ e. omega (signed, difference-parts (pos v) (pos 1000000000), sum-parts (negℤ s) (pos v), negation-parts s))
+    (λ e. omega (signed, difference-parts (pos v) (pos 1000000000), sum-parts (negℤ s) (pos v), negation-parts s))
+
+module _ (m cells : List ℕ) (a i : ℕ) (readable : Readable m) (gathered : Gathered cells (openOrders m)) (h : Numbered (rosterOf m .accounts) a) (l : Numbered (rosterOf m .instruments) i) where
+  position-cell : (w : Way) → positionSound m a i w ≡ leZ (toward w (signedAt m (balanceRow a + i)) +ℤ pos (getD cells (cell (sideTo w) a i) 0)) (pos 1000000000)
+  unfolding positionSound ofInstrument
+  position-cell w =
+      rw (unit-one, balance-word m a i h l, gathered .sums (sideTo w) a i (h .0, omega (arith, readable .accounts)) (l .0, omega (arith, readable .instruments)))
+
+  -- s is the balance, b and v what the two cells hold
+  module _ (s : ℤ) (read : s ≡ signedAt m (balanceRow a + i)) where
+    pub place-over : ltZ (pos 1000000000 -ℤ pos (getD cells (cell Buy a i) 0)) s ≡ true → false ≡ placeSound m a i
+    unfolding placeSound
+    place-over e = rw (position-cell long, ← read, long-over s (getD cells (cell Buy a i) 0) e)
+
+    pub place-within : ltZ (pos 1000000000 -ℤ pos (getD cells (cell Buy a i) 0)) s ≡ false → leZ (pos (getD cells (cell Sell a i) 0) -ℤ pos 1000000000) s ≡ placeSound m a i
+    unfolding placeSound
+    place-within e =
+        rw (position-cell long, position-cell short, ← read, long-same s (getD cells (cell Buy a i) 0) e) (short-same s (getD cells (cell Sell a i) 0))

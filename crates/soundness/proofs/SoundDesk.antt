@@ -1,0 +1,101 @@
+-- A memory passes question 5 exactly where it shows a sound book and its other words are in range.
+use Prim.Native.Nat.{ℕ, _+_, _*_, _≤_, _<_}
+use mathlib.Core.Path.{_≡_}
+use mathlib.Core.Bool.{true}
+use mathlib.Core.List.{List, List·Memᴰ}
+use native.Mathlib.Omega.{arith}
+use lib.ListN.{length}
+use Rattle.words.specs.Words.{wordAt, partOf}
+use Rattle.ledger.specs.declared.order.Order.{Order}
+use Rattle.ledger.specs.Records.{orderAt}
+use Rattle.book.specs.Market.{derivatives}
+use Rattle.book.specs.Sound.{OrderFits, Sound}
+use Rattle.layout.specs.Layout.{countWord, ordersWord}
+use Rattle.layout.specs.View.{rosterOf, openOrders, bookOf, tradingOf, view}
+use Rattle.soundness.specs.Soundness.{ordersSound, soundDesk}
+use Rattle.soundness.specs.Held.{Held}
+use Rattle.soundness.proofs.Records.{Fit}
+use Rattle.soundness.proofs.Questions.{Conditions, each-out, each-in}
+use Rattle.soundness.proofs.RosterFacts.{roster-out, roster-in}
+use Rattle.soundness.proofs.LineFacts.{figures-out, figures-in, lines-fit}
+use Rattle.soundness.proofs.OrderFacts.{ascend-out, ascend-in, length-orders, order-member, each-member, records-out, records-in}
+use Rattle.soundness.proofs.PositionFacts.{positions-out, positions-in}
+
+pub open-count : (m : List ℕ) → length (openOrders m) ≡ wordAt m countWord
+unfolding openOrders
+open-count m = length-orders (partOf m ordersWord 2048) 0 (wordAt m countWord)
+
+-- ---- out
+module _ (m : List ℕ) (c : Conditions m) where
+  fit : (p : ℕ) → p < wordAt m countWord → Fit (rosterOf m) (tradingOf m) (wordAt (partOf m ordersWord 2048) (p * 8 + 3)) (orderAt (partOf m ordersWord 2048) p)
+  unfolding ordersSound
+  fit p h = records-out (partOf m ordersWord 2048) (rosterOf m) (tradingOf m) 0 (wordAt m countWord) (c .orders) p (omega arith) (omega arith)
+
+  member-fits : (o : Order) → List·Memᴰ o (openOrders m) → OrderFits (rosterOf m) o
+  unfolding openOrders
+  member-fits =
+      each-member (partOf m ordersWord 2048) (OrderFits (rosterOf m)) 0 (wordAt m countWord)
+      (λ q a b. let f = fit q (omega arith) in record { account = f .account; instrument = f .instrument; total = f .total; remains = f .remains })
+
+  member-marked : (o : Order) → List·Memᴰ o (openOrders m) → tradingOf m (o .account) ≡ true
+  unfolding openOrders
+  member-marked =
+      each-member (partOf m ordersWord 2048) (λ o. tradingOf m (o .account) ≡ true) 0 (wordAt m countWord)
+      (λ q a b. fit q (omega arith) .marked)
+
+  shown : Sound derivatives (rosterOf m) (view m .book) (view m .trading)
+  unfolding view bookOf derivatives
+  shown =
+      record {
+        roster = roster-out m (c .roster);
+        lines = lines-fit m (figures-out m (c .lines));
+        count = omega (arith, open-count m, c .count);
+        fits = member-fits;
+        ids = ascend-out 0 (openOrders m) (c .ids);
+        bounded = positions-out m (c .positions) member-fits;
+        marked = member-marked;
+      }
+
+pub sound-out : (m : List ℕ) → soundDesk m ≡ true → Held m
+sound-out m e =
+    let c = each-out m e in
+    record {
+      long = c .long;
+      kind = c .kind;
+      sides = λ p h. fit m c p h .side-named;
+      figures = figures-out m (c .lines);
+      book = shown m c;
+    }
+
+-- ---- in
+module _ (m : List ℕ) (h : Held m) where
+  pub all-fit : (p : ℕ) → p < wordAt m countWord → Fit (rosterOf m) (tradingOf m) (wordAt (partOf m ordersWord 2048) (p * 8 + 3)) (orderAt (partOf m ordersWord 2048) p)
+  unfolding view bookOf openOrders
+  all-fit p l =
+      let s = partOf m ordersWord 2048 in
+      let k = order-member s 0 (wordAt m countWord) p (omega arith) (omega arith) in
+      let f = h .book .fits (orderAt s p) k in
+      record { account = f .account; instrument = f .instrument; side-named = h .sides p l; total = f .total; remains = f .remains; marked = h .book .marked (orderAt s p) k }
+
+  orders-in : ordersSound m ≡ true
+  unfolding ordersSound
+  orders-in = records-in (partOf m ordersWord 2048) (rosterOf m) (tradingOf m) 0 (wordAt m countWord) (λ q a b. all-fit q (omega arith))
+
+  pub held-count : wordAt m countWord ≤ 256
+  unfolding view bookOf
+  held-count = omega (arith, open-count m, h .book .count)
+
+  pub sound-in : soundDesk m ≡ true
+  unfolding view bookOf derivatives
+  sound-in =
+      each-in m
+      (record {
+        long = h .long;
+        kind = h .kind;
+        count = held-count;
+        ids = ascend-in (h .book .ids);
+        roster = roster-in m (h .book .roster);
+        lines = figures-in m (h .figures);
+        orders = orders-in;
+        positions = positions-in m (h .book .bounded);
+      })

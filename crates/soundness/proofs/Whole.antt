@@ -1,0 +1,59 @@
+-- Question 5, as the code asks it.
+use Prim.Native.Nat.{ℕ, _≤_, _<_}
+use mathlib.Core.Path.{_≡_, refl}
+use mathlib.Core.Logic.{_≢_}
+use mathlib.Core.Bool.{Bool, true, false, _&&_}
+use mathlib.Core.List.{List}
+use lib.Dec.{leb, eqb}
+use lib.ListN.{length}
+use borrow.Author.Tests.{le-leb, lt-leb, eq-eqb, ne-eqb}
+use Rattle.words.specs.Words.{wordAt}
+use Rattle.layout.specs.Layout.{kindWord, countWord}
+use Rattle.layout.specs.Rosters.{longEnough}
+use Rattle.layout.specs.View.{openOrders}
+use Rattle.soundness.specs.Soundness.{ascend, holds, rosterSound, linesSound, ordersSound, positionsSound, sound, soundDesk}
+
+-- the tests in the code's order; a no refuses whatever the others say
+in-order : (l k c i r n o p : Bool) → (l && (k && c && i) && (r && n && o && p)) ≡ (l && (k && (c && (r && (n && (i && o && p))))))
+in-order false k c i r n o p = refl
+in-order true false c i r n o p = refl
+in-order true true false i r n o p = refl
+in-order true true true false false n o p = refl
+in-order true true true false true false o p = refl
+in-order true true true false true true o p = refl
+in-order true true true true false n o p = refl
+in-order true true true true true false o p = refl
+in-order true true true true true true o p = refl
+
+module _ (m : List ℕ) where
+  asked : soundDesk m ≡ (longEnough m && (eqb (wordAt m kindWord) 1 && (leb (wordAt m countWord) 256 && (rosterSound m && (linesSound m && (ascend 0 (openOrders m) && ordersSound m && positionsSound m))))))
+  unfolding soundDesk holds sound
+  asked = in-order (longEnough m) (eqb (wordAt m kindWord) 1) (leb (wordAt m countWord) 256) (ascend 0 (openOrders m)) (rosterSound m) (linesSound m) (ordersSound m) (positionsSound m)
+
+  pub too-short : length m < 65536 → false ≡ soundDesk m
+  unfolding longEnough
+  too-short h = rw (asked, lt-leb 65536 (length m) h)
+
+  module _ (long : 65536 ≤ length m) where
+    pub other-kind : wordAt m kindWord ≢ 1 → false ≡ soundDesk m
+    unfolding longEnough
+    other-kind h = rw (asked, le-leb 65536 (length m) long, ne-eqb (wordAt m kindWord) 1 h)
+
+    module _ (kind : wordAt m kindWord ≡ 1) where
+      pub too-many : 256 < wordAt m countWord → false ≡ soundDesk m
+      unfolding longEnough
+      too-many h = rw (asked, le-leb 65536 (length m) long, eq-eqb (wordAt m kindWord) 1 kind, lt-leb (wordAt m countWord) 256 h)
+
+      module _ (count : wordAt m countWord ≤ 256) where
+        rest : soundDesk m ≡ (rosterSound m && (linesSound m && (ascend 0 (openOrders m) && ordersSound m && positionsSound m)))
+        unfolding longEnough
+        rest = rw (asked, le-leb 65536 (length m) long, eq-eqb (wordAt m kindWord) 1 kind, le-leb (wordAt m countWord) 256 count)
+
+        pub no-roster : rosterSound m ≡ false → false ≡ soundDesk m
+        no-roster h = rw (rest, h)
+
+        pub no-lines : rosterSound m ≡ true → linesSound m ≡ false → false ≡ soundDesk m
+        no-lines e h = rw (rest, e, h)
+
+        pub the-rest : rosterSound m ≡ true → linesSound m ≡ true → (t : Bool) → t ≡ (ascend 0 (openOrders m) && ordersSound m && positionsSound m) → t ≡ soundDesk m
+        the-rest e f t h = rw (rest, e, f) h

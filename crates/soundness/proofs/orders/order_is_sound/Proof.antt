@@ -1,0 +1,103 @@
+use Prim.Native.Nat.{_≤_}
+use mathlib.Core.Path.{_≡_, _∙_}
+use mathlib.Core.Bool.{true, false}
+use native.Mathlib.Omega.{arith}
+use borrow.Author.Needs.{needs}
+use borrow.Author.Tests.{le-leb, lt-leb}
+use lib.Dec.{leb}
+use Rattle.ledger.specs.Orders.{remaining}
+use Rattle.book.specs.Decoding.{between}
+use Rattle.book.proofs.Tables.{between-numbered}
+use Rattle.layout.specs.View.{rosterOf, tradingOf}
+use Rattle.soundness.specs.Soundness.{orderSound}
+use Rattle.soundness.proofs.Asked.{said-no, said-yes}
+use Rattle.soundness.proofs.orders.order_is_sound.Statement.{statement}
+use Rattle.soundness.proofs.orders.order_is_sound.Tie as tie
+
+-- what each call says of the order
+account : (c : tie.After-between) → let a = c .before .before .before .args in c .between .result ≡ between 1 (rosterOf (a .m .now) .accounts) (a .o .account)
+account c = c .between .ensures ∙ rw (c .before .accounts .ensures)
+
+instrument : (c : tie.After-between2) → let a = c .before .before .before .before .before .before .args in c .between2 .result ≡ between 1 (rosterOf (a .m .now) .instruments) (a .o .instrument)
+instrument c = c .between2 .ensures ∙ rw (c .before .instruments .ensures)
+
+on-roster : (c : tie.Else1) → let a = c .before .before .before .before .args in between 1 (rosterOf (a .m .now) .accounts) (a .o .account) ≡ true
+on-roster c = said-yes _ _ (account (c .before)) (c .if1 .left)
+
+listed : (c : tie.Else2) → let a = c .before .before .before .before .before .before .before .args in between 1 (rosterOf (a .m .now) .instruments) (a .o .instrument) ≡ true
+listed c = said-yes _ _ (instrument (c .before)) (c .if2 .left)
+
+numbered : (c : tie.Else5) → let s = c .before .before .before .before .before .before .before .before .before .before .before .before .before in s .args .o .account ≤ 16
+numbered c =
+    let one = c .before .before .before .before .before .before .before .before .before in
+    let s = one .before .before .before .before in
+    let n = between-numbered (rosterOf (s .args .m .now) .accounts) (s .args .o .account) (on-roster one) in
+    omega (arith, s .pre .accounts)
+
+returns : tie.Need-returns
+unfolding orderSound
+returns c = rw (said-no _ _ (account (c .before)) (c .if1 .taken))
+
+returns-2 : tie.Need-returns-2
+unfolding orderSound
+returns-2 c =
+    let one = c .before .before .before in
+    rw (on-roster one, said-no _ _ (instrument (c .before)) (c .if2 .taken))
+
+returns-3 : tie.Need-returns-3
+unfolding orderSound
+returns-3 c =
+    let two = c .before .before in
+    let one = two .before .before .before in
+    rw (on-roster one, listed two, said-no _ _ (c .before .between3 .ensures) (c .if3 .taken))
+
+returns-4 : tie.Need-returns-4
+unfolding orderSound
+returns-4 c =
+    let three = c .before .before in
+    let two = three .before .before in
+    let one = two .before .before .before in
+    rw (on-roster one, listed two, said-yes _ _ (three .before .between3 .ensures) (three .if3 .left), said-no _ _ (c .before .between4 .ensures) (c .if4 .taken))
+
+returns-5 : tie.Need-returns-5
+unfolding orderSound
+returns-5 c =
+    let four = c .before .before in
+    let three = four .before .before in
+    let two = three .before .before in
+    let one = two .before .before .before in
+    let o = one .before .before .before .before .args .o in
+    let none : leb 1 (remaining o) ≡ false = lt-leb 1 (remaining o) (omega (arith, c .before .remaining .ensures)) in
+    rw (on-roster one, listed two, said-yes _ _ (three .before .between3 .ensures) (three .if3 .left), said-yes _ _ (four .before .between4 .ensures) (four .if4 .left), none)
+
+returns-6 : tie.Need-returns-6
+unfolding orderSound tradingOf
+returns-6 c =
+    let five = c .before in
+    let four = five .before .before in
+    let three = four .before .before in
+    let two = three .before .before in
+    let one = two .before .before .before in
+    let o = one .before .before .before .before .args .o in
+    let some : leb 1 (remaining o) ≡ true = le-leb 1 (remaining o) (omega (arith, five .before .remaining .ensures)) in
+    rw (on-roster one, listed two, said-yes _ _ (three .before .between3 .ensures) (three .if3 .left), said-yes _ _ (four .before .between4 .ensures) (four .if4 .left), some, c .word .ensures)
+
+pub order-is-sound-spec : {M : Type 1} → statement M
+order-is-sound-spec =
+    tie.close
+    (tie.spec
+    (λ c κs. search needs)
+    (λ c κs. search needs)
+    returns
+    (λ c κs. search needs)
+    (λ c κs. search needs)
+    returns-2
+    (λ c κs. search needs)
+    returns-3
+    (λ c κs. search needs)
+    returns-4
+    (λ c κs. search needs)
+    returns-5
+    (λ c. omega (arith, numbered c))
+    (λ c κs. omega (arith, numbered c))
+    returns-6)

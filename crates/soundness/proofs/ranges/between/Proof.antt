@@ -1,0 +1,12 @@
+use Rattle.soundness.proofs.Asked.{below-range, above-low}
+use Rattle.soundness.proofs.ranges.between.Statement.{statement}
+use Rattle.soundness.proofs.ranges.between.Tie as tie
+
+returns : tie.Need-returns
+returns c = below-range _ _ _ (c .if1 .taken)
+
+returns-2 : tie.Need-returns-2
+returns-2 c = above-low _ _ _ (c .if1 .left)
+
+pub between-spec : {M : Type 1} → statement M
+between-spec = tie.close (tie.spec returns returns-2)

@@ -1,0 +1,3 @@
+pub mod Soundness
+pub mod Cells
+pub mod Held

@@ -1,0 +1,100 @@
+-- Question 5: is the lent memory long enough, and does it hold a sound desk? Two definitions, each computed: what this layout
+-- asks (`holds`), and document 01's list, sentence by sentence (`sound`).
+use Prim.Native.Nat.{ℕ, zero, suc, _+_, _*_}
+use mathlib.Core.Bool.{Bool, true, _&&_}
+use mathlib.Core.List.{List, [], _∷_}
+use lib.Dec.{leb, ltb, eqb}
+use lib.IntN.{pos}
+use lib.Signed.{leZ}
+use Rattle.words.specs.Words.{wordAt, partOf}
+use Rattle.ledger.specs.declared.order.Order.{Order}
+use Rattle.ledger.specs.Orders.{remaining}
+use Rattle.ledger.specs.Records.{orderAt}
+use Rattle.ledger.specs.Roster.{Roster}
+use Rattle.ledger.specs.Positions.{Way, long, short, ofInstrument}
+use Rattle.limits.specs.Lines.{Line, GroupLine}
+use Rattle.book.specs.Decoding.{between}
+use Rattle.book.specs.Market.{derivatives}
+use Rattle.layout.specs.Layout.{kindWord, countWord, ordersWord, ownRow, defaultRow, groupRow}
+use Rattle.layout.specs.Rosters.{every, sizesFit, namesFit, weightsFit, longEnough}
+use Rattle.layout.specs.View.{rosterOf, balancesOf, openOrders, tradingOf, lineAt, groupLineAt}
+
+-- ids above `least`, strictly ascending: from 0 on they are non-zero and differ
+unfoldable pub ascend : ℕ → List Order → Bool
+ascend least [] = true
+ascend least (o ∷ os) = ltb least (o .id) && ascend (o .id) os
+
+-- every figure of a line is from 0 to 1,000,000,000, whether the line is set or not
+unfoldable pub lineInRange : Line → Bool
+lineInRange l = leb (l .tci) 1000000000 && leb (l .tvi) 1000000000 && leb (l .lci) 1000000000 && leb (l .lvi) 1000000000
+
+unfoldable pub groupLineInRange : GroupLine → Bool
+groupLineInRange l = leb (l .lcc) 1000000000 && leb (l .lvc) 1000000000
+
+-- the layout's own conditions: the kind of desk, the count of orders, ids ascending
+unfoldable pub holds : List ℕ → Bool
+holds m = eqb (wordAt m kindWord) 1 && leb (wordAt m countWord) 256 && ascend 0 (openOrders m)
+
+-- its roster would be accepted
+unfoldable pub rosterSound : List ℕ → Bool
+rosterSound m = sizesFit (rosterOf m) && namesFit (rosterOf m) && weightsFit (rosterOf m)
+
+-- the lines of account a
+unfoldable pub accountLinesSound : List ℕ → ℕ → Bool
+accountLinesSound m a =
+    every (rosterOf m .instruments) (λ i. lineInRange (lineAt m (ownRow a + i * 4)))
+    && every (rosterOf m .contracts) (λ c. lineInRange (lineAt m (defaultRow a + c * 4)))
+    && every (rosterOf m .groups) (λ g. groupLineInRange (groupLineAt m (groupRow a + g * 2)))
+
+-- its lines are in range
+unfoldable pub linesSound : List ℕ → Bool
+linesSound m = every (rosterOf m .accounts) (accountLinesSound m)
+
+-- an order is in range: account and instrument on the roster, side 1 or 2, total 1 to 1,000,000; its remaining is at least
+-- 1, and its account is marked as trading
+unfoldable pub orderSound : Roster → (ℕ → Bool) → ℕ → Order → Bool
+orderSound r trading side o =
+    between 1 (r .accounts) (o .account)
+    && between 1 (r .instruments) (o .instrument)
+    && between 1 2 side
+    && between 1 1000000 (o .total)
+    && leb 1 (remaining o)
+    && trading (o .account)
+
+-- each of the n records from record p on
+unfoldable pub recordsSound : Roster → (ℕ → Bool) → List ℕ → ℕ → ℕ → Bool
+recordsSound r trading m p zero = true
+recordsSound r trading m p (suc n) =
+    orderSound r trading (wordAt m (p * 8 + 3)) (orderAt m p) && recordsSound r trading m (p + 1) n
+
+-- its orders are in range
+unfoldable pub ordersSound : List ℕ → Bool
+ordersSound m =
+    recordsSound (rosterOf m) (tradingOf m) (partOf m ordersWord 2048) 0 (wordAt m countWord)
+
+-- S + B (long) and −S + V (short) are at most 1,000,000,000
+unfoldable pub positionSound : List ℕ → ℕ → ℕ → Way → Bool
+positionSound m a i w =
+    leZ (ofInstrument (derivatives .unit) (openOrders m) a (balancesOf m a) i w) (pos 1000000000)
+
+-- both of account a and instrument i
+unfoldable pub placeSound : List ℕ → ℕ → ℕ → Bool
+placeSound m a i = positionSound m a i long && positionSound m a i short
+
+unfoldable pub accountSound : List ℕ → ℕ → Bool
+accountSound m a = every (rosterOf m .instruments) (placeSound m a)
+
+unfoldable pub positionsSound : List ℕ → Bool
+positionsSound m = every (rosterOf m .accounts) (accountSound m)
+
+-- document 01's list. B and V are what the orders say, so that they equal the orders' sums is no condition.
+unfoldable pub sound : List ℕ → Bool
+sound m =
+    rosterSound m
+    && linesSound m
+    && ordersSound m
+    && positionsSound m
+
+-- 5
+unfoldable pub soundDesk : List ℕ → Bool
+soundDesk m = longEnough m && holds m && sound m

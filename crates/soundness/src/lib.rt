@@ -1,0 +1,32 @@
+// Question 5: is the lent memory long enough, and does it hold a sound desk?
+pub mod lines;
+pub mod orders;
+pub mod positions;
+pub mod ranges;
+pub mod roster;
+
+ghost use mathlib.Core.Path.{_≡_};
+ghost use Rattle.soundness.specs.Soundness.{soundDesk};
+use words::word;
+
+// Does the memory hold a sound desk? One pass over each region.
+pub fn is_sound(m: &[u8]) -> bool
+    ensures { λ r. ⌜ r ≡ soundDesk (now (m .entry)) ⌝ }
+{
+    if m.len() < 65536 {
+        return false;
+    }
+    if word(m, 0) != 1 {
+        return false;
+    }
+    if word(m, 112) > 256 {
+        return false;
+    }
+    if !roster::roster_is_sound(m) {
+        return false;
+    }
+    if !lines::lines_are_sound(m) {
+        return false;
+    }
+    positions::orders_and_positions(m)
+}

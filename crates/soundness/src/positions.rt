@@ -1,0 +1,68 @@
+// The positions that a memory holds: S + B and −S + V of each account and instrument, by the gathered cells.
+ghost use mathlib.Core.Path.{_≡_};
+ghost use mathlib.Core.Bool.{_&&_};
+ghost use Prim.Native.Nat.{_≤_};
+ghost use Rattle.words.specs.Words.{wordAt};
+ghost use Rattle.ledger.specs.Roster.{Numbered};
+ghost use Rattle.layout.specs.Layout.{countWord};
+ghost use Rattle.layout.specs.View.{rosterOf, openOrders};
+ghost use Rattle.soundness.specs.Soundness.{ascend, ordersSound, placeSound, accountSound, positionsSound};
+ghost use Rattle.soundness.specs.Cells.{Readable, Gathered};
+use crate::orders::gather;
+use crate::roster::accounts;
+use crate::roster::instruments;
+use words::signed_word;
+
+// Of account `a` and instrument `i`. No sum with the balance, which may be any word, is computed.
+fn place_is_sound(m: &[u8], cells: &[u64; 1057], a: usize, i: usize) -> bool
+    requires { ⌜ Readable (now m) × Gathered (now cells) (openOrders (now m)) × Numbered (rosterOf (now m) .accounts) a × Numbered (rosterOf (now m) .instruments) i ⌝ }
+    ensures { λ r. ⌜ r ≡ placeSound (now (m .entry)) a i ⌝ }
+{
+    let s = signed_word(m, 223 + a * 32 + i);
+    let b = cells[a * 32 + i] as i64;
+    let v = cells[512 + a * 32 + i] as i64;
+    if s > 1000000000 - b {
+        return false;
+    }
+    v - 1000000000 <= s
+}
+
+// Of account `a` and each instrument.
+fn account_is_sound(m: &[u8], cells: &[u64; 1057], a: usize) -> bool
+    requires { ⌜ Readable (now m) × Gathered (now cells) (openOrders (now m)) × Numbered (rosterOf (now m) .accounts) a ⌝ }
+    ensures { λ r. ⌜ r ≡ accountSound (now (m .entry)) a ⌝ }
+{
+    let n = instruments(m) as usize;
+    for j in 0..n {
+        if !place_is_sound(m, cells, a, j + 1) {
+            return false;
+        }
+    }
+    true
+}
+
+// Of each account and instrument.
+fn positions_are_sound(m: &[u8], cells: &[u64; 1057]) -> bool
+    requires { ⌜ Readable (now m) × Gathered (now cells) (openOrders (now m)) ⌝ }
+    ensures { λ r. ⌜ r ≡ positionsSound (now (m .entry)) ⌝ }
+{
+    let n = accounts(m) as usize;
+    for j in 0..n {
+        if !account_is_sound(m, cells, j + 1) {
+            return false;
+        }
+    }
+    true
+}
+
+// The orders in one pass, then the positions in another.
+pub fn orders_and_positions(m: &[u8]) -> bool
+    requires { ⌜ Readable (now m) × (wordAt (now m) countWord ≤ 256) ⌝ }
+    ensures { λ r. ⌜ r ≡ (ascend 0 (openOrders (now (m .entry))) && ordersSound (now (m .entry)) && positionsSound (now (m .entry))) ⌝ }
+{
+    let mut cells = [0u64; 1057];
+    if !gather(m, &mut cells) {
+        return false;
+    }
+    positions_are_sound(m, &cells)
+}
