@@ -1,8 +1,8 @@
 -- What an answer of 0 says: the event passed every question, each by its name.
 use Prim.Native.Nat.{ℕ}
-use mathlib.Core.Path.{_≡_}
+use mathlib.Core.Path.{_≡_, refl}
 use mathlib.Core.Logic.{_≢_}
-use mathlib.Core.Bool.{Bool, true}
+use mathlib.Core.Bool.{Bool, true, false}
 use mathlib.Core.List.{[], _++_}
 use mathlib.Core.Option.{Option, none, some}
 use native.Mathlib.Omega.{arith}
@@ -19,7 +19,7 @@ use Rattle.limits.proofs.Refusals.{accepted-within}
 use Rattle.book.specs.declared.Event.{Event}
 use Rattle.book.specs.Market.{Market}
 use Rattle.book.specs.Books.{Book, work}
-use Rattle.book.specs.Table.{isEvent, accountKnown, itemKnown, figuresFit, notYetTrading, idOpen, quantityFits, entered, idFree, placeFree, whereSome, questionsBefore, positionsAfter, limitQuestions, answer}
+use Rattle.book.specs.Table.{isEvent, accountKnown, itemKnown, figuresFit, notYetTrading, idOpen, quantityFits, entered, idFree, placeFree, whereSome, questionsBefore, positionsAfter, limitQuestions, questions, answer}
 
 pub record Passed (mk : Market) (r : Roster) (b : Book) (trading : ℕ → Bool) (e : Event) : Type 0 where
   pub event : isEvent e ≡ true
@@ -95,3 +95,12 @@ never-5 mk r b trading e = by (entered b e)
     by : (x : Option Order) → firstNo (questionsBefore mk r b trading e ++ positionsAfter mk r (work (mk .unit) b e) x) ≢ 5
     by none = never-answered 5 (questionsBefore mk r b trading e ++ []) (omega arith) (omega arith)
     by (some o) = never-answered 5 (questionsBefore mk r b trading e ++ positionsAfter mk r (work (mk .unit) b e) (some o)) (omega arith) (omega arith)
+
+-- of a sound desk the whole table answers as the rest of it does; of any other it answers 5
+pub sound-answer : (mk : Market) (r : Roster) (b : Book) (trading : ℕ → Bool) (e : Event) → firstNo (questions mk r true b trading e) ≡ answer mk r b trading e
+unfolding questions answer firstNo
+sound-answer mk r b trading e = refl
+
+pub unsound-answer : (mk : Market) (r : Roster) (b : Book) (trading : ℕ → Bool) (e : Event) → firstNo (questions mk r false b trading e) ≡ 5
+unfolding questions firstNo
+unsound-answer mk r b trading e = refl

@@ -209,6 +209,11 @@ positionsAfter mk r b (some o) =
 unfoldable pub limitQuestions : Market → Roster → Book → Event → List Question
 limitQuestions mk r b e = positionsAfter mk r (work (mk .unit) b e) (entered b e)
 
--- the answer: the number of the first question that is answered no, or 0, an acceptance
+-- the whole table of an event, 5 first: `sound` says whether the memory is long enough and holds a sound desk
+unfoldable pub questions : Market → Roster → Bool → Book → (ℕ → Bool) → Event → List Question
+questions mk r sound b trading e =
+    q 5 sound ∷ (questionsBefore mk r b trading e ++ limitQuestions mk r b e)
+
+-- the answer at a sound desk: the number of the first question that is answered no, or 0, an acceptance
 unfoldable pub answer : Market → Roster → Book → (ℕ → Bool) → Event → ℕ
 answer mk r b trading e = firstNo (questionsBefore mk r b trading e ++ limitQuestions mk r b e)
