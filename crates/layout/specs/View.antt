@@ -26,7 +26,7 @@ rosterOf m =
 abbrev pub flag : List ℕ → ℕ → Bool
 flag m k = not (eqb (wordAt m k) 0)
 
--- the lines that six rows of words hold: figures in four or two words each, and apart from them whether each line is set
+-- the line in the four words from word k on, and the group line in two
 abbrev pub lineAt : List ℕ → ℕ → Line
 lineAt m k =
     record { tci = wordAt m k; tvi = wordAt m (k + 1); lci = wordAt m (k + 2); lvi = wordAt m (k + 3) }
