@@ -8,3 +8,4 @@ pub mod Kept
 pub mod SetAgain
 pub mod Demand3
 pub mod Contract
+pub mod Answers

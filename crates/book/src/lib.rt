@@ -1,4 +1,6 @@
-// Events as plain data: what 48 bytes say. The crate's definitions and laws are in specs/ and proofs/.
+// Events and answers as plain data. The crate's definitions and laws are in specs/ and proofs/.
+ghost use mathlib.Core.Path.{_≡_};
+ghost use Rattle.book.specs.Books.{isMinusOne, unsets};
 use ledger::order::Side;
 
 // The four figures of an instrument's or a contract's line, as an event names them.
@@ -7,6 +9,31 @@ pub struct Figures {
     pub tvi: i64,
     pub lci: i64,
     pub lvi: i64,
+}
+
+// −1: part of a line that is to be set no more.
+pub fn is_minus_one(z: i64) -> bool
+    ensures { λ r. ⌜ r ≡ isMinusOne z ⌝ }
+{
+    z == -1
+}
+
+impl Figures {
+    // −1 throughout: the line is to be set no more.
+    pub fn unsets(self) -> bool
+        ensures { λ r. ⌜ r ≡ unsets self ⌝ }
+    {
+        if !is_minus_one(self.tci) {
+            return false;
+        }
+        if !is_minus_one(self.tvi) {
+            return false;
+        }
+        if !is_minus_one(self.lci) {
+            return false;
+        }
+        is_minus_one(self.lvi)
+    }
 }
 
 // The line that a LIMIT sets, with its figures: levels 1, 2 and 3.
@@ -57,4 +84,29 @@ pub enum Event {
         quantity: i64,
     },
     Junk,
+}
+
+// An acceptance, or the question that is answered no.
+pub enum Answer {
+    Accepted,
+    NoSoundDesk,
+    NoEvent,
+    UnknownAccount,
+    UnknownItem,
+    FigureOutOfRange,
+    AlreadyTrading,
+    OrderNotFound,
+    QuantityOutOfRange,
+    DuplicateOrder,
+    AccountBlocked,
+    InstrumentBlocked,
+    GroupBlocked,
+    NoLimitsConfigured,
+    NoPlaceFree,
+    BuyTooLarge,
+    SellTooLarge,
+    InstrumentTooLong,
+    InstrumentTooShort,
+    GroupTooLong,
+    GroupTooShort,
 }

@@ -6,6 +6,7 @@ pub mod Stored
 pub mod Shifting
 pub mod Ranking
 pub mod Figures
+pub mod LinesInRows
 pub mod BookLists
 pub mod SameFields
 pub mod StoreWords

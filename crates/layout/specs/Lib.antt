@@ -3,3 +3,4 @@ pub mod Rosters
 pub mod View
 pub mod Stores
 pub mod FieldStores
+pub mod Judged

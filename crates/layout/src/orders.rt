@@ -1,4 +1,4 @@
-// The order records of a desk: eight words each from word 4224 on, ascending by id, and their count in word 112.
+// The order records of a desk: eight words each, ascending by id, and their count.
 ghost use mathlib.Core.Path.{_≡_};
 ghost use mathlib.Core.List.{_∷_};
 ghost use Prim.Native.Nat.{_+_, _*_, _-_, _≤_, _<_};
@@ -8,6 +8,8 @@ ghost use Rattle.book.specs.OpenOrders.{insert};
 ghost use Rattle.layout.specs.Layout.{memoryBytes, countWord};
 ghost use Rattle.layout.specs.View.{openOrders};
 ghost use Rattle.layout.specs.Stores.{orderIn, ordersIn, putOrder, putOrders, storeOrders, Records, rank, without};
+use crate::table::COUNT;
+use crate::table::ORDERS;
 use ledger::order::Order;
 use ledger::records::load;
 use ledger::records::number_of;
@@ -20,7 +22,7 @@ pub fn load_order(m: &[u8], p: usize) -> Order
     requires { ⌜ (memoryBytes ≤ length (now m)) × (p < 256) ⌝ }
     ensures { λ r. ⌜ r ≡ orderIn (now (m .entry)) p ⌝ }
 {
-    load(part(m, 4224, 2048), p)
+    load(part(m, ORDERS, 2048), p)
 }
 
 // Makes `o` the order in record `p`. The two spare words of the record are left alone.
@@ -28,7 +30,7 @@ pub fn put_order(m: &mut [u8], p: usize, o: Order)
     requires { ⌜ (memoryBytes ≤ length (now m)) × (p < 256) ⌝ }
     ensures { λ r. ⌜ now (m .exit) ≡ putOrder (now (m .entry)) p o ⌝ }
 {
-    let k = 4224 + p * 8;
+    let k = ORDERS + p * 8;
     let side = o.side;
     set_word(m, k, o.id);
     set_word(m, k + 1, o.account);
@@ -45,7 +47,7 @@ fn place(m: &[u8], n: usize, id: u64) -> usize
 {
     let mut p = 0;
     while p < n {
-        if id < word(m, 4224 + p * 8) {
+        if id < word(m, ORDERS + p * 8) {
             return p;
         }
         p += 1;
@@ -83,10 +85,10 @@ pub fn insert_order(m: &mut [u8], o: Order)
     requires { ⌜ Records (now m) × (wordAt (now m) countWord < 256) ⌝ }
     ensures { λ r. ⌜ now (m .exit) ≡ storeOrders (now (m .entry)) (insert o (openOrders (now (m .entry)))) ⌝ }
 {
-    let n = word(m, 112) as usize;
+    let n = word(m, COUNT) as usize;
     let p = place(m, n, o.id);
     open_up(m, p, n, o);
-    set_word(m, 112, (n + 1) as u64);
+    set_word(m, COUNT, (n + 1) as u64);
 }
 
 // The order at place `p` leaves.
@@ -94,9 +96,9 @@ pub fn remove_order(m: &mut [u8], p: usize)
     requires { ⌜ Records (now m) × (p < wordAt (now m) countWord) ⌝ }
     ensures { λ r. ⌜ now (m .exit) ≡ storeOrders (now (m .entry)) (without p (openOrders (now (m .entry)))) ⌝ }
 {
-    let n = word(m, 112) as usize;
+    let n = word(m, COUNT) as usize;
     close_up(m, p, n);
-    set_word(m, 112, (n - 1) as u64);
+    set_word(m, COUNT, (n - 1) as u64);
 }
 
 // The order at place `p` becomes `o`.

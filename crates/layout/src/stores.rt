@@ -5,6 +5,17 @@ ghost use Prim.Native.Nat.{_+_, _*_, _≤_};
 ghost use lib.ListN.{length};
 ghost use Rattle.layout.specs.Layout.{memoryBytes};
 ghost use Rattle.layout.specs.FieldStores.{bit, storeBalance, storeMark, blockAccount, blockInstrument, blockGroup, storeLine, storeOwn, storeDefault, storeOfGroup, lineWith, groupLineWith};
+use crate::table::ACCOUNT_BLOCKS;
+use crate::table::BALANCES;
+use crate::table::DEFAULT_LINES;
+use crate::table::DEFAULT_SET;
+use crate::table::GROUP_BLOCKS;
+use crate::table::GROUP_LINES;
+use crate::table::GROUP_SET;
+use crate::table::INSTRUMENT_BLOCKS;
+use crate::table::MARKS;
+use crate::table::OWN_LINES;
+use crate::table::OWN_SET;
 use words::set_signed_word;
 use words::set_word;
 
@@ -13,7 +24,7 @@ pub fn set_balance(m: &mut [u8], a: usize, i: usize, z: i64)
     requires { ⌜ (memoryBytes ≤ length (now m)) × (a ≤ 16) × (i ≤ 32) ⌝ }
     ensures { λ r. ⌜ now (m .exit) ≡ storeBalance (now (m .entry)) a i z ⌝ }
 {
-    set_signed_word(m, 223 + a * 32 + i, z);
+    set_signed_word(m, BALANCES + a * 32 + i, z);
 }
 
 // The account is marked as trading.
@@ -21,7 +32,7 @@ pub fn set_mark(m: &mut [u8], a: usize)
     requires { ⌜ (memoryBytes ≤ length (now m)) × (a ≤ 16) ⌝ }
     ensures { λ r. ⌜ now (m .exit) ≡ storeMark (now (m .entry)) a ⌝ }
 {
-    set_word(m, 127 + a, 1);
+    set_word(m, MARKS + a, 1);
 }
 
 // The word of a yes or no.
@@ -36,7 +47,7 @@ pub fn block_account(m: &mut [u8], a: usize, on: bool)
     requires { ⌜ (memoryBytes ≤ length (now m)) × (a ≤ 16) ⌝ }
     ensures { λ r. ⌜ now (m .exit) ≡ blockAccount (now (m .entry)) a on ⌝ }
 {
-    set_word(m, 143 + a, bit_of(on));
+    set_word(m, ACCOUNT_BLOCKS + a, bit_of(on));
 }
 
 // Blocks an instrument for all, or lifts its block.
@@ -44,7 +55,7 @@ pub fn block_instrument(m: &mut [u8], i: usize, on: bool)
     requires { ⌜ (memoryBytes ≤ length (now m)) × (i ≤ 32) ⌝ }
     ensures { λ r. ⌜ now (m .exit) ≡ blockInstrument (now (m .entry)) i on ⌝ }
 {
-    set_word(m, 159 + i, bit_of(on));
+    set_word(m, INSTRUMENT_BLOCKS + i, bit_of(on));
 }
 
 // Blocks a group for an account, or lifts its block.
@@ -52,7 +63,7 @@ pub fn block_group(m: &mut [u8], a: usize, g: usize, on: bool)
     requires { ⌜ (memoryBytes ≤ length (now m)) × (a ≤ 16) × (g ≤ 4) ⌝ }
     ensures { λ r. ⌜ now (m .exit) ≡ blockGroup (now (m .entry)) a g on ⌝ }
 {
-    set_word(m, 187 + a * 4 + g, bit_of(on));
+    set_word(m, GROUP_BLOCKS + a * 4 + g, bit_of(on));
 }
 
 // Sets the line whose figures stand from word `k` on, and whether it is set in word `s`.
@@ -74,8 +85,8 @@ pub fn set_own(m: &mut [u8], a: usize, i: usize, tci: u64, tvi: u64, lci: u64, l
 {
     put_line(
         m,
-        735 + a * 32 + i,
-        1404 + a * 128 + i * 4,
+        OWN_SET + a * 32 + i,
+        OWN_LINES + a * 128 + i * 4,
         tci,
         tvi,
         lci,
@@ -88,7 +99,7 @@ pub fn unset_own(m: &mut [u8], a: usize, i: usize)
     requires { ⌜ (memoryBytes ≤ length (now m)) × (a ≤ 16) × (i ≤ 32) ⌝ }
     ensures { λ r. ⌜ now (m .exit) ≡ storeOwn (now (m .entry)) a i none ⌝ }
 {
-    set_word(m, 735 + a * 32 + i, 0);
+    set_word(m, OWN_SET + a * 32 + i, 0);
 }
 
 // Sets a contract's default line.
@@ -98,8 +109,8 @@ pub fn set_default(m: &mut [u8], a: usize, c: usize, tci: u64, tvi: u64, lci: u6
 {
     put_line(
         m,
-        1271 + a * 8 + c,
-        3548 + a * 32 + c * 4,
+        DEFAULT_SET + a * 8 + c,
+        DEFAULT_LINES + a * 32 + c * 4,
         tci,
         tvi,
         lci,
@@ -112,7 +123,7 @@ pub fn unset_default(m: &mut [u8], a: usize, c: usize)
     requires { ⌜ (memoryBytes ≤ length (now m)) × (a ≤ 16) × (c ≤ 8) ⌝ }
     ensures { λ r. ⌜ now (m .exit) ≡ storeDefault (now (m .entry)) a c none ⌝ }
 {
-    set_word(m, 1271 + a * 8 + c, 0);
+    set_word(m, DEFAULT_SET + a * 8 + c, 0);
 }
 
 // Sets a group's line.
@@ -120,10 +131,10 @@ pub fn set_of_group(m: &mut [u8], a: usize, g: usize, lcc: u64, lvc: u64)
     requires { ⌜ (memoryBytes ≤ length (now m)) × (a ≤ 16) × (g ≤ 4) ⌝ }
     ensures { λ r. ⌜ now (m .exit) ≡ storeOfGroup (now (m .entry)) a g (some (groupLineWith lcc lvc)) ⌝ }
 {
-    let k = 4086 + a * 8 + g * 2;
+    let k = GROUP_LINES + a * 8 + g * 2;
     set_word(m, k, lcc);
     set_word(m, k + 1, lvc);
-    set_word(m, 1403 + a * 4 + g, 1);
+    set_word(m, GROUP_SET + a * 4 + g, 1);
 }
 
 // A group's line is set no more.
@@ -131,5 +142,5 @@ pub fn unset_of_group(m: &mut [u8], a: usize, g: usize)
     requires { ⌜ (memoryBytes ≤ length (now m)) × (a ≤ 16) × (g ≤ 4) ⌝ }
     ensures { λ r. ⌜ now (m .exit) ≡ storeOfGroup (now (m .entry)) a g none ⌝ }
 {
-    set_word(m, 1403 + a * 4 + g, 0);
+    set_word(m, GROUP_SET + a * 4 + g, 0);
 }

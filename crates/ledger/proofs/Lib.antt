@@ -3,6 +3,7 @@ pub mod Search
 pub mod Counting
 mod Gathering
 pub mod Weighing
+pub mod Agreement
 pub mod Ways
 pub mod Amounts
 pub mod Sums

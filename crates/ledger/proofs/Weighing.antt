@@ -35,7 +35,7 @@ unfolding groupPart
 part-other w (pos n) p h = absurd (omega signed)
 part-other w (negsuc n) p h = refl
 
-part-same : (w : Way) (k : ℤ) (p q : Way → ℤ) → ((v : Way) → p v ≡ q v) → groupPart w k p ≡ groupPart w k q
+pub part-same : (w : Way) (k : ℤ) (p q : Way → ℤ) → ((v : Way) → p v ≡ q v) → groupPart w k p ≡ groupPart w k q
 unfolding groupPart
 part-same w (pos n) p q same = rw (same w)
 part-same w (negsuc n) p q same = rw (same (opposite w))

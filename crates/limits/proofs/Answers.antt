@@ -71,6 +71,14 @@ append-first (q ∷ xs) ys = by (q .passes) (append-first xs ys)
 pub append-passed : (xs ys : List Question) → allPass xs ≡ true → firstNo (xs ++ ys) ≡ firstNo ys
 append-passed xs ys e = rw (append-first xs ys, e)
 
+-- where the first list refuses, it answers
+pub append-refused : (xs ys : List Question) → firstNo xs ≢ 0 → firstNo (xs ++ ys) ≡ firstNo xs
+append-refused xs ys refused = append-first xs ys ∙ by (allPass xs) (λ e. refused (pass-zero xs e))
+  where
+    by : (t : Bool) → (t ≡ true → ⊥) → cond t (firstNo ys) (firstNo xs) ≡ firstNo xs
+    by true never = absurd (never refl)
+    by false never = refl
+
 -- an answer of 0 passes both
 pub append-zero : (xs ys : List Question) → Counted xs → firstNo (xs ++ ys) ≡ 0 → (allPass xs ≡ true) × (firstNo ys ≡ 0)
 append-zero xs ys c e = by (allPass xs) refl (sym (append-first xs ys) ∙ e)

@@ -1,4 +1,5 @@
 pub mod LinesRead
+pub mod Agreement
 pub mod Raising
 pub mod InOrder
 mod Room

@@ -75,15 +75,15 @@ module _ (own default : List ℕ) (set i c : ℕ) where
         by true = length-part own (i * 4) 4 (omega arith)
         by false = length-part default (c * 4) 4 (omega arith)
 
-    -- its figures are small where all of the account's are
-    pub small-in-force : ((k : ℕ) → wordAt own k ≤ 100000000000) → ((k : ℕ) → wordAt default k ≤ 100000000000) → LineBounds (linePart own default set i c)
+    -- its figures are small where those of both lines are
+    pub small-in-force : ((k : ℕ) → k < 4 → wordAt own (i * 4 + k) ≤ 100000000000) → ((k : ℕ) → k < 4 → wordAt default (c * 4 + k) ≤ 100000000000) → LineBounds (linePart own default set i c)
     unfolding linePart
     small-in-force own-small default-small =
         record { long = omega (arith, length-in-force); small = λ k h. by k h (saysSet set) }
       where
         by : (k : ℕ) → k < 4 → (t : Bool) → wordAt (cond t (partOf own (i * 4) 4) (partOf default (c * 4) 4)) k ≤ 100000000000
-        by k h true = rw (word-part own (i * 4) 4 k h) (own-small (i * 4 + k))
-        by k h false = rw (word-part default (c * 4) 4 k h) (default-small (c * 4 + k))
+        by k h true = rw (word-part own (i * 4) 4 k h) (own-small k h)
+        by k h false = rw (word-part default (c * 4) 4 k h) (default-small k h)
 
 -- ---- which lines are set
 set-by-word : {A : Type 0} (w : ℕ) (l : A) → isSet (whereSet w l) ≡ saysSet w

@@ -10,6 +10,8 @@ use crate::questions::names_fit;
 use crate::questions::weights_fit;
 use crate::writing::clear;
 use crate::writing::put_roster;
+use layout::table::KIND;
+use layout::table::MEMORY_BYTES;
 use words::set_word;
 
 // The answers to an opening: an acceptance, or the first question that is answered no.
@@ -26,7 +28,7 @@ pub fn open_desk(m: &mut [u8], roster: &[u8]) -> Opening
     ensures answer { λ r. ⌜ numberOf r ≡ openingAnswer (now (m .entry)) (now (roster .entry)) ⌝ }
     ensures memory { λ r. ⌜ now (m .exit) ≡ afterOpening (now (m .entry)) (now (roster .entry)) ⌝ }
 {
-    if m.len() < 65536 {
+    if m.len() < MEMORY_BYTES {
         return Opening::MemoryTooShort;
     }
     if !lengths_fit(roster) {
@@ -39,7 +41,7 @@ pub fn open_desk(m: &mut [u8], roster: &[u8]) -> Opening
         return Opening::WeightOutOfRange;
     }
     clear(m);
-    set_word(m, 0, 1);
+    set_word(m, KIND, 1);
     put_roster(m, roster);
     Opening::Opened
 }

@@ -6,6 +6,14 @@ ghost use lib.ListN.{length};
 ghost use Rattle.layout.specs.Layout.{memoryBytes, memoryWords};
 ghost use Rattle.opening.specs.Questions.{rosterFrom, lengthsFit};
 ghost use Rattle.opening.specs.Opening.{cleared, bytesWritten, weightsWritten, withSizes, withRoster};
+use layout::table::ACCOUNTS;
+use layout::table::CONTRACTS;
+use layout::table::CONTRACTS_OF;
+use layout::table::GROUPS;
+use layout::table::GROUPS_OF;
+use layout::table::INSTRUMENTS;
+use layout::table::MEMORY_WORDS;
+use layout::table::WEIGHTS;
 use words::fields::i32_at;
 use words::fields::u8_at;
 use words::fields::u16_at;
@@ -17,7 +25,7 @@ pub fn clear(m: &mut [u8])
     requires { ⌜ memoryBytes ≤ length (now m) ⌝ }
     ensures { λ r. ⌜ now (m .exit) ≡ cleared (now (m .entry)) memoryWords ⌝ }
 {
-    for k in 0..8192 {
+    for k in 0..MEMORY_WORDS {
         set_word(m, k, 0);
     }
 }
@@ -51,10 +59,10 @@ fn put_sizes(m: &mut [u8], s: &[u8])
     requires { ⌜ (memoryBytes ≤ length (now m)) × (8 ≤ length (now s)) ⌝ }
     ensures { λ r. ⌜ now (m .exit) ≡ withSizes (now (m .entry)) (rosterFrom (now (s .entry))) ⌝ }
 {
-    set_word(m, 1, u16_at(s, 0) as u64);
-    set_word(m, 2, u16_at(s, 2) as u64);
-    set_word(m, 3, u16_at(s, 4) as u64);
-    set_word(m, 4, u16_at(s, 6) as u64);
+    set_word(m, ACCOUNTS, u16_at(s, 0) as u64);
+    set_word(m, GROUPS, u16_at(s, 2) as u64);
+    set_word(m, CONTRACTS, u16_at(s, 4) as u64);
+    set_word(m, INSTRUMENTS, u16_at(s, 6) as u64);
 }
 
 // Writes the roster that the bytes `s` say.
@@ -65,7 +73,7 @@ pub fn put_roster(m: &mut [u8], s: &[u8])
     let contracts = u16_at(s, 4) as usize;
     let instruments = u16_at(s, 6) as usize;
     put_sizes(m, s);
-    put_bytes(m, 4, s, 7, contracts);
-    put_bytes(m, 12, s, 7 + contracts, instruments);
-    put_weights(m, 44, s, 4 + contracts + instruments, instruments);
+    put_bytes(m, GROUPS_OF, s, 7, contracts);
+    put_bytes(m, CONTRACTS_OF, s, 7 + contracts, instruments);
+    put_weights(m, WEIGHTS, s, 4 + contracts + instruments, instruments);
 }

@@ -36,15 +36,15 @@ signed-part m k n j h = rw (word-part m k n j h)
 
 -- what the roster's words say, where they are on the roster
 module _ (m : List ℕ) where
-  instruments-same : rosterIn (partOf m rosterWord 76) .instruments ≡ rosterOf m .instruments
+  pub instruments-same : rosterIn (partOf m rosterWord 76) .instruments ≡ rosterOf m .instruments
   unfolding rosterOf listed
   instruments-same = refl
 
-  contract-same : (i : ℕ) → Numbered (rosterOf m .instruments) i → rosterOf m .contractOf i ≡ rosterIn (partOf m rosterWord 76) .contractOf i
+  pub contract-same : (i : ℕ) → Numbered (rosterOf m .instruments) i → rosterOf m .contractOf i ≡ rosterIn (partOf m rosterWord 76) .contractOf i
   unfolding rosterIn
   contract-same = contract-word m
 
-  weight-same : (i : ℕ) → Numbered (rosterOf m .instruments) i → rosterOf m .weight i ≡ rosterIn (partOf m rosterWord 76) .weight i
+  pub weight-same : (i : ℕ) → Numbered (rosterOf m .instruments) i → rosterOf m .weight i ≡ rosterIn (partOf m rosterWord 76) .weight i
   unfolding rosterIn
   weight-same = weight-word m
 

@@ -12,3 +12,4 @@ pub mod OrderFacts
 pub mod PositionFacts
 pub mod SoundDesk
 pub mod Bounded
+pub mod Agreement

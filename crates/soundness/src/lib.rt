@@ -7,19 +7,22 @@ pub mod roster;
 
 ghost use mathlib.Core.Path.{_≡_};
 ghost use Rattle.soundness.specs.Soundness.{soundDesk};
+use layout::table::COUNT;
+use layout::table::KIND;
+use layout::table::MEMORY_BYTES;
 use words::word;
 
 // Does the memory hold a sound desk? One pass over each region.
 pub fn is_sound(m: &[u8]) -> bool
     ensures { λ r. ⌜ r ≡ soundDesk (now (m .entry)) ⌝ }
 {
-    if m.len() < 65536 {
+    if m.len() < MEMORY_BYTES {
         return false;
     }
-    if word(m, 0) != 1 {
+    if word(m, KIND) != 1 {
         return false;
     }
-    if word(m, 112) > 256 {
+    if word(m, COUNT) > 256 {
         return false;
     }
     if !roster::roster_is_sound(m) {

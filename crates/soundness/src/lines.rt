@@ -10,6 +10,9 @@ use crate::roster::accounts;
 use crate::roster::contracts;
 use crate::roster::groups;
 use crate::roster::instruments;
+use layout::table::DEFAULT_LINES;
+use layout::table::GROUP_LINES;
+use layout::table::OWN_LINES;
 use words::word;
 
 // The line of four words from word `k` on.
@@ -73,13 +76,13 @@ fn account_lines_are_sound(m: &[u8], a: usize) -> bool
     requires { ⌜ Readable (now m) × (a ≤ 16) ⌝ }
     ensures { λ r. ⌜ r ≡ accountLinesSound (now (m .entry)) a ⌝ }
 {
-    if !row_in_range(m, 1404 + a * 128, instruments(m) as usize) {
+    if !row_in_range(m, OWN_LINES + a * 128, instruments(m) as usize) {
         return false;
     }
-    if !row_in_range(m, 3548 + a * 32, contracts(m) as usize) {
+    if !row_in_range(m, DEFAULT_LINES + a * 32, contracts(m) as usize) {
         return false;
     }
-    group_row_in_range(m, 4086 + a * 8, groups(m) as usize)
+    group_row_in_range(m, GROUP_LINES + a * 8, groups(m) as usize)
 }
 
 // All lines of the roster.

@@ -12,6 +12,9 @@ ghost use Rattle.soundness.specs.Cells.{Readable, cell, added, Empty, Ga
 use crate::ranges::between;
 use crate::roster::accounts;
 use crate::roster::instruments;
+use layout::table::COUNT;
+use layout::table::MARKS;
+use layout::table::ORDERS;
 use ledger::order::Order;
 use ledger::order::Side;
 use ledger::records::load;
@@ -38,7 +41,7 @@ fn order_is_sound(m: &[u8], side: u64, o: Order) -> bool
     if o.remaining() < 1 {
         return false;
     }
-    word(m, 127 + o.account as usize) != 0
+    word(m, MARKS + o.account as usize) != 0
 }
 
 // The cell of a side, account and instrument.
@@ -67,8 +70,8 @@ pub fn gather(m: &[u8], cells: &mut [u64; 1057]) -> bool
     requires { ⌜ Readable (now m) × (wordAt (now m) countWord ≤ 256) × Empty (now cells) ⌝ }
     ensures { λ r. ⌜ (r ≡ (ascend 0 (openOrders (now (m .entry))) && ordersSound (now (m .entry)))) × (r ≡ true → Gathered (now (cells .exit)) (openOrders (now (m .entry)))) ⌝ }
 {
-    let n = word(m, 112) as usize;
-    let orders = part(m, 4224, 2048);
+    let n = word(m, COUNT) as usize;
+    let orders = part(m, ORDERS, 2048);
     let mut last: u64 = 0;
     for p in 0..n {
         let o = load(orders, p);

@@ -11,6 +11,7 @@ ghost use Rattle.soundness.specs.Cells.{Readable, Gathered};
 use crate::orders::gather;
 use crate::roster::accounts;
 use crate::roster::instruments;
+use layout::table::BALANCES;
 use words::signed_word;
 
 // Of account `a` and instrument `i`. No sum with the balance, which may be any word, is computed.
@@ -18,7 +19,7 @@ fn place_is_sound(m: &[u8], cells: &[u64; 1057], a: usize, i: usize) -> bool
     requires { ⌜ Readable (now m) × Gathered (now cells) (openOrders (now m)) × Numbered (rosterOf (now m) .accounts) a × Numbered (rosterOf (now m) .instruments) i ⌝ }
     ensures { λ r. ⌜ r ≡ placeSound (now (m .entry)) a i ⌝ }
 {
-    let s = signed_word(m, 223 + a * 32 + i);
+    let s = signed_word(m, BALANCES + a * 32 + i);
     let b = cells[a * 32 + i] as i64;
     let v = cells[512 + a * 32 + i] as i64;
     if s > 1000000000 - b {

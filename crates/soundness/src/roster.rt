@@ -11,6 +11,7 @@ ghost use Rattle.layout.specs.View.{rosterOf};
 ghost use Rattle.soundness.specs.Soundness.{rosterSound};
 use crate::ranges::between;
 use crate::ranges::is_weight;
+use layout::table::ROSTER;
 use words::part;
 use words::signed_word;
 use words::word;
@@ -20,7 +21,7 @@ pub fn accounts(m: &[u8]) -> u64
     requires { ⌜ 65536 ≤ length (now m) ⌝ }
     ensures { λ r. ⌜ r ≡ rosterOf (now (m .entry)) .accounts ⌝ }
 {
-    word(part(m, 1, 76), 0)
+    word(part(m, ROSTER, 76), 0)
 }
 
 // How many groups.
@@ -28,7 +29,7 @@ pub fn groups(m: &[u8]) -> u64
     requires { ⌜ 65536 ≤ length (now m) ⌝ }
     ensures { λ r. ⌜ r ≡ rosterOf (now (m .entry)) .groups ⌝ }
 {
-    word(part(m, 1, 76), 1)
+    word(part(m, ROSTER, 76), 1)
 }
 
 // How many contracts.
@@ -36,7 +37,7 @@ pub fn contracts(m: &[u8]) -> u64
     requires { ⌜ 65536 ≤ length (now m) ⌝ }
     ensures { λ r. ⌜ r ≡ rosterOf (now (m .entry)) .contracts ⌝ }
 {
-    word(part(m, 1, 76), 2)
+    word(part(m, ROSTER, 76), 2)
 }
 
 // How many instruments.
@@ -44,7 +45,7 @@ pub fn instruments(m: &[u8]) -> u64
     requires { ⌜ 65536 ≤ length (now m) ⌝ }
     ensures { λ r. ⌜ r ≡ rosterOf (now (m .entry)) .instruments ⌝ }
 {
-    word(part(m, 1, 76), 3)
+    word(part(m, ROSTER, 76), 3)
 }
 
 // Are the sizes within their limits?
@@ -100,7 +101,7 @@ pub fn roster_is_sound(m: &[u8]) -> bool
     if !sizes_fit(m) {
         return false;
     }
-    let s = part(m, 1, 76);
+    let s = part(m, ROSTER, 76);
     let g = groups(m);
     let c = contracts(m);
     let n = instruments(m) as usize;

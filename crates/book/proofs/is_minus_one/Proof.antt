@@ -1,0 +1,30 @@
+use Prim.Native.Nat.{zero, suc}
+use mathlib.Core.Path.{_≡_, refl, sym, ap, _∙_}
+use mathlib.Core.Bool.{false, true≢false}
+use native.Mathlib.Omega.{arith}
+use lib.Dec.{eqb}
+use lib.IntN.{ℤ, pos, negsuc}
+use borrow.Author.Tests.{ne-eqb}
+use mir.Syntax.{w64}
+use mir.Val.{SFits, toZ, ofZ}
+use mir.ValLaws.{toZ-ofZ}
+use Rattle.book.specs.Books.{isMinusOne}
+use Rattle.book.proofs.is_minus_one.Statement.{statement}
+use Rattle.book.proofs.is_minus_one.Tie as tie
+
+-- the word of −1 has every bit set, and no other number's has
+other : (z : ℤ) → SFits w64 z → isMinusOne z ≡ false → eqb (ofZ w64 z) 18446744073709551615 ≡ false
+other z f h =
+    ne-eqb (ofZ w64 z) 18446744073709551615
+    (λ e. true≢false (ap isMinusOne (sym (ap (toZ w64) e) ∙ toZ-ofZ w64 z f) ∙ h))
+
+bits : (z : ℤ) → SFits w64 z → eqb (ofZ w64 z) 18446744073709551615 ≡ isMinusOne z
+bits (pos n) f = other (pos n) f refl
+bits (negsuc zero) f = refl
+bits (negsuc (suc n)) f = other (negsuc (suc n)) f (ne-eqb (suc n) 0 (λ e. omega arith)) ∙ sym (ne-eqb (suc n) 0 (λ e. omega arith))
+
+returns : tie.Need-returns
+returns c = bits (c .args .z) (c .fits .z)
+
+pub is-minus-one-spec : {M : Type 1} → statement M
+is-minus-one-spec = tie.close (tie.spec returns)

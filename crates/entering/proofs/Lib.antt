@@ -1,0 +1,4 @@
+mod OnDesk
+mod Blocks
+mod LineBytes
+mod Answered

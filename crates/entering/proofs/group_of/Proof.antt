@@ -1,0 +1,10 @@
+use borrow.Author.Needs.{needs}
+use Rattle.entering.proofs.OnDesk.{group-read}
+use Rattle.entering.proofs.group_of.Statement.{statement}
+use Rattle.entering.proofs.group_of.Tie as tie
+
+returns : tie.Need-returns
+returns c = group-read _ (c .before .before .pre .0) _ _ (c .before .before .pre .1) (c .word .ensures)
+
+pub group-of-spec : {M : Type 1} → statement M
+group-of-spec = tie.close (tie.spec (λ c. search needs) (λ c κs. search needs) returns)

@@ -1,0 +1,52 @@
+use mathlib.Core.Path.{_≡_, refl, _∙_, sym, ap}
+use native.Mathlib.Omega.{arith}
+use borrow.Author.Needs.{needs}
+use lib.ListN.{length}
+use Rattle.ledger.specs.Derivatives.{one}
+use Rattle.limits.specs.Questions.{firstNo}
+use Rattle.limits.specs.Numbers.{sizeNumber, sizeQuestions}
+use Rattle.book.specs.Answers.{numberOf}
+use Rattle.layout.specs.View.{rosterOf, linesOf}
+use Rattle.entering.proofs.LineBytes.{line-bounds, line-in-force}
+use Rattle.entering.proofs.Answered.{size-fits, size-refuses}
+use Rattle.entering.proofs.within_limits.Statement.{statement}
+use Rattle.entering.proofs.within_limits.Tie as tie
+
+order-size-requires : tie.Need-order-size-requires
+order-size-requires c κs =
+    let s = c .before .before .before in
+    omega (arith, ap length (c .line-of .ensures), line-bounds _ _ (s .pre .on) .long)
+
+size : (c : tie.After-order-size) → let a = c .before .before .before .before .args in sizeNumber (c .order-size .result) ≡ firstNo (sizeQuestions one (rosterOf (a .m .now)) (linesOf (a .m .now) (a .o .account)) (a .o))
+size c =
+    let s = c .before .before .before .before in
+    c .order-size .ensures _ _ _ (rw (c .before .line-of .ensures) (line-in-force _ _ (s .pre .on) (s .pre .set))) refl refl
+
+returns : tie.Need-returns
+returns c after raised =
+    c .positions-of .ensures after raised ∙ sym (size-fits _ after _ (sym (size (c .before .before .before)) ∙ ap sizeNumber (c .before .enum-told .given .1)))
+
+returns-2 : tie.Need-returns-2
+unfolding numberOf
+returns-2 c after raised =
+    sym (size-refuses _ after _ 19 (omega arith) (sym (size (c .before .before)) ∙ ap sizeNumber (c .enum-told2 .given .1)))
+
+returns-3 : tie.Need-returns-3
+unfolding numberOf
+returns-3 c after raised =
+    sym (size-refuses _ after _ 20 (omega arith) (sym (size (c .before .before)) ∙ ap sizeNumber (c .enum-told3 .given .1)))
+
+pub within-limits-spec : {M : Type 1} → statement M
+within-limits-spec =
+    tie.close
+    (tie.spec
+    (λ c κs. search needs)
+    (λ c κs. search needs)
+    order-size-requires
+    (λ c. search needs)
+    (λ c κs. search needs)
+    (λ c. search needs)
+    (λ c. search needs)
+    returns
+    returns-2
+    returns-3)

@@ -1,0 +1,109 @@
+// Reading positions from a desk's memory, which changes nothing in it.
+ghost use mathlib.Core.Path.{_≡_};
+ghost use Rattle.ledger.specs.Roster.{Numbered};
+ghost use Rattle.book.specs.Answers.{numberOf};
+ghost use Rattle.layout.specs.View.{rosterOf};
+ghost use Rattle.reading.specs.Reading.{Read, instrumentAnswer, groupAnswer, instrumentReport, groupReport, reported};
+use book::Answer;
+use layout::table::BALANCES;
+use layout::table::COUNT;
+use layout::table::ORDERS;
+use layout::table::ROSTER;
+use ledger::positions::group_position;
+use ledger::positions::instrument_position;
+use ledger::units::Contracts;
+use ledger::units::Weighted;
+use soundness::is_sound;
+use soundness::ranges::between;
+use soundness::roster::accounts;
+use soundness::roster::groups;
+use soundness::roster::instruments;
+use words::part;
+use words::word;
+
+// The number of contracts, and of weighted ten-thousandths.
+fn contracts(x: Contracts) -> i64
+    ensures { λ r. ⌜ r ≡ x .0 ⌝ }
+{
+    x.0
+}
+
+fn weighted(x: Weighted) -> i64
+    ensures { λ r. ⌜ r ≡ x .0 ⌝ }
+{
+    x.0
+}
+
+// S, PCI and PVI.
+fn instrument_report(m: &[u8], account: u64, instrument: u64) -> [i64; 3]
+    requires { ⌜ Read (now m) account × Numbered (rosterOf (now m) .instruments) instrument ⌝ }
+    ensures { λ r. ⌜ r ≡ instrumentReport (now (m .entry)) account instrument ⌝ }
+{
+    let at = instrument_position(
+        part(m, ORDERS, 2048),
+        word(m, COUNT) as usize,
+        part(m, BALANCES + account as usize * 32, 33),
+        account,
+        instrument,
+    );
+    let balance = contracts(at.balance);
+    let long = contracts(at.long);
+    let short = contracts(at.short);
+    [balance, long, short]
+}
+
+// PCC and PVC.
+fn group_report(m: &[u8], account: u64, group: u64) -> [i64; 2]
+    requires { ⌜ Read (now m) account ⌝ }
+    ensures { λ r. ⌜ r ≡ groupReport (now (m .entry)) account group ⌝ }
+{
+    let at = group_position(
+        part(m, ORDERS, 2048),
+        word(m, COUNT) as usize,
+        part(m, BALANCES + account as usize * 32, 33),
+        part(m, ROSTER, 76),
+        account,
+        group,
+    );
+    let long = weighted(at.long);
+    let short = weighted(at.short);
+    [long, short]
+}
+
+// S, PCI and PVI of an account and instrument to `report`.
+pub fn read_instrument(m: &[u8], account: u64, instrument: u64, report: &mut [i64; 3]) -> Answer
+    ensures answer { λ r. ⌜ numberOf r ≡ instrumentAnswer (now (m .entry)) account instrument ⌝ }
+    ensures report { λ r. ⌜ now (report .exit) ≡ reported (instrumentAnswer (now (m .entry)) account instrument) (instrumentReport (now (m .entry)) account instrument) (now (report .entry)) ⌝ }
+{
+    if !is_sound(m) {
+        return Answer::NoSoundDesk;
+    }
+    if !between(1, accounts(m), account) {
+        return Answer::UnknownAccount;
+    }
+    if !between(1, instruments(m), instrument) {
+        return Answer::UnknownItem;
+    }
+    let positions = instrument_report(m, account, instrument);
+    *report = positions;
+    Answer::Accepted
+}
+
+// PCC and PVC of an account and group, in ten-thousandths, to `report`.
+pub fn read_group(m: &[u8], account: u64, group: u64, report: &mut [i64; 2]) -> Answer
+    ensures answer { λ r. ⌜ numberOf r ≡ groupAnswer (now (m .entry)) account group ⌝ }
+    ensures report { λ r. ⌜ now (report .exit) ≡ reported (groupAnswer (now (m .entry)) account group) (groupReport (now (m .entry)) account group) (now (report .entry)) ⌝ }
+{
+    if !is_sound(m) {
+        return Answer::NoSoundDesk;
+    }
+    if !between(1, accounts(m), account) {
+        return Answer::UnknownAccount;
+    }
+    if !between(1, groups(m), group) {
+        return Answer::UnknownItem;
+    }
+    let positions = group_report(m, account, group);
+    *report = positions;
+    Answer::Accepted
+}
