@@ -24,3 +24,4 @@ pub mod Plain
 pub mod Others
 pub mod Fills
 pub mod Filled
+pub mod Refused

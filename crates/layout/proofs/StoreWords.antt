@@ -53,11 +53,11 @@ flag-bit m j false fits = rw (word-put-same m j 0 fits (omega arith))
 
 -- ---- a line
 -- the figures are words
-pub SmallLine : Option Line → Type 0
+unfoldable pub SmallLine : Option Line → Type 0
 SmallLine none = Unit
 SmallLine (some l) = (l .tci < 2 ^ 64) × (l .tvi < 2 ^ 64) × (l .lci < 2 ^ 64) × (l .lvi < 2 ^ 64)
 
-pub SmallGroupLine : Option GroupLine → Type 0
+unfoldable pub SmallGroupLine : Option GroupLine → Type 0
 SmallGroupLine none = Unit
 SmallGroupLine (some l) = (l .lcc < 2 ^ 64) × (l .lvc < 2 ^ 64)
 

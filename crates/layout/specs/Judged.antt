@@ -9,7 +9,7 @@ use Rattle.book.specs.declared.Event.{Event}
 use Rattle.book.specs.declared.Event.the-variants.{Limit, Balance, Block, New, Replace, Cancel, Fill, Junk}
 use Rattle.book.specs.Market.{derivatives}
 use Rattle.book.specs.Table.{answer}
-use Rattle.layout.specs.View.{rosterOf, bookOf, tradingOf, openOrders}
+use Rattle.layout.specs.View.{rosterOf, bookOf, tradingOf}
 
 -- the table's first no, of the desk's view
 unfoldable pub judged : List ℕ → Event → ℕ

@@ -1,8 +1,8 @@
 -- What a memory means: the roster, the plain book and the trading marks that it holds.
 use Prim.Native.Nat.{ℕ, _+_, _*_}
-use mathlib.Core.Bool.{Bool, true, false, not, _&&_, cond}
+use mathlib.Core.Bool.{Bool, false, not, _&&_, cond}
 use mathlib.Core.List.{List}
-use mathlib.Core.Option.{Option, none, some}
+use mathlib.Core.Option.{none, some}
 use lib.Dec.{eqb}
 use lib.IntN.{ℤ, pos}
 use Rattle.words.specs.Words.{wordAt, signedAt, partOf}

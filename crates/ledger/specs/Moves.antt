@@ -1,5 +1,4 @@
 -- Which side of which position an order's fills move.
-use Prim.Native.Nat.{ℕ}
 use mathlib.Core.Path.{_≡_}
 use mathlib.Core.Logic.{_≢_}
 use lib.IntN.{pos}

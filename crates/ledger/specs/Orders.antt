@@ -1,6 +1,6 @@
 -- An order: what remains of it, what a fill and a replace make of it, when it closes, and how it is found.
 use Prim.Native.Nat.{ℕ, _+_, _-_}
-use mathlib.Core.Bool.{Bool, true, false, cond}
+use mathlib.Core.Bool.{Bool, cond}
 use mathlib.Core.List.{List, [], _∷_}
 use lib.Dec.{eqb}
 use Rattle.ledger.specs.declared.order.Order.{Order}

@@ -2,7 +2,6 @@
 use Prim.Native.Nat.{ℕ, _*_}
 use mathlib.Core.Bool.{Bool, true, false, not, _&&_, _||_}
 use mathlib.Core.List.{List, [], _∷_}
-use mathlib.Core.Option.{Option}
 use lib.Dec.{eqb}
 use lib.IntN.{ℤ, pos, negsuc}
 use lib.Signed.{leZ}
@@ -11,7 +10,7 @@ use Rattle.ledger.specs.declared.order.Side.{Side}
 use Rattle.ledger.specs.declared.order.Side.the-variants.{Buy, Sell}
 use Rattle.ledger.specs.Roster.{Roster, groupOfInstrument}
 use Rattle.ledger.specs.Positions.{Way, long, short, Place, instrument, group, sameSide, wayOf, wayBy, potential}
-use Rattle.limits.specs.Lines.{Line, Lines, largestOrder, lineInForce, figure, isSet, limit}
+use Rattle.limits.specs.Lines.{Lines, largestOrder, lineInForce, figure, isSet, limit}
 use Rattle.limits.specs.Questions.{Question}
 
 -- 17: are a line in force and the group line set?

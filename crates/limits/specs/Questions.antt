@@ -1,6 +1,6 @@
 -- Questions in order: a "no" gives the number, and the first "no" is the answer.
 use Prim.Native.Nat.{ℕ}
-use mathlib.Core.Bool.{Bool, true, false, _&&_, cond}
+use mathlib.Core.Bool.{Bool, true, _&&_, cond}
 use mathlib.Core.List.{List, [], _∷_}
 
 pub record Question : Type 0 where

@@ -1,9 +1,8 @@
 -- The memory that an accepted opening leaves: every word 0 but the kind of desk and the roster.
 use Prim.Native.Nat.{ℕ, zero, suc, _+_, _*_}
-use mathlib.Core.Bool.{Bool, cond}
+use mathlib.Core.Bool.{cond}
 use mathlib.Core.List.{List, [], _∷_}
 use lib.Dec.{eqb}
-use lib.IntN.{ℤ}
 use Rattle.words.specs.Words.{putWord, putSigned, putWords}
 use Rattle.ledger.specs.Roster.{Roster}
 use Rattle.layout.specs.Layout.{memoryWords, kindWord, rosterWord}

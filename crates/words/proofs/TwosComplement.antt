@@ -11,7 +11,7 @@ use mir.Val.{SFits}
 use Rattle.integers.specs.TwosComplement.{signedOf, bitsOf, signed-bits, bits-below, fits-in-bits}
 use Rattle.words.specs.Bytes.{number}
 use Rattle.words.specs.Fields.{i32At, i64At}
-use Rattle.words.specs.Words.{wordAt, putWord, signedAt, putSigned}
+use Rattle.words.specs.Words.{signedAt, putSigned}
 use Rattle.words.proofs.Memory.{word-put-same, word-put-other}
 
 pub signed-put-same : (m : List ℕ) (k : ℕ) (z : ℤ) → k * 8 + 8 ≤ length m → SFits w64 z → signedAt (putSigned m k z) k ≡ z

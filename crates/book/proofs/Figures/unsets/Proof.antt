@@ -1,4 +1,4 @@
-use mathlib.Core.Path.{_≡_, refl, _∙_, sym, ap}
+use mathlib.Core.Path.{_≡_, _∙_, sym, ap}
 use mathlib.Core.Bool.{Bool, true, false, not}
 use borrow.Author.Needs.{needs}
 use borrow.Author.Tests.{not-true, not-false}
@@ -6,7 +6,6 @@ use lib.IntN.{ℤ}
 use mir.Syntax.{w64}
 use mir.Val.{SFits, toZ, ofZ}
 use mir.ValLaws.{toZ-ofZ}
-use Rattle.book.specs.declared.Figures.{Figures}
 use Rattle.book.specs.Books.{isMinusOne, unsets}
 use Rattle.book.proofs.Figures.unsets.Statement.{statement}
 use Rattle.book.proofs.Figures.unsets.Tie as tie

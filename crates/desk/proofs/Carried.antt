@@ -1,0 +1,66 @@
+-- What is computed of a plain book holds of a memory that shows it.
+use Prim.Native.Nat.{ℕ, zero, suc}
+use mathlib.Core.Path.{_≡_, refl}
+use mathlib.Core.Bool.{Bool, true, _&&_}
+use mathlib.Core.List.{List, [], _∷_}
+use lib.Dec.{ltb}
+use native.Mathlib.Omega.{arith}
+use borrow.Author.Tests.{ltb-true}
+use Rattle.words.specs.Bytes.{Bytes}
+use Rattle.ledger.specs.Roster.{Roster}
+use Rattle.limits.proofs.Answers.{both-true}
+use Rattle.book.specs.declared.Event.{Event}
+use Rattle.book.specs.Market.{derivatives}
+use Rattle.book.specs.Decoding.{decode}
+use Rattle.book.specs.Table.{answer}
+use Rattle.book.specs.Kept.{RawEvent, Kept, keep, memoryAfter, keptAfter}
+use Rattle.book.proofs.Days.{answersTo, endOf}
+use Rattle.desk.specs.Step.{answerTo, after}
+use Rattle.desk.specs.Days.{answersOver, memoryOver}
+use Rattle.desk.proofs.Gate.{Shown, shown-after, answers-table}
+
+-- ---- bytes, computed
+abbrev pub areBytes : List ℕ → Bool
+areBytes [] = true
+areBytes (b ∷ bs) = ltb b 256 && areBytes bs
+
+pub bytes-are : (l : List ℕ) → areBytes l ≡ true → Bytes l
+bytes-are [] e i = omega arith
+bytes-are (b ∷ bs) e zero = ltb-true b 256 (both-true (ltb b 256) (areBytes bs) e .0)
+bytes-are (b ∷ bs) e (suc i) = bytes-are bs (both-true (ltb b 256) (areBytes bs) e .1) i
+
+abbrev pub allBytes : List (List ℕ) → Bool
+allBytes [] = true
+allBytes (e ∷ es) = areBytes e && allBytes es
+
+abbrev pub decoded : List (List ℕ) → List Event
+decoded [] = []
+decoded (e ∷ es) = decode e ∷ decoded es
+
+-- ---- the answers along a list, and the memory at its end
+module _ (r : Roster) where
+  -- one event more
+  next-shown : (m : List ℕ) (k : Kept) (e : List ℕ) → Bytes e → Shown r m k → Shown r (after m e) (keep derivatives k (decode e) (answer derivatives r (k .book) (k .trading) (decode e)))
+  unfolding memoryAfter keptAfter
+  next-shown m k e are shown =
+      let raw : RawEvent = record { bytes = e; are = are } in
+      rw (answers-table r m k shown [] raw) at (shown-after r m k shown (raw ∷ []))
+
+  pub answer-shown : (m : List ℕ) (k : Kept) (e : List ℕ) → Bytes e → Shown r m k → answerTo m e ≡ answer derivatives r (k .book) (k .trading) (decode e)
+  unfolding memoryAfter keptAfter
+  answer-shown m k e are shown = answers-table r m k shown [] (record { bytes = e; are = are })
+
+  pub answers-carried : (m : List ℕ) (k : Kept) (es : List (List ℕ)) → allBytes es ≡ true → Shown r m k → answersOver m es ≡ answersTo r k (decoded es)
+  unfolding answersOver
+  answers-carried m k [] are shown = refl
+  answers-carried m k (e ∷ es) are shown =
+      let h = both-true (areBytes e) (allBytes es) are in
+      let b = bytes-are e (h .0) in
+      rw (answer-shown m k e b shown, answers-carried (after m e) (keep derivatives k (decode e) (answer derivatives r (k .book) (k .trading) (decode e))) es (h .1) (next-shown m k e b shown))
+
+  pub shown-over : (m : List ℕ) (k : Kept) (es : List (List ℕ)) → allBytes es ≡ true → Shown r m k → Shown r (memoryOver m es) (endOf r k (decoded es))
+  unfolding memoryOver
+  shown-over m k [] are shown = shown
+  shown-over m k (e ∷ es) are shown =
+      let h = both-true (areBytes e) (allBytes es) are in
+      shown-over (after m e) (keep derivatives k (decode e) (answer derivatives r (k .book) (k .trading) (decode e))) es (h .1) (next-shown m k e (bytes-are e (h .0)) shown)

@@ -1,0 +1,142 @@
+-- The three demands.
+use Prim.Native.Nat.{ℕ, _≤_}
+use mathlib.Core.Path.{_≡_, refl, sym, ap, _∙_}
+use mathlib.Core.Logic.{_≢_, by-cases}
+use mathlib.Core.Bool.{true}
+use mathlib.Core.List.{List, [], _∷_, _++_}
+use mathlib.Core.Option.{Option, none, some}
+use native.Mathlib.Omega.{arith}
+use native.Mathlib.Decide.{ℕ-discrete}
+use lib.IntN.{ℤ}
+use lib.ListN.{getD}
+use borrow.Author.Tests.{eq-eqb, ne-eqb}
+use Rattle.ledger.specs.declared.order.Order.{Order}
+use Rattle.ledger.specs.Positions.{potential, ofInstrument}
+use Rattle.limits.specs.Questions.{Question, firstNo}
+use Rattle.limits.specs.Asked.{positionQuestions}
+use Rattle.limits.proofs.Answers.{Counted}
+use Rattle.book.specs.Decoding.{decode}
+use Rattle.book.specs.Market.{derivatives}
+use Rattle.book.specs.Books.{work}
+use Rattle.book.specs.Table.{q, entered, questionsBefore, positionsAfter, limitQuestions, questions}
+use Rattle.book.specs.Kept.{said, begun, memoryAfter, keptAfter}
+use Rattle.book.proofs.Accepted.{never-5}
+use Rattle.layout.specs.View.{rosterOf, bookOf, tradingOf}
+use Rattle.opening.specs.Questions.{openingQuestions, openingAnswer, rosterFrom}
+use Rattle.opening.specs.Opening.{afterOpening}
+use Rattle.opening.proofs.Opened.{later-after}
+use Rattle.reading.specs.Reading.{readingQuestions, instrumentAnswer, groupAnswer, instrumentReport, groupReport, positionIn, reported}
+use Rattle.soundness.specs.Soundness.{soundDesk}
+use Rattle.soundness.proofs.SoundDesk.{sound-out}
+use Rattle.working.proofs.Writes.{later-worked}
+use Rattle.desk.specs.Step.{eventQuestions, answerTo, after}
+use Rattle.desk.specs.Demands.{OneOf, Demand1, Answers, Demand2, gate, Demand3}
+use Rattle.desk.proofs.Readings.{instrument-read, group-read, shown-opened}
+use Rattle.desk.proofs.Checks.{numbered, answers, answer-one-of}
+use Rattle.desk.proofs.Gate.{first-passes, after-refused, after-accepted, answer-held, shown-after, answers-table, demand-3-at}
+
+-- ---- the questions' numbers
+abbrev event-numbers : List ℕ
+event-numbers =
+    5 ∷ 6 ∷ 7 ∷ 8 ∷ 9 ∷ 10 ∷ 11 ∷ 12 ∷ 13 ∷ 14 ∷ 15 ∷ 16 ∷ 17 ∷ 18 ∷ 19 ∷ 20 ∷ 21 ∷ 22 ∷ 23 ∷ 24 ∷ []
+
+-- the table of an event, x being the order that it enters or raises
+abbrev table : List ℕ → List ℕ → Option Order → List Question
+table m e x =
+    q 5 (soundDesk m)
+    ∷ (questionsBefore derivatives (rosterOf m) (bookOf m) (tradingOf m) (decode e)
+    ++ positionsAfter derivatives (rosterOf m) (work (derivatives .unit) (bookOf m) (decode e)) x)
+
+is-table : (m e : List ℕ) → eventQuestions m e ≡ table m e (entered (bookOf m) (decode e))
+unfolding eventQuestions questions limitQuestions
+is-table m e = refl
+
+counted-table : (m e : List ℕ) (x : Option Order) → Counted (table m e x)
+unfolding questionsBefore positionQuestions
+counted-table m e none = omega arith
+counted-table m e (some o) = omega arith
+
+numbered-table : (m e : List ℕ) (x : Option Order) → numbered (table m e x) event-numbers ≡ true
+unfolding questionsBefore positionQuestions
+numbered-table m e none = refl
+numbered-table m e (some o) = refl
+
+event-answers : (m e : List ℕ) → Answers (eventQuestions m e) (answerTo m e)
+unfolding answerTo
+event-answers m e = rw (is-table m e) (answers (table m e (entered (bookOf m) (decode e))) (counted-table m e (entered (bookOf m) (decode e))))
+
+event-one-of : (m e : List ℕ) → OneOf (answerTo m e) (0 ∷ event-numbers)
+unfolding answerTo
+event-one-of m e = rw (is-table m e) (answer-one-of (table m e (entered (bookOf m) (decode e))) event-numbers (numbered-table m e (entered (bookOf m) (decode e))))
+
+-- ---- an opening and a reading
+opening-answers : (m s : List ℕ) → Answers (openingQuestions m s) (openingAnswer m s)
+unfolding openingAnswer openingQuestions
+opening-answers m s = answers (openingQuestions m s) (omega arith)
+
+opening-one-of : (m s : List ℕ) → OneOf (openingAnswer m s) (0 ∷ 1 ∷ 2 ∷ 3 ∷ 4 ∷ [])
+unfolding openingAnswer openingQuestions
+opening-one-of m s = answer-one-of (openingQuestions m s) (1 ∷ 2 ∷ 3 ∷ 4 ∷ []) refl
+
+opening-refused : (m s : List ℕ) → openingAnswer m s ≢ 0 → afterOpening m s ≡ m
+unfolding afterOpening
+opening-refused m s h = rw (ne-eqb (openingAnswer m s) 0 h)
+
+reading-answers : (m : List ℕ) (items a n : ℕ) → Answers (readingQuestions m items a n) (firstNo (readingQuestions m items a n))
+unfolding readingQuestions
+reading-answers m items a n = answers (readingQuestions m items a n) (omega arith)
+
+report-accepted : (n : ℕ) (report before : List ℤ) → n ≡ 0 → reported n report before ≡ report
+unfolding reported
+report-accepted n report before h = rw (eq-eqb n 0 h)
+
+report-refused : (n : ℕ) (report before : List ℤ) → n ≢ 0 → reported n report before ≡ before
+unfolding reported
+report-refused n report before h = rw (ne-eqb n 0 h)
+
+-- ---- bytes behind the desk
+later-event : (m e : List ℕ) (k : ℕ) → 65536 ≤ k → getD (after m e) k 0 ≡ getD m k 0
+later-event m e k h =
+    by-cases (ℕ-discrete (answerTo m e) 0)
+    (λ zero. let held = sound-out m (first-passes m e zero) in ap (λ l. getD l k 0) (after-accepted m e zero) ∙ later-worked m held (decode e) (sym (answer-held m e held) ∙ zero) k h)
+    (λ other. ap (λ l. getD l k 0) (after-refused m e other))
+
+pub demand-1 : Demand1
+demand-1 =
+    record {
+      roster = opening-one-of;
+      roster-refused = opening-refused;
+      event = event-one-of;
+      event-refused = after-refused;
+      later-opening = later-after;
+      later-event = later-event;
+    }
+
+pub demand-2 : Demand2
+unfolding instrumentAnswer groupAnswer instrumentReport groupReport positionIn potential ofInstrument derivatives
+demand-2 =
+    record {
+      roster = opening-answers;
+      event = event-answers;
+      instrument = λ m a i. reading-answers m (rosterOf m .instruments) a i;
+      group = λ m a g. reading-answers m (rosterOf m .groups) a g;
+      instrument-reported = λ m a i before h. report-accepted _ _ before h;
+      group-reported = λ m a g before h. report-accepted _ _ before h;
+      instrument-refused = λ m a i before h. report-refused _ _ before h;
+      group-refused = λ m a g before h. report-refused _ _ before h;
+    }
+
+-- ---- demand 3
+pub demand-3 : Demand3
+demand-3 m s bytes are zero =
+    let r = rosterFrom s in
+    let start = afterOpening m s in
+    let shown = shown-opened m s bytes zero in
+    let later = shown-after r start begun shown in
+    record {
+      judged = demand-3-at r start begun shown;
+      instrument-read = λ events a i. instrument-read r (memoryAfter gate start events) (keptAfter gate derivatives start begun events) (later events) a i;
+      group-read = λ events a g. group-read r (memoryAfter gate start events) (keptAfter gate derivatives start begun events) (later events) a g;
+      never-5 =
+          λ events e five. never-5 derivatives r (keptAfter gate derivatives start begun events .book) (keptAfter gate derivatives start begun events .trading) (said e) (sym (answers-table r start begun shown events e) ∙ five);
+    }

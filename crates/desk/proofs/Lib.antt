@@ -1,0 +1,9 @@
+pub mod Checks
+pub mod Opened
+pub mod Gate
+pub mod Stepped
+pub mod Readings
+pub mod Demands
+pub mod Carried
+pub mod Edges
+pub mod Listing

@@ -1,0 +1,81 @@
+-- An opened desk is sound, and shows the beginning of the plain book.
+use Prim.Native.Nat.{ℕ, _+_, _≤_, _<_}
+use mathlib.Core.Path.{_≡_}
+use mathlib.Core.Bool.{_&&_}
+use mathlib.Core.List.{List}
+use native.Mathlib.Omega.{arith}
+use lib.ListN.{length}
+use borrow.Author.Tests.{eq-eqb}
+use lib.Dec.{eqb}
+use Rattle.limits.proofs.Answers.{both-true, and-true, pass-each, zero-pass}
+use Rattle.book.specs.Market.{derivatives}
+use Rattle.book.specs.Sound.{RosterFits, LineFits, GroupLineFits}
+use Rattle.book.specs.Kept.{begun}
+use Rattle.book.proofs.Plain.{sound-begun}
+use Rattle.layout.specs.Layout.{countWord}
+use Rattle.layout.specs.Rosters.{sizesFit, namesFit, weightsFit}
+use Rattle.layout.specs.View.{rosterOf, lineAt, groupLineAt, view}
+use Rattle.opening.specs.Questions.{rosterFrom, rosterLength, lengthsFit, openingQuestions, openingAnswer}
+use Rattle.opening.specs.Opening.{opened, afterOpening}
+use Rattle.opening.proofs.Opened.{Accepted, accepted-out, kind-opened, blank-opened, roster-opened, sized-opened, view-opened, length-opened}
+use Rattle.soundness.specs.Soundness.{rosterSound}
+use Rattle.soundness.specs.Held.{Figures, Held}
+use Rattle.soundness.proofs.RosterFacts.{roster-out}
+
+module _ (m s : List ℕ) (zero : openingAnswer m s ≡ 0) where
+  ok : Accepted m s
+  ok = accepted-out m s zero
+
+  pub is-opened : afterOpening m s ≡ opened m s
+  unfolding afterOpening
+  is-opened = rw (eq-eqb (openingAnswer m s) 0 zero)
+
+  fits : RosterFits (rosterFrom s)
+  unfolding openingAnswer openingQuestions lengthsFit rosterSound
+  fits =
+      let r = rosterFrom s in
+      let yes-each = pass-each (openingQuestions m s) (zero-pass (openingQuestions m s) (omega arith) zero) in
+      let sizes = both-true (sizesFit r) (eqb (length s) (rosterLength r)) (yes-each .1 .0) .0 in
+      rw (roster-opened m s ok) at (roster-out (opened m s) (rw (roster-opened m s ok) (and-true (sizesFit r && namesFit r) (weightsFit r) (and-true (sizesFit r) (namesFit r) sizes (yes-each .1 .1 .0)) (yes-each .1 .1 .1 .0))))
+
+  -- the figures of every line are 0
+  line-blank : (k : ℕ) → 77 ≤ k → k + 3 < 8192 → LineFits 1000000000 (lineAt (opened m s) k)
+  line-blank k low high =
+      let z = blank-opened m s ok in
+      record {
+        tci = omega (arith, z k (omega arith) (omega arith));
+        tvi = omega (arith, z (k + 1) (omega arith) (omega arith));
+        lci = omega (arith, z (k + 2) (omega arith) (omega arith));
+        lvi = omega (arith, z (k + 3) (omega arith) (omega arith));
+      }
+
+  group-line-blank : (k : ℕ) → 77 ≤ k → k + 1 < 8192 → GroupLineFits 1000000000 (groupLineAt (opened m s) k)
+  group-line-blank k low high =
+      let z = blank-opened m s ok in
+      record { lcc = omega (arith, z k (omega arith) (omega arith)); lvc = omega (arith, z (k + 1) (omega arith) (omega arith)) }
+
+  figures : Figures (opened m s)
+  figures =
+      let sized = sized-opened m s ok in
+      record {
+        own = λ a i on-a on-i. line-blank _ (omega arith) (omega arith);
+        default = λ a c on-a on-c. line-blank _ (omega arith) (omega arith);
+        ofGroup = λ a g on-a on-g. group-line-blank _ (omega arith) (omega arith);
+      }
+
+  pub held-opened : Held (afterOpening m s)
+  held-opened =
+      rw is-opened
+      (record {
+        long = omega (arith, length-opened m s ok, ok .long);
+        kind = kind-opened m s ok;
+        sides = λ p h. absurd (omega (arith, blank-opened m s ok countWord (omega arith) (omega arith)));
+        figures = figures;
+        book = rw (view-opened m s ok, roster-opened m s ok) (sound-begun derivatives (rosterFrom s) fits);
+      })
+
+  pub roster-after : rosterOf (afterOpening m s) ≡ rosterFrom s
+  roster-after = rw is-opened (roster-opened m s ok)
+
+  pub view-after : view (afterOpening m s) ≡ begun
+  view-after = rw is-opened (view-opened m s ok)

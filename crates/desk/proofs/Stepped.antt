@@ -1,0 +1,66 @@
+-- What a step on a sound desk answers, leaves and moves.
+use Prim.Native.Nat.{ℕ}
+use mathlib.Core.Path.{_≡_, sym, _∙_}
+use mathlib.Core.Logic.{_≢_}
+use mathlib.Core.Bool.{true, false}
+use mathlib.Core.List.{List}
+use native.Mathlib.Omega.{arith}
+use borrow.Author.Tests.{eq-eqb, ne-eqb}
+use Rattle.ledger.specs.declared.order.Side.{Side}
+use Rattle.book.specs.declared.Event.{Event}
+use Rattle.book.specs.declared.Answer.{Answer}
+use Rattle.book.specs.declared.Answer.the-variants.{Accepted}
+use Rattle.book.specs.Answers.{numberOf}
+use Rattle.book.specs.Decoding.{decode}
+use Rattle.book.specs.Market.{derivatives}
+use Rattle.book.proofs.Accepted.{unsound-answer}
+use Rattle.book.proofs.Refused.{Refusal, not-zero}
+use Rattle.layout.specs.View.{rosterOf, bookOf, tradingOf}
+use Rattle.layout.specs.Judged.{judged}
+use Rattle.soundness.specs.Soundness.{soundDesk}
+use Rattle.soundness.proofs.SoundDesk.{sound-out}
+use Rattle.working.specs.Working.{worked, moved}
+use Rattle.desk.specs.Step.{eventQuestions, answerTo, after, stepped, movedBy}
+use Rattle.desk.proofs.Gate.{answer-held, after-refused}
+
+-- ---- a judged event, with answer a
+module _ (m : List ℕ) (e : Event) (a : Answer) (told : numberOf a ≡ judged m e) where
+  -- is accepted
+  pub is-zero : a ≡ Accepted → judged m e ≡ 0
+  unfolding numberOf
+  is-zero accepts = sym told ∙ rw accepts
+
+  pub stepped-worked : a ≡ Accepted → worked m e ≡ stepped m e
+  unfolding stepped
+  stepped-worked accepts = rw (eq-eqb (judged m e) 0 (is-zero accepts))
+
+  pub moves : a ≡ Accepted → (s : Side) → moved m e s ≡ movedBy m e s
+  unfolding movedBy
+  moves accepts s = rw (eq-eqb (judged m e) 0 (is-zero accepts))
+
+  -- or refused
+  module _ (refuses : Refusal a) where
+    not-accepted : judged m e ≢ 0
+    not-accepted z = not-zero a refuses (told ∙ z)
+
+    pub stepped-same : m ≡ stepped m e
+    unfolding stepped
+    stepped-same = rw (ne-eqb (judged m e) 0 not-accepted)
+
+    pub moves-nothing : (s : Side) → 0 ≡ movedBy m e s
+    unfolding movedBy
+    moves-nothing s = rw (ne-eqb (judged m e) 0 not-accepted)
+
+-- ---- the event entry point
+module _ (m e : List ℕ) where
+  pub unsound-event : soundDesk m ≡ false → (5 ≡ answerTo m e) × (m ≡ after m e)
+  unfolding answerTo eventQuestions
+  unsound-event h =
+      let five : answerTo m e ≡ 5 = rw h (unsound-answer derivatives (rosterOf m) (bookOf m) (tradingOf m) (decode e)) in
+      (sym five, sym (after-refused m e (λ z. omega (arith, five, z))))
+
+  pub sound-event : (sound : soundDesk m ≡ true) → (judged m (decode e) ≡ answerTo m e) × (stepped m (decode e) ≡ after m e)
+  unfolding stepped after
+  sound-event sound =
+      let same = answer-held m e (sound-out m sound) in
+      (sym same, rw (same))

@@ -1,0 +1,39 @@
+use mathlib.Core.Path.{_∙_}
+use borrow.Author.Needs.{needs}
+use Rattle.desk.proofs.Stepped.{is-zero, stepped-worked, moves, stepped-same, moves-nothing}
+use Rattle.desk.proofs.step.step.Statement.{statement}
+use Rattle.desk.proofs.step.step.Tie as tie
+
+work-requires : tie.Need-work-requires
+work-requires c κs =
+    let judged = c .before .before .before in
+    let zero = is-zero _ _ _ (judged .judge .ensures .0) (c .before .enum-told .given .1) in
+    record { held = judged .before .before .before .pre; accepted = zero; named = judged .judge .ensures .1 zero }
+
+returns : tie.Need-returns
+returns c =
+    let done = c .before .before in
+    let judged = done .before .before .before .before in
+    let told = judged .judge .ensures .0 in
+    let accepts = done .before .before .enum-told .given .1 in
+    (told, (done .work .ensures .0 ∙ stepped-worked _ _ _ told accepts, (done .work .ensures .1 .0 ∙ moves _ _ _ told accepts _, done .work .ensures .1 .1 ∙ moves _ _ _ told accepts _)))
+
+returns-2 : tie.Need-returns-2
+returns-2 c =
+    let judged = c .before .before in
+    let told = judged .judge .ensures .0 in
+    let refuses = c .before .match .keys2 in
+    (told, (stepped-same _ _ _ told refuses, (c .nothing .ensures .0 ∙ moves-nothing _ _ _ told refuses _, c .nothing .ensures .1 ∙ moves-nothing _ _ _ told refuses _)))
+
+pub step-spec : {M : Type 1} → statement M
+step-spec =
+    tie.close
+    (tie.spec
+    (λ c κs. search needs)
+    (λ c. search needs)
+    work-requires
+    (λ c κs. search needs)
+    (λ c. search needs)
+    returns
+    (λ c. search needs)
+    returns-2)

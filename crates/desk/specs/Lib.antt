@@ -1,0 +1,6 @@
+pub mod Step
+pub mod Positions
+pub mod Demands
+pub mod Days
+pub mod Edges
+pub mod Listing

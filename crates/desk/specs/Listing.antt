@@ -1,0 +1,45 @@
+-- Document 01's listing, in bytes.
+use Prim.Native.Nat.{ℕ, _≤_}
+use mathlib.Core.Path.{_≡_}
+use mathlib.Core.List.{List, [], _∷_, _++_}
+use lib.ListN.{length}
+use lib.IntN.{pos, negsuc, negℤ}
+use Rattle.integers.specs.TwosComplement.{bitsOf}
+use Rattle.words.specs.Bytes.{Bytes}
+use Rattle.opening.specs.Questions.{openingAnswer}
+use Rattle.opening.specs.Opening.{afterOpening}
+use Rattle.reading.specs.Reading.{instrumentReport, groupReport}
+use Rattle.desk.specs.Days.{bytesOf, answersOver, memoryOver, line, groupLine, balance, buy, sell, fill, cancel}
+
+-- one account, group and contract, two instruments of weight 10000 and −5000
+unfoldable pub listingRoster : List ℕ
+listingRoster =
+    bytesOf 2 1
+    ++ (bytesOf 2 1
+    ++ (bytesOf 2 1 ++ (bytesOf 2 2 ++ (1 ∷ 1 ∷ 1 ∷ (bytesOf 4 10000 ++ bytesOf 4 (bitsOf 32 (negsuc 4999)))))))
+
+-- default line 100 100 100 100; group line 60 60; balance of instrument 1 is −2; buy 62 of 1, id 7; sell 1 of 2, id 8;
+-- fill 12 of 7; buy 4 of 2, id 9; cancel 7
+unfoldable pub listingEvents : List (List ℕ)
+listingEvents =
+    line 100 100 100 100
+    ∷ groupLine 60 60
+    ∷ balance (negℤ (pos 2))
+    ∷ buy 1 7 62
+    ∷ sell 2 8 1
+    ∷ fill 7 12
+    ∷ buy 2 9 4
+    ∷ cancel 7
+    ∷ []
+
+-- the output: R and E lines, then I and G lines
+pub record ListingHolds (m : List ℕ) : Type 0 where
+  pub opens : openingAnswer m listingRoster ≡ 0
+  pub answers : answersOver (afterOpening m listingRoster) listingEvents ≡ 0 ∷ 0 ∷ 0 ∷ 0 ∷ 23 ∷ 0 ∷ 0 ∷ 0 ∷ []
+  pub first : instrumentReport (memoryOver (afterOpening m listingRoster) listingEvents) 1 1 ≡ pos 10 ∷ pos 10 ∷ negsuc 9 ∷ []
+  pub second : instrumentReport (memoryOver (afterOpening m listingRoster) listingEvents) 1 2 ≡ pos 0 ∷ pos 4 ∷ pos 0 ∷ []
+  pub group : groupReport (memoryOver (afterOpening m listingRoster) listingEvents) 1 1 ≡ pos 100000 ∷ negsuc 79999 ∷ []
+
+-- in every memory that is long enough
+abbrev pub Listing : Type 0
+Listing = (m : List ℕ) → Bytes m → 65536 ≤ length m → ListingHolds m

@@ -1,0 +1,39 @@
+// One event on a sound desk: judged, and worked where it is accepted.
+ghost use mathlib.Core.Path.{_≡_};
+ghost use Rattle.ledger.specs.declared.order.Side.the-variants.{Buy, Sell};
+ghost use Rattle.book.specs.Answers.{numberOf};
+ghost use Rattle.layout.specs.Judged.{judged};
+ghost use Rattle.soundness.specs.Held.{Held};
+ghost use Rattle.desk.specs.Step.{stepped, movedBy};
+use book::Answer;
+use book::Event;
+use judging::judge;
+use working::Moved;
+use working::nothing;
+use working::work;
+
+// The answer to an event, and the contracts bought and sold that it moved.
+pub struct Outcome {
+    pub answer: Answer,
+    pub moved: Moved,
+}
+
+pub fn step(m: &mut [u8], e: Event) -> Outcome
+    requires { ⌜ Held (now m) ⌝ }
+    ensures answer { λ r. ⌜ numberOf (r .answer) ≡ judged (now (m .entry)) e ⌝ }
+    ensures memory { λ r. ⌜ now (m .exit) ≡ stepped (now (m .entry)) e ⌝ }
+    ensures moved { λ r. ⌜ (r .moved .bought ≡ movedBy (now (m .entry)) e Buy) × (r .moved .sold ≡ movedBy (now (m .entry)) e Sell) ⌝ }
+{
+    let verdict = judge(m, e);
+    let answer = verdict.answer;
+    match answer {
+        Answer::Accepted => Outcome {
+            answer,
+            moved: work(m, e, verdict.place),
+        },
+        no => Outcome {
+            answer: no,
+            moved: nothing(),
+        },
+    }
+}

@@ -1,0 +1,6 @@
+mod Said
+mod ByKind
+mod Places
+mod Verdicts
+mod InTurn
+mod Rises

@@ -1,0 +1,29 @@
+use native.Mathlib.Omega.{arith}
+use borrow.Author.Needs.{needs}
+use borrow.Author.Tests.{lt-ltb, le-ltb}
+use lib.ListN.{length}
+use Rattle.limits.specs.Questions.{firstNo}
+use Rattle.book.specs.Answers.{numberOf}
+use Rattle.layout.specs.View.{openOrders}
+use Rattle.soundness.proofs.SoundDesk.{open-count}
+use Rattle.judging.specs.Rest.{newWithin}
+use Rattle.judging.proofs.Rises.{entered-raises}
+use Rattle.judging.proofs.entries.new_within.Statement.{statement}
+use Rattle.judging.proofs.entries.new_within.Tie as tie
+
+returns : tie.Need-returns
+unfolding newWithin firstNo numberOf
+returns c =
+    let m = c .before .before .before .args .m .now in
+    rw (le-ltb (length (openOrders m)) 256 (omega (arith, open-count m, c .before .word .ensures)))
+
+returns-2 : tie.Need-returns-2
+unfolding newWithin firstNo
+returns-2 c =
+    let s = c .before .before .before .before in
+    let m = s .args .m .now in
+    rw (lt-ltb (length (openOrders m)) 256 (omega (arith, open-count m, c .before .before .word .ensures)))
+    (c .within-limits .ensures _ (entered-raises (s .args .o) (openOrders m) (s .pre .0 .unfilled)))
+
+pub new-within-spec : {M : Type 1} → statement M
+new-within-spec = tie.close (tie.spec (λ c κs. search needs) returns (λ c κs. search needs) returns-2)

@@ -1,0 +1,25 @@
+use Prim.Native.Nat.{ℕ}
+use mathlib.Core.Path.{sym, ap}
+use mathlib.Core.Bool.{Bool, cond}
+use native.Mathlib.Omega.{arith}
+use borrow.Author.Needs.{needs}
+use borrow.Author.Tests.{le-leb, lt-leb}
+use Rattle.ledger.specs.Orders.{remaining}
+use Rattle.book.specs.Answers.{numberOf}
+use Rattle.judging.proofs.orders.filled.Statement.{statement}
+use Rattle.judging.proofs.orders.filled.Tie as tie
+
+returns : tie.Need-returns
+unfolding numberOf
+returns c =
+    let a = c .before .before .args in
+    sym (ap (λ (t : Bool). cond {A = ℕ} t 0 12) (le-leb (a .quantity) (remaining (a .o)) (omega (arith, c .before .remaining .ensures))))
+
+returns-2 : tie.Need-returns-2
+unfolding numberOf
+returns-2 c =
+    let a = c .before .before .args in
+    sym (ap (λ (t : Bool). cond {A = ℕ} t 0 12) (lt-leb (a .quantity) (remaining (a .o)) (omega (arith, c .before .remaining .ensures))))
+
+pub filled-spec : {M : Type 1} → statement M
+filled-spec = tie.close (tie.spec (λ c κs. search needs) returns returns-2)

@@ -1,0 +1,87 @@
+// Question 9: are the figures in range?
+ghost use mathlib.Core.Path.{_≡_};
+ghost use mathlib.Core.Bool.{_&&_, _||_};
+ghost use Rattle.book.specs.Market.{derivatives};
+ghost use Rattle.book.specs.Books.{isMinusOne};
+ghost use Rattle.book.specs.Table.{betweenℤ, isLimit, isQuantity, figuresOfLineFit, lineFits};
+use book::Figures;
+use book::LimitLine;
+use book::is_minus_one;
+
+// From `low` to `high`?
+pub fn in_range(low: i64, high: i64, z: i64) -> bool
+    ensures { λ r. ⌜ r ≡ betweenℤ low high z ⌝ }
+{
+    if low <= z { z <= high } else { false }
+}
+
+// From 0 to 1,000,000,000?
+pub fn is_limit(z: i64) -> bool
+    ensures { λ r. ⌜ r ≡ isLimit derivatives z ⌝ }
+{
+    in_range(0, 1000000000, z)
+}
+
+// A quantity or total: from 1 to 1,000,000?
+pub fn is_quantity(n: i64) -> bool
+    ensures { λ r. ⌜ r ≡ isQuantity n ⌝ }
+{
+    in_range(1, 1000000, n)
+}
+
+// Two limits?
+fn both_limits(x: i64, y: i64) -> bool
+    ensures { λ r. ⌜ r ≡ (isLimit derivatives x && isLimit derivatives y) ⌝ }
+{
+    if !is_limit(x) {
+        return false;
+    }
+    is_limit(y)
+}
+
+// The four figures of a line: limits, or −1 throughout?
+pub fn line_fits(f: Figures) -> bool
+    ensures { λ r. ⌜ r ≡ figuresOfLineFit derivatives f ⌝ }
+{
+    if f.unsets() {
+        return true;
+    }
+    if !both_limits(f.tci, f.tvi) {
+        return false;
+    }
+    both_limits(f.lci, f.lvi)
+}
+
+// −1 both: the group's line is to be set no more.
+fn both_minus_one(lcc: i64, lvc: i64) -> bool
+    ensures { λ r. ⌜ r ≡ (isMinusOne lcc && isMinusOne lvc) ⌝ }
+{
+    if !is_minus_one(lcc) {
+        return false;
+    }
+    is_minus_one(lvc)
+}
+
+// The two figures of a group's line: limits, or −1 both?
+fn group_fits(lcc: i64, lvc: i64) -> bool
+    ensures { λ r. ⌜ r ≡ ((isMinusOne lcc && isMinusOne lvc) || (isLimit derivatives lcc && isLimit derivatives lvc)) ⌝ }
+{
+    if both_minus_one(lcc, lvc) {
+        return true;
+    }
+    both_limits(lcc, lvc)
+}
+
+// The figures of a LIMIT.
+pub fn limit_fits(line: LimitLine) -> bool
+    ensures { λ r. ⌜ r ≡ lineFits derivatives line ⌝ }
+{
+    match line {
+        LimitLine::Own {
+            instrument,
+            figures,
+        } => line_fits(figures),
+        LimitLine::Default { contract, figures } => line_fits(figures),
+        LimitLine::OfGroup { group, lcc, lvc } => group_fits(lcc, lvc),
+    }
+}

@@ -1,0 +1,82 @@
+// The judge of LIMIT, BALANCE and BLOCK.
+ghost use mathlib.Core.Path.{_≡_};
+ghost use Rattle.ledger.specs.Roster.{Numbered};
+ghost use Rattle.book.specs.declared.Event.the-variants.{Limit, Balance, Block};
+ghost use Rattle.book.specs.Answers.{numberOf};
+ghost use Rattle.layout.specs.View.{rosterOf, tradingOf};
+ghost use Rattle.layout.specs.Judged.{judged};
+ghost use Rattle.soundness.specs.Held.{Held};
+use crate::known::account_known;
+use crate::known::blocked_account_known;
+use crate::known::blocked_item_known;
+use crate::known::instrument_known;
+use crate::known::line_known;
+use crate::ranges::in_range;
+use crate::ranges::limit_fits;
+use book::Answer;
+use book::Blocked;
+use book::LimitLine;
+use layout::table::MARKS;
+use words::word;
+
+// LIMIT: questions 7 to 9.
+pub fn judge_limit(m: &[u8], account: u64, line: LimitLine) -> Answer
+    requires { ⌜ Held (now m) ⌝ }
+    ensures { λ r. ⌜ numberOf r ≡ judged (now (m .entry)) (Limit account line) ⌝ }
+{
+    if !account_known(m, account) {
+        return Answer::UnknownAccount;
+    }
+    if !line_known(m, line) {
+        return Answer::UnknownItem;
+    }
+    if !limit_fits(line) {
+        return Answer::FigureOutOfRange;
+    }
+    Answer::Accepted
+}
+
+// Is the account marked as trading?
+fn is_trading(m: &[u8], account: u64) -> bool
+    requires { ⌜ Held (now m) × Numbered (rosterOf (now m) .accounts) account ⌝ }
+    ensures { λ r. ⌜ r ≡ tradingOf (now (m .entry)) account ⌝ }
+{
+    word(m, MARKS + account as usize) != 0
+}
+
+// BALANCE: questions 7 to 10.
+pub fn judge_balance(m: &[u8], account: u64, instrument: u64, balance: i64) -> Answer
+    requires { ⌜ Held (now m) ⌝ }
+    ensures { λ r. ⌜ numberOf r ≡ judged (now (m .entry)) (Balance account instrument balance) ⌝ }
+{
+    if !account_known(m, account) {
+        return Answer::UnknownAccount;
+    }
+    if !instrument_known(m, instrument) {
+        return Answer::UnknownItem;
+    }
+    if !in_range(-1000000000, 1000000000, balance) {
+        return Answer::FigureOutOfRange;
+    }
+    if is_trading(m, account) {
+        return Answer::AlreadyTrading;
+    }
+    Answer::Accepted
+}
+
+// BLOCK: questions 7 to 9.
+pub fn judge_block(m: &[u8], what: Blocked, on: i64) -> Answer
+    requires { ⌜ Held (now m) ⌝ }
+    ensures { λ r. ⌜ numberOf r ≡ judged (now (m .entry)) (Block what on) ⌝ }
+{
+    if !blocked_account_known(m, what) {
+        return Answer::UnknownAccount;
+    }
+    if !blocked_item_known(m, what) {
+        return Answer::UnknownItem;
+    }
+    if !in_range(0, 1, on) {
+        return Answer::FigureOutOfRange;
+    }
+    Answer::Accepted
+}

@@ -1,0 +1,102 @@
+-- The order that an accepted event names, found at its place: what the code stores there is what the event makes of it.
+use Prim.Native.Nat.{ℕ, zero, suc, _+_, _≤_, _<_}
+use mathlib.Core.Path.{_≡_, refl, _∙_, sym, ap}
+use mathlib.Core.Logic.{_≢_}
+use mathlib.Core.Bool.{Bool, true, false, cond}
+use mathlib.Core.List.{List, [], _∷_}
+use mathlib.Core.Option.{some}
+use native.Mathlib.Omega.{arith}
+use lib.Dec.{eqb}
+use lib.IntN.{ℤ, natAbs}
+use lib.ListN.{length, set}
+use mir.Syntax.{w64}
+use mir.Val.{SFits, toZ, ofZ}
+use mir.ValLaws.{toZ-ofZ}
+use Rattle.words.specs.Bytes.{Bytes}
+use Rattle.words.specs.Words.{wordAt}
+use Rattle.ledger.specs.declared.order.Order.{Order}
+use Rattle.ledger.specs.declared.order.Side.{Side}
+use Rattle.ledger.specs.declared.find.Found.the-variants.{At}
+use Rattle.ledger.specs.Orders.{remaining, filledBy, replacedTotal, placeFrom}
+use Rattle.ledger.specs.Records.{orderAt, ordersFrom}
+use Rattle.ledger.proofs.Search.{found-place}
+use Rattle.book.specs.declared.Event.the-variants.{New, Replace, Cancel}
+use Rattle.book.specs.OpenOrders.{find, insert, change, kept}
+use Rattle.book.specs.Books.{newOrder}
+use Rattle.book.proofs.Shifts.{kept-none, kept-some}
+use Rattle.layout.specs.Layout.{memoryBytes, countWord}
+use Rattle.layout.specs.View.{openOrders}
+use Rattle.layout.specs.Stores.{orderIn, storeOrders, Records, without}
+use Rattle.layout.specs.FieldStores.{storeMark}
+use Rattle.layout.proofs.ViewOrders.{change-leaves, change-becomes}
+use Rattle.working.specs.Working.{Ready, Stands, worked}
+use Rattle.working.proofs.Told.{records}
+
+-- ---- the place
+named-inside : (m : List ℕ) (id p : ℕ) → placeFrom 0 id (openOrders m) ≡ At p → p < wordAt m countWord
+unfolding openOrders
+named-inside m id p found = found-place _ id (wordAt m countWord) p found .0
+
+pub named-id : (m : List ℕ) (id p : ℕ) → placeFrom 0 id (openOrders m) ≡ At p → orderIn m p .id ≡ id
+unfolding openOrders
+named-id m id p found = found-place _ id (wordAt m countWord) p found .1
+
+-- the list's search finds the order in that record
+found-there : (s : List ℕ) (id n q p : ℕ) → placeFrom q id (ordersFrom s q n) ≡ At p → find id (ordersFrom s q n) ≡ some (orderAt s p)
+unfolding placeFrom ordersFrom find
+found-there s id zero q p e = let z : _≡_ {A = ℕ} 0 1 = cc in absurd (omega arith)
+found-there s id (suc n) q p e = by (eqb (orderAt s q .id) id) e (found-there s id n (q + 1) p)
+  where
+    by : (t : Bool) → cond t (At q) (placeFrom (q + 1) id (ordersFrom s (q + 1) n)) ≡ At p → (placeFrom (q + 1) id (ordersFrom s (q + 1) n) ≡ At p → find id (ordersFrom s (q + 1) n) ≡ some (orderAt s p)) → cond t (some (orderAt s q)) (find id (ordersFrom s (q + 1) n)) ≡ some (orderAt s p)
+    by true here later = let same : q ≡ p = cc in rw same
+    by false there later = later there
+
+pub named-found : (m : List ℕ) (id p : ℕ) → placeFrom 0 id (openOrders m) ≡ At p → find id (openOrders m) ≡ some (orderIn m p)
+unfolding openOrders
+named-found m id p = found-there _ id (wordAt m countWord) 0 p
+
+-- the records can be worked on at that place
+pub at-place : (m : List ℕ) (id p : ℕ) → Records m → placeFrom 0 id (openOrders m) ≡ At p → Records m × (p < wordAt m countWord)
+at-place m id p r found = (r, named-inside m id p found)
+
+pub loadable : (m : List ℕ) (id p : ℕ) → Records m → placeFrom 0 id (openOrders m) ≡ At p → (memoryBytes ≤ length m) × (p < 256)
+loadable m id p r found = let inside = named-inside m id p found in omega (arith, r .long, r .count)
+
+-- ---- NEW
+pub joined : (m l x : List ℕ) (s : Side) (a i id : ℕ) (n : ℤ) → SFits w64 n → l ≡ storeOrders m (insert (record { id = id; account = a; instrument = i; side = s; total = natAbs (toZ w64 (ofZ w64 n)); filled = 0 }) (openOrders m)) → x ≡ storeMark l a → x ≡ worked m (New s a i id n)
+unfolding worked newOrder
+joined m l x s a i id n fits stored marked = marked ∙ rw (stored, toZ-ofZ w64 n fits)
+
+-- ---- REPLACE
+pub replaced : (m x : List ℕ) (id : ℕ) (n : ℤ) (p : ℕ) (o y : Order) → Bytes m → Ready m (Replace id n) p → SFits w64 n → o ≡ orderIn m p → y ≡ replacedTotal o (natAbs (toZ w64 (ofZ w64 n))) → x ≡ storeOrders m (set (openOrders m) p y) → x ≡ worked m (Replace id n)
+unfolding worked
+replaced m x id n p o y bytes ready fits loaded made stored =
+    stored
+    ∙ ap (storeOrders m)
+    (sym (change-becomes m bytes (records m (ready .held)) id p (ready .named) (λ o. replacedTotal o (natAbs n) ∷ []) y
+    (ap (λ z. z ∷ []) (sym (made ∙ rw (loaded, toZ-ofZ w64 n fits))))))
+
+-- ---- CANCEL
+pub cancelled : (m x : List ℕ) (id p : ℕ) → Bytes m → Ready m (Cancel id) p → x ≡ storeOrders m (without p (openOrders m)) → x ≡ worked m (Cancel id)
+unfolding worked
+cancelled m x id p bytes ready stored =
+    stored ∙ ap (storeOrders m) (sym (change-leaves m bytes (records m (ready .held)) id p (ready .named) (λ o. []) refl))
+
+-- ---- FILL
+-- the order found, filled by n, is `next`, of which r remains
+module _ {m : List ℕ} {p : ℕ} {o : Order} {n : ℕ} (bytes : Bytes m) (stands : Stands m p o n) {next : Order} {r : ℕ} (made : next ≡ filledBy o n) (read : r ≡ remaining next) where
+  abbrev fills : Order → List Order
+  fills x = kept (filledBy x n)
+
+  here : filledBy (orderIn m p) n ≡ next
+  here = sym (made ∙ ap (λ x. filledBy x n) (stands .loaded))
+
+  pub filled-leaves : r ≡ 0 → storeOrders m (without p (openOrders m)) ≡ storeOrders m (change (o .id) fills (openOrders m))
+  filled-leaves none-left =
+      ap (storeOrders m)
+      (sym (change-leaves m bytes (stands .records) (o .id) p (stands .found) fills (ap kept here ∙ kept-none next (sym read ∙ none-left))))
+
+  pub filled-stays : r ≢ 0 → storeOrders m (set (openOrders m) p next) ≡ storeOrders m (change (o .id) fills (openOrders m))
+  filled-stays some-left =
+      ap (storeOrders m)
+      (sym (change-becomes m bytes (stands .records) (o .id) p (stands .found) fills next (ap kept here ∙ kept-some next (λ e. some-left (read ∙ e)))))

@@ -1,0 +1,125 @@
+-- FILL: the order found moves its account's balance, and the numbers that the code adds fit.
+use Prim.Native.Nat.{ℕ, _+_, _*_, _≤_}
+use mathlib.Core.Path.{_≡_, refl, _∙_, sym, ap}
+use mathlib.Core.List.{List}
+use mathlib.Core.Option.{some}
+use native.Mathlib.Omega.{arith}
+use lib.IntN.{ℤ, pos, natAbs, _+ℤ_, _-ℤ_}
+use lib.ListN.{length}
+use mir.Syntax.{w64}
+use mir.Val.{SFits, toZ, ofZ}
+use mir.ValLaws.{toZ-pos, toZ-ofZ}
+use Rattle.integers.specs.Magnitude.{sized, magnitude-sum, magnitude-difference}
+use Rattle.words.specs.Words.{signedAt}
+use Rattle.ledger.specs.declared.order.Side.{Side}
+use Rattle.ledger.specs.declared.order.Side.the-variants.{Buy, Sell}
+use Rattle.ledger.specs.declared.order.Order.{Order}
+use Rattle.ledger.specs.Orders.{remaining, filledBy}
+use Rattle.ledger.specs.Positions.{toward, wayOf}
+use Rattle.ledger.specs.Fillings.{fillMoves}
+use Rattle.ledger.specs.Derivatives.{one}
+use Rattle.ledger.proofs.Amounts.{fill-here}
+use Rattle.book.specs.declared.Event.the-variants.{Fill}
+use Rattle.book.specs.Market.{derivatives}
+use Rattle.book.specs.OpenOrders.{find, change, kept}
+use Rattle.book.specs.Sound.{OrderFits}
+use Rattle.layout.specs.Layout.{memoryBytes, balanceRow}
+use Rattle.layout.specs.View.{rosterOf, balancesOf, openOrders}
+use Rattle.layout.specs.Stores.{orderIn, storeOrders}
+use Rattle.layout.specs.FieldStores.{storeBalance}
+use Rattle.layout.proofs.GuardedTables.{on-here}
+use Rattle.soundness.proofs.Bounded.{balance-small}
+use Rattle.working.specs.Working.{Ready, Stands, worked, moved, onSide}
+use Rattle.working.proofs.Told.{Told, laid, records, told}
+use Rattle.working.proofs.Rooms.{Cast, cast-fits}
+use Rattle.working.proofs.Changing.{named-id, named-found}
+
+-- ---- the balance after a fill by n
+module _ (b : ℤ) (n : ℕ) (fits : SFits w64 b) (small : natAbs b ≤ 1000000000) (few : n ≤ 1000000) where
+  as-signed : toZ w64 n ≡ pos n
+  as-signed = toZ-pos w64 n (omega arith)
+
+  pub raised-fits : SFits w64 (toZ w64 (ofZ w64 b) +ℤ toZ w64 n)
+  raised-fits = rw (toZ-ofZ w64 b fits, as-signed) (omega (sized, magnitude-sum b (pos n)))
+
+  pub lowered-fits : SFits w64 (toZ w64 (ofZ w64 b) -ℤ toZ w64 n)
+  lowered-fits = rw (toZ-ofZ w64 b fits, as-signed) (omega (sized, magnitude-difference b (pos n)))
+
+  pub raised : (s : Side) → s ≡ Buy → toZ w64 (ofZ w64 (toZ w64 (ofZ w64 b) +ℤ toZ w64 n)) ≡ b +ℤ toward (wayOf s) (pos n)
+  raised s same = toZ-ofZ w64 _ raised-fits ∙ rw (toZ-ofZ w64 b fits, as-signed, same)
+
+  pub lowered : (s : Side) → s ≡ Sell → toZ w64 (ofZ w64 (toZ w64 (ofZ w64 b) -ℤ toZ w64 n)) ≡ b +ℤ toward (wayOf s) (pos n)
+  lowered s same = toZ-ofZ w64 _ lowered-fits ∙ rw (toZ-ofZ w64 b fits, as-signed, same)
+
+-- one contract counts for 1
+pub fill-one : (o : Order) (n : ℕ) → fillMoves (derivatives .unit) (o .account) (o .instrument) o n ≡ toward (wayOf (o .side)) (pos n)
+unfolding derivatives one
+fill-one o n =
+    let e : 1 * n ≡ n = omega arith in
+    rw e at (fill-here one (o .account) (o .instrument) o n refl refl)
+
+-- ---- the order in record p is the one that the event names
+module _ {m : List ℕ} {id : ℕ} {n : ℤ} {p : ℕ} (ready : Ready m (Fill id n) p) (fits : SFits w64 n) where
+  abbrev quantity : ℕ
+  quantity = natAbs (toZ w64 (ofZ w64 n))
+
+  same-quantity : quantity ≡ natAbs n
+  same-quantity = ap natAbs (toZ-ofZ w64 n fits)
+
+  t : Told m (Fill id n)
+  t = told m (ready .held) (Fill id n) (ready .accepted)
+
+  pub fill-cast : Cast n
+  fill-cast = cast-fits n fits (t .1 .0)
+
+  module _ {o : Order} (loaded : o ≡ orderIn m p) where
+    found : find id (openOrders m) ≡ some o
+    found = named-found m id p (ready .named) ∙ ap some (sym loaded)
+
+    same-order : t .0 .order ≡ o
+    same-order = let e = t .0 .found in cc (found)
+
+    order-fits : OrderFits (rosterOf m) o
+    order-fits = rw same-order at (t .0 .fits)
+
+    pub fill-room : (memoryBytes ≤ length m) × (o .account ≤ 16) × (o .instrument ≤ 32)
+    fill-room =
+        let bounds = laid m (ready .held) .sized in
+        let a = order-fits .account in
+        let i = order-fits .instrument in
+        omega (arith, ready .held .long)
+
+    own-id : o .id ≡ id
+    own-id = ap (λ x. x .id) loaded ∙ named-id m id p (ready .named)
+
+    pub fill-stands : Stands m p o quantity
+    unfolding remaining
+    fill-stands =
+        record {
+          records = records m (ready .held);
+          found = rw own-id (ready .named);
+          loaded = loaded;
+          small = let rest = order-fits .remains in omega (arith, order-fits .total .1, same-quantity, t .1 .1 .1);
+        }
+
+    -- s is the balance that was read
+    module _ {s : ℤ} (fits-s : SFits w64 s) (read : s ≡ signedAt m (balanceRow (o .account) + o .instrument)) where
+      same-balance : toZ w64 (ofZ w64 s) ≡ balancesOf m (o .account) (o .instrument)
+      unfolding balancesOf
+      same-balance =
+          toZ-ofZ w64 s fits-s
+          ∙ read
+          ∙ sym (on-here (rosterOf m .accounts) (rosterOf m .instruments) (o .account) (o .instrument) _ _ (order-fits .account) (order-fits .instrument))
+
+      pub fill-small : (natAbs (toZ w64 (ofZ w64 s)) ≤ 1000000000) × (quantity ≤ 1000000)
+      fill-small =
+          (rw same-balance (balance-small m (ready .held) (o .account) (o .instrument)), omega (arith, same-quantity, t .1 .1 .1))
+
+      pub fill-worked : {z : ℤ} {l x : List ℕ} → SFits w64 z → l ≡ storeOrders m (change (o .id) (λ y. kept (filledBy y quantity)) (openOrders m)) → z ≡ toZ w64 (ofZ w64 s) +ℤ toward (wayOf (o .side)) (pos quantity) → x ≡ storeBalance l (o .account) (o .instrument) (toZ w64 (ofZ w64 z)) → x ≡ worked m (Fill id n)
+      unfolding worked
+      fill-worked {z} fits-z stored after put =
+          put ∙ rw (stored, toZ-ofZ w64 z fits-z, after, same-balance, own-id, same-quantity, found, fill-one o (natAbs n))
+
+    pub fill-moved : (s : Side) (k : ℕ) → k ≡ onSide s (o .side) quantity → k ≡ moved m (Fill id n) s
+    unfolding moved
+    fill-moved s k e = e ∙ rw (same-quantity, found)

@@ -1,0 +1,11 @@
+pub mod Told
+pub mod Writes
+pub mod Small
+pub mod ViewWorked
+pub mod HeldWorked
+pub mod Rooms
+pub mod LineFigures
+pub mod Blocking
+pub mod Handing
+pub mod Changing
+pub mod Filling

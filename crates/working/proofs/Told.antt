@@ -1,0 +1,157 @@
+-- What an acceptance tells of the event, kind by kind: its numbers are on the roster, its figures in range, its order open.
+use Prim.Native.Nat.{ℕ, _+_, _*_, _≤_, _<_}
+use mathlib.Core.Path.{_≡_, _∙_, ap}
+use mathlib.Core.Bool.{true}
+use mathlib.Core.List.{List}
+use mathlib.Core.Option.{some}
+use native.Mathlib.Omega.{arith}
+use lib.Dec.{leb}
+use lib.IntN.{ℤ, pos, negℤ, natAbs}
+use lib.ListN.{length}
+use lib.Signed.{_≤ℤ_}
+use borrow.Author.Tests.{leb-true, ltb-true}
+use Rattle.integers.specs.Parts.{signed}
+use Rattle.integers.specs.Magnitude.{within-in}
+use Rattle.words.specs.Words.{wordAt, partOf}
+use Rattle.words.proofs.Parts.{word-part}
+use Rattle.ledger.specs.declared.order.Order.{Order}
+use Rattle.ledger.specs.Orders.{remaining}
+use Rattle.ledger.specs.Roster.{Roster, Numbered}
+use Rattle.limits.specs.Lines.{isSet}
+use Rattle.book.specs.declared.LimitLine.{LimitLine}
+use Rattle.book.specs.declared.LimitLine.the-variants.{Own, Default, OfGroup}
+use Rattle.book.specs.declared.Blocked.{Blocked}
+use Rattle.book.specs.declared.Blocked.the-variants.{Account, Instrument, GroupFor}
+use Rattle.book.specs.declared.Event.{Event}
+use Rattle.book.specs.declared.Event.the-variants.{Limit, Balance, Block, New, Replace, Cancel, Fill, Junk}
+use Rattle.book.specs.Market.{derivatives}
+use Rattle.book.specs.OpenOrders.{find}
+use Rattle.book.specs.Sound.{OrderFits, Sound}
+use Rattle.book.specs.Table.{accountKnown, itemKnown, lineKnown, blockAccountKnown, blockItemKnown, isQuantity, lineFits, figuresFit, idOpen, quantityFits, placeFree}
+use Rattle.book.proofs.Accepted.{Passed, accepted}
+use Rattle.book.proofs.Cuts.{standing, standing-member}
+use Rattle.book.proofs.Tables.{between-numbered, betweenℤ-both, quantity-numbered}
+use Rattle.book.proofs.Within.{found-order, test-found}
+use Rattle.layout.specs.Layout.{countWord, ordersWord}
+use Rattle.layout.specs.View.{rosterOf, openOrders, bookOf, tradingOf, view}
+use Rattle.layout.specs.Stores.{orderWord, Records}
+use Rattle.layout.specs.Judged.{judged}
+use Rattle.layout.proofs.SameFields as layout
+use Rattle.layout.proofs.Sides.{between-sided}
+use Rattle.soundness.specs.Held.{Held}
+use Rattle.soundness.proofs.Asked.{numbered-between}
+use Rattle.soundness.proofs.SoundDesk.{held-count, open-count}
+
+-- the item of a line is on the roster
+abbrev pub LineTold : Roster → LimitLine → Type 0
+LineTold r (Own i f) = Numbered (r .instruments) i
+LineTold r (Default c f) = Numbered (r .contracts) c
+LineTold r (OfGroup g x y) = Numbered (r .groups) g
+
+abbrev pub BlockTold : Roster → Blocked → Type 0
+BlockTold r (Account a) = Numbered (r .accounts) a
+BlockTold r (Instrument i) = Numbered (r .instruments) i
+BlockTold r (GroupFor a g) = Numbered (r .accounts) a × Numbered (r .groups) g
+
+-- the order with an id is open, and in range
+pub record Found (m : List ℕ) (id : ℕ) : Type 0 where
+  pub order : Order
+  pub found : find id (openOrders m) ≡ some order
+  pub fits : OrderFits (rosterOf m) order
+
+abbrev pub Quantity : ℤ → Type 0
+Quantity n = (pos 0 ≤ℤ n) × Numbered 1000000 (natAbs n)
+
+abbrev pub Told : List ℕ → Event → Type 0
+Told m (Limit a l) =
+    Numbered (rosterOf m .accounts) a × LineTold (rosterOf m) l × (lineFits derivatives l ≡ true)
+Told m (Balance a i z) =
+    Numbered (rosterOf m .accounts) a × Numbered (rosterOf m .instruments) i × (natAbs z ≤ 1000000000)
+Told m (Block what z) = BlockTold (rosterOf m) what
+Told m (New s a i id n) =
+    Numbered (rosterOf m .accounts) a × Numbered (rosterOf m .instruments) i × Quantity n × (wordAt m countWord < 256)
+Told m (Replace id n) = Found m id × Quantity n
+Told m (Cancel id) = Found m id
+Told m (Fill id n) = (f : Found m id) × Quantity n × (natAbs n ≤ remaining (f .order))
+Told m Junk = Unit
+
+-- the word of a record's side, in the records' part and in the whole
+pub side-word : (m : List ℕ) (p : ℕ) → p < 256 → wordAt (partOf m ordersWord 2048) (p * 8 + 3) ≡ wordAt m (orderWord p + 3)
+side-word m p h = word-part m ordersWord 2048 (p * 8 + 3) (omega arith) ∙ ap (wordAt m) (omega arith)
+
+-- ---- a sound desk
+module _ (m : List ℕ) (held : Held m) where
+  pub sound : Sound derivatives (rosterOf m) (bookOf m) (tradingOf m)
+  unfolding view
+  sound = held .book
+
+  pub laid : layout.Held m
+  laid =
+      let f = held .book .roster in
+      record {
+        long = held .long;
+        sized = record { accounts = f .accounts .1; groups = f .groups .1; contracts = f .contracts .1; instruments = f .instruments .1 };
+        count = held-count m held;
+      }
+
+  -- its records can be worked on
+  pub records : Records m
+  records =
+      record {
+        long = held .long;
+        count = held-count m held;
+        sides = λ p h. between-sided _ (rw (side-word m p (omega (arith, held-count m held))) at (numbered-between 2 _ (held .sides p h)));
+      }
+
+pub passed : (m : List ℕ) (e : Event) → judged m e ≡ 0 → Passed derivatives (rosterOf m) (bookOf m) (tradingOf m) e
+unfolding judged
+passed m e passes = accepted derivatives (rosterOf m) (bookOf m) (tradingOf m) e passes .passed
+
+-- ---- an accepted event
+line-told : (r : Roster) (l : LimitLine) → lineKnown r l ≡ true → LineTold r l
+line-told r (Own i f) h = between-numbered (r .instruments) i h
+line-told r (Default c f) h = between-numbered (r .contracts) c h
+line-told r (OfGroup g x y) h = between-numbered (r .groups) g h
+
+block-told : (r : Roster) (what : Blocked) → blockAccountKnown r what ≡ true → blockItemKnown r what ≡ true → BlockTold r what
+block-told r (Account a) h k = between-numbered (r .accounts) a h
+block-told r (Instrument i) h k = between-numbered (r .instruments) i k
+block-told r (GroupFor a g) h k = (between-numbered (r .accounts) a h, between-numbered (r .groups) g k)
+
+quantity : (n : ℤ) → isQuantity n ≡ true → Quantity n
+quantity n e =
+    let h = betweenℤ-both (pos 1) (pos 1000000) n e in
+    (omega signed, quantity-numbered n e)
+
+module _ (m : List ℕ) (held : Held m) where
+  found-open : (id : ℕ) → isSet (find id (openOrders m)) ≡ true → Found m id
+  unfolding bookOf
+  found-open id e =
+      let f = found-order id (bookOf m) e in
+      record { order = f .0; found = f .1; fits = sound m held .fits (f .0) (standing-member (standing id (openOrders m) (f .0) (f .1))) }
+
+  pub told : (e : Event) → judged m e ≡ 0 → Told m e
+  unfolding accountKnown itemKnown figuresFit idOpen quantityFits placeFree bookOf derivatives
+  told (Limit a l) passes =
+      let ok = passed m (Limit a l) passes in
+      (between-numbered (rosterOf m .accounts) a (ok .account), line-told (rosterOf m) l (ok .item), ok .figures)
+  told (Balance a i z) passes =
+      let ok = passed m (Balance a i z) passes in
+      let z-in = betweenℤ-both (negℤ (pos 1000000000)) (pos 1000000000) z (ok .figures) in
+      (between-numbered (rosterOf m .accounts) a (ok .account), between-numbered (rosterOf m .instruments) i (ok .item), within-in z 1000000000 (z-in .0) (z-in .1))
+  told (Block what z) passes =
+      let ok = passed m (Block what z) passes in
+      block-told (rosterOf m) what (ok .account) (ok .item)
+  told (New s a i id n) passes =
+      let ok = passed m (New s a i id n) passes in
+      let few = ltb-true (length (openOrders m)) 256 (ok .room) in
+      (between-numbered (rosterOf m .accounts) a (ok .account), between-numbered (rosterOf m .instruments) i (ok .item), quantity n (ok .figures), omega (arith, open-count m))
+  told (Replace id n) passes =
+      let ok = passed m (Replace id n) passes in
+      (found-open id (ok .found), quantity n (ok .figures))
+  told (Cancel id) passes = found-open id (passed m (Cancel id) passes .found)
+  told (Fill id n) passes =
+      let ok = passed m (Fill id n) passes in
+      let f = found-open id (ok .found) in
+      (f, quantity n (ok .figures), leb-true (natAbs n) (remaining (f .order)) (test-found (λ o. leb (natAbs n) (remaining o)) (find id (openOrders m)) (f .order) (f .found) (ok .quantity)))
+  told Junk passes = tt

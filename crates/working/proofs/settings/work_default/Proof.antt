@@ -1,0 +1,41 @@
+use mathlib.Core.Path.{_∙_, sym, ap}
+use borrow.Author.Needs.{needs}
+use Rattle.layout.specs.FieldStores.{storeDefault}
+use Rattle.working.proofs.Told.{told}
+use Rattle.working.proofs.Rooms.{room}
+use Rattle.working.proofs.LineFigures.{line-unset}
+use Rattle.working.proofs.settings.work_default.Statement.{statement}
+use Rattle.working.proofs.settings.work_default.Tie as tie
+
+unset-default-requires : tie.Need-unset-default-requires
+unset-default-requires c κs = room (c .before .before .before .before .pre)
+
+limits-of-requires : tie.Need-limits-of-requires
+limits-of-requires c κs =
+    let pre = c .before .before .before .pre in
+    (told _ (pre .held) _ (pre .accepted) .2, sym (c .before .unsets .ensures) ∙ c .if1 .left)
+
+set-default-requires : tie.Need-set-default-requires
+set-default-requires c κs = room (c .before .before .before .before .before .pre)
+
+returns : tie.Need-returns
+returns c =
+    let tested = c .before .before .before .before in
+    c .before .before .unset-default .ensures ∙ ap (storeDefault _ _ _) (sym (line-unset _ _ (tested .before .unsets .ensures) (tested .if1 .taken)))
+
+returns-2 : tie.Need-returns-2
+returns-2 c =
+    c .before .before .set-default .ensures ∙ ap (storeDefault _ _ _) (sym (c .before .before .before .before .limits-of .ensures))
+
+pub work-default-spec : {M : Type 1} → statement M
+work-default-spec =
+    tie.close
+    (tie.spec
+    (λ c κs. search needs)
+    unset-default-requires
+    limits-of-requires
+    set-default-requires
+    (λ c. search needs)
+    returns
+    (λ c. search needs)
+    returns-2)
