@@ -60,6 +60,13 @@ uint8_t desk_open(uint8_t *memory, size_t memory_length, const uint8_t *roster, 
 /* Answers an event, any bytes of any length, and works it where the answer is 0: questions 5 to 24. */
 uint8_t desk_event(uint8_t *memory, size_t memory_length, const uint8_t *event, size_t event_length);
 
+/* Answers many events: the bytes are cut into events of 48, and a short last one is an event too. One answer byte for each event in
+ * order, until the events or the room for answers end; the result is how many answers were written. Answers and memory are those
+ * of the events passed to desk_event one after the other; bytes of the answers past the last one are as they were. Question 5 is
+ * asked once: a memory that is short or holds no sound desk answers 5 to each. */
+size_t desk_run(uint8_t *memory, size_t memory_length, const uint8_t *events, size_t events_length, uint8_t *answers,
+                size_t answers_length);
+
 /* Writes S, PCI and PVI of an account and instrument to the report: questions 5, 7 and 8. A refusal leaves the report as it
  * was; the memory is only read. */
 uint8_t desk_instrument_position(const uint8_t *memory, size_t memory_length, uint16_t account, uint16_t instrument,

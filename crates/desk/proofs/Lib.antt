@@ -7,3 +7,7 @@ pub mod Demands
 pub mod Carried
 pub mod Edges
 pub mod Listing
+mod Cutting
+mod Soundly
+mod Turns
+pub mod RunList

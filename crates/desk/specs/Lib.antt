@@ -4,3 +4,4 @@ pub mod Demands
 pub mod Days
 pub mod Edges
 pub mod Listing
+pub mod Run

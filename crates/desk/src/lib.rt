@@ -1,6 +1,7 @@
 // The desk in its lent memory: the exported functions, and the step of an event on a sound desk. Every answer is 0 or the number of
 // the question that is answered no.
 pub mod numbers;
+pub mod run;
 pub mod step;
 
 ghost use mathlib.Core.Path.{_≡_};

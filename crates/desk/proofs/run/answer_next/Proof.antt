@@ -1,0 +1,42 @@
+use mathlib.Core.Path.{_∙_, sym, ap}
+use borrow.Author.Needs.{needs}
+use Rattle.soundness.specs.Soundness.{soundDesk}
+use Rattle.soundness.proofs.Asked.{said-no, said-yes}
+use Rattle.soundness.proofs.SoundDesk.{sound-out}
+use Rattle.desk.proofs.Stepped.{unsound-event, sound-event}
+use Rattle.desk.proofs.Soundly.{sound-after}
+use Rattle.desk.proofs.run.answer_next.Statement.{statement}
+use Rattle.desk.proofs.run.answer_next.Tie as tie
+
+returns : tie.Need-returns
+returns c =
+    let start = c .before .before .before in
+    let same = unsound-event _ _ (said-no _ _ (start .pre) (c .if1 .taken)) in
+    (same .0, (same .1, start .pre))
+
+step-requires : tie.Need-step-requires
+step-requires c κs =
+    let asked = c .before .before in
+    sound-out _ (said-yes _ _ (asked .before .before .before .pre) (asked .if1 .left))
+
+returns-2 : tie.Need-returns-2
+returns-2 c =
+    let done = c .before .before .before in
+    let decoded = done .before in
+    let asked = decoded .before .before in
+    let known = asked .before .before in
+    let start = known .before in
+    let same = sound-event _ _ (said-yes _ _ (start .pre) (asked .if1 .left)) in
+    let memory = (rw (decoded .decode .ensures) at (done .step .ensures .1 .0)) ∙ same .1 in
+    (c .number-of .ensures ∙ (rw (decoded .decode .ensures) at (done .step .ensures .0)) ∙ same .0, (memory, start .pre ∙ sound-after _ _ (λ i. known .slice-known .given i .fits) (λ i. asked .before .shared-slice-known .given i .fits) ∙ ap soundDesk (sym memory)))
+
+pub answer-next-spec : {M : Type 1} → statement M
+answer-next-spec =
+    tie.close
+    (tie.spec
+    returns
+    (λ c κs. search needs)
+    step-requires
+    (λ c κs. search needs)
+    (λ c. search needs)
+    returns-2)

@@ -1,0 +1,62 @@
+-- Many events in one call: the bytes cut into events, and what the room for answers takes of them.
+use Prim.Native.Nat.{ℕ, zero, suc, _≤_}
+use mathlib.Core.Path.{_≡_}
+use mathlib.Core.Bool.{false}
+use mathlib.Core.List.{List, [], _∷_, _++_, map}
+use lib.ListN.{length, take, drop, replicate}
+use Rattle.book.specs.Kept.{RawEvent, memoryAfter}
+use Rattle.soundness.specs.Soundness.{soundDesk}
+use Rattle.desk.specs.Step.{answerTo}
+use Rattle.desk.specs.Days.{answersOver, memoryOver}
+use Rattle.desk.specs.Demands.{gate}
+
+-- at most n events: the first 48 bytes, then those of the rest; the last may be short
+unfoldable pub cutIn : ℕ → List ℕ → List (List ℕ)
+cutIn zero s = []
+cutIn (suc n) [] = []
+cutIn (suc n) (b ∷ s) = take 48 (b ∷ s) ∷ cutIn n (drop 48 (b ∷ s))
+
+-- all of them: they are no more than the bytes
+unfoldable pub cut : List ℕ → List (List ℕ)
+cut s = cutIn (length s) s
+
+-- the events that a run works: as many as there is room for answers
+abbrev pub eventsFor : (events room : List ℕ) → List (List ℕ)
+eventsFor events room = take (length room) (cut events)
+
+-- the first bytes of the room become the answers; the rest is as it was
+abbrev pub writtenOver : (room answers : List ℕ) → List ℕ
+writtenOver room answers = answers ++ drop (length answers) room
+
+-- ---- demand 3's list is the list that a run works
+-- 48 bytes each; the last may be shorter, but not empty
+abbrev pub Whole : List RawEvent → Type 0
+Whole [] = Unit
+Whole (e ∷ []) = (1 ≤ length (e .bytes)) × (length (e .bytes) ≤ 48)
+Whole (e ∷ f ∷ es) = (length (e .bytes) ≡ 48) × Whole (f ∷ es)
+
+abbrev pub bytesOfEach : List RawEvent → List (List ℕ)
+bytesOfEach = map (λ e. e .bytes)
+
+-- one after the other
+abbrev pub joined : List RawEvent → List ℕ
+joined [] = []
+joined (e ∷ es) = e .bytes ++ joined es
+
+pub record RunIsTheList : Type 0 where
+  pub events : (es : List RawEvent) → Whole es → cut (joined es) ≡ bytesOfEach es
+  -- with room for their answers, all are worked
+  pub worked : (es : List RawEvent) (room : List ℕ) → Whole es → length es ≤ length room → eventsFor (joined es) room ≡ bytesOfEach es
+  pub memory : (m : List ℕ) (es : List RawEvent) → memoryOver m (bytesOfEach es) ≡ memoryAfter gate m es
+  -- N's answer stands behind the list's
+  pub next :
+      (m : List ℕ) (es : List RawEvent) (n : RawEvent)
+      → answersOver m (bytesOfEach (es ++ (n ∷ [])))
+      ≡ answersOver m (bytesOfEach es) ++ (answerTo (memoryAfter gate m es) (n .bytes) ∷ [])
+
+-- ---- a short or unsound memory: every event is answered 5, and nothing is written
+abbrev pub UnsoundRun : Type 0
+UnsoundRun =
+    (m : List ℕ) (es : List (List ℕ))
+    → soundDesk m ≡ false
+    → (answersOver m es ≡ replicate (length es) 5) × (memoryOver m es ≡ m)

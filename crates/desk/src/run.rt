@@ -1,0 +1,58 @@
+// Many events in one call. Question 5 is asked once: an event that is answered leaves the desk as sound as it was.
+ghost use mathlib.Core.Path.{_≡_};
+ghost use Prim.Native.Nat.{_<_};
+ghost use lib.ListN.{length, take, drop};
+ghost use Rattle.soundness.specs.Soundness.{soundDesk};
+ghost use Rattle.desk.specs.Step.{answerTo, after};
+ghost use Rattle.desk.specs.Days.{answersOver, memoryOver};
+ghost use Rattle.desk.specs.Run.{eventsFor, writtenOver};
+use crate::numbers::number_of;
+use crate::step::step;
+use decoding::decode;
+use soundness::is_sound;
+
+// The event at byte `at`: 48 bytes, or what is left.
+fn event_at<'a>(events: &'a [u8], at: usize) -> &'a [u8]
+    requires { ⌜ at < length (now events) ⌝ }
+    ensures { λ r. ⌜ now r ≡ take 48 (drop at (now (events .entry))) ⌝ }
+{
+    if events.len() - at < 48 {
+        return &events[at..];
+    }
+    let end = at + 48;
+    &events[at..end]
+}
+
+// Answers an event at a desk that is sound or not, and works it where it is accepted.
+fn answer_next(m: &mut [u8], event: &[u8], sound: bool) -> u8
+    requires { ⌜ sound ≡ soundDesk (now m) ⌝ }
+    ensures answer { λ r. ⌜ r ≡ answerTo (now (m .entry)) (now (event .entry)) ⌝ }
+    ensures memory { λ r. ⌜ now (m .exit) ≡ after (now (m .entry)) (now (event .entry)) ⌝ }
+    ensures sound { λ r. ⌜ sound ≡ soundDesk (now (m .exit)) ⌝ }
+{
+    if !sound {
+        return 5;
+    }
+    let outcome = step(m, decode(event));
+    let answer = outcome.answer;
+    number_of(answer)
+}
+
+// Answers the events, a byte for each, until they or the room for answers end. Returns how many.
+#[no_mangle]
+pub extern "C" fn desk_run(m: &mut [u8], events: &[u8], answers: &mut [u8]) -> usize
+    ensures count { λ r. ⌜ r ≡ length (eventsFor (now (events .entry)) (now (answers .entry))) ⌝ }
+    ensures memory { λ r. ⌜ now (m .exit) ≡ memoryOver (now (m .entry)) (eventsFor (now (events .entry)) (now (answers .entry))) ⌝ }
+    ensures answers { λ r. ⌜ now (answers .exit) ≡ writtenOver (now (answers .entry)) (answersOver (now (m .entry)) (eventsFor (now (events .entry)) (now (answers .entry)))) ⌝ }
+{
+    let sound = is_sound(m);
+    let mut at = 0;
+    let mut count = 0;
+    while at < events.len() && count < answers.len() {
+        let event = event_at(events, at);
+        answers[count] = answer_next(m, event, sound);
+        at += event.len();
+        count += 1;
+    }
+    count
+}
