@@ -8,7 +8,7 @@ use lib.ListN.{length, take, drop, set, length-take, length-drop, length-set, dr
 use lib.Seq.{take-nil, sets, sets-eq}
 use Rattle.desk.specs.Step.{answerTo, after}
 use Rattle.desk.specs.Days.{answersOver, memoryOver}
-use Rattle.desk.specs.Run.{cut, eventsFor, writtenOver}
+use Rattle.desk.specs.Run.{cut, eventsFor, answered}
 use Rattle.desk.proofs.Cutting.{cut-none, cut-more, past, event-within}
 
 length-answers : (m : List ℕ) (es : List (List ℕ)) → length (answersOver m es) ≡ length es
@@ -33,7 +33,7 @@ pub record Running (first events room m answers : List ℕ) (at count : ℕ) : T
 abbrev Ran : (first events room m answers : List ℕ) (count : ℕ) → Type 0
 Ran first events room m answers count =
     (count ≡ length (eventsFor events room))
-    × ((m ≡ memoryOver first (eventsFor events room)) × (answers ≡ writtenOver room (answersOver first (eventsFor events room))))
+    × ((m ≡ memoryOver first (eventsFor events room)) × (answers ≡ answered first events room))
 
 module _ (first events room : List ℕ) where
   pub begins : Running first events room first room 0 0
@@ -51,7 +51,7 @@ module _ (first events room : List ℕ) where
     -- one event more
     pub turns : (e after-e : List ℕ) (a : ℕ) → at < length events → count < length answers → e ≡ take 48 (drop at events) → a ≡ answerTo m e → after-e ≡ after m e → Running first events room after-e (set answers count a) (at + length e) (count + 1)
     unfolding memoryOver answersOver
-    turns e after-e a more space is answered worked =
+    turns e after-e a more space is told worked =
         let next : left events room at count ≡ e ∷ left events room (at + length e) (count + 1) = rw is (next-left at count more (omega (arith, r .size))) in
         record {
           within = event-within at events e more is .1;
@@ -59,17 +59,17 @@ module _ (first events room : List ℕ) where
           size = length-set answers count a ∙ r .size;
           counted = omega (arith, r .counted, ap length next);
           memory = rw worked (rw next at (r .memory));
-          written = rw (worked, answered, add-one) (rw (next, add-one) at (r .written));
+          written = rw (worked, told, add-one) (rw (next, add-one) at (r .written));
         }
 
     -- no event is left, or no room
     ends : left events room at count ≡ [] → Ran first events room m answers count
     unfolding memoryOver answersOver
     ends none-left =
-        let answered = answersOver first (eventsFor events room) in
-        let few : 0 + length answered ≤ length room = omega (arith, length-answers first (eventsFor events room), length-take (length room) (cut events)) in
-        let all : 0 + length answered ≡ length answered = omega arith in
-        (omega (arith, r .counted, ap length none-left), (rw none-left at (r .memory), (rw none-left at (r .written)) ∙ sets-eq answered room 0 few ∙ rw all))
+        let all = answersOver first (eventsFor events room) in
+        let few : 0 + length all ≤ length room = omega (arith, length-answers first (eventsFor events room), length-take (length room) (cut events)) in
+        let size : 0 + length all ≡ length all = omega arith in
+        (omega (arith, r .counted, ap length none-left), (rw none-left at (r .memory), (rw none-left at (r .written)) ∙ sets-eq all room 0 few ∙ rw size))
 
     pub events-end : length events ≤ at → Ran first events room m answers count
     events-end h = ends (rw (drop-of-length-le events h, cut-none) (take-nil (length room - count)))

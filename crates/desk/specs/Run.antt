@@ -24,9 +24,11 @@ cut s = cutIn (length s) s
 abbrev pub eventsFor : (events room : List ℕ) → List (List ℕ)
 eventsFor events room = take (length room) (cut events)
 
--- the first bytes of the room become the answers; the rest is as it was
-abbrev pub writtenOver : (room answers : List ℕ) → List ℕ
-writtenOver room answers = answers ++ drop (length answers) room
+-- the room for answers after a run at memory m: its first bytes are the answers, and the rest is as it was
+abbrev pub answered : (m events room : List ℕ) → List ℕ
+answered m events room =
+    let answers = answersOver m (eventsFor events room) in
+    answers ++ drop (length answers) room
 
 -- ---- demand 3's list is the list that a run works
 -- 48 bytes each; the last may be shorter, but not empty

@@ -4,8 +4,8 @@ ghost use Prim.Native.Nat.{_<_};
 ghost use lib.ListN.{length, take, drop};
 ghost use Rattle.soundness.specs.Soundness.{soundDesk};
 ghost use Rattle.desk.specs.Step.{answerTo, after};
-ghost use Rattle.desk.specs.Days.{answersOver, memoryOver};
-ghost use Rattle.desk.specs.Run.{eventsFor, writtenOver};
+ghost use Rattle.desk.specs.Days.{memoryOver};
+ghost use Rattle.desk.specs.Run.{eventsFor, answered};
 use crate::numbers::number_of;
 use crate::step::step;
 use decoding::decode;
@@ -43,7 +43,7 @@ fn answer_next(m: &mut [u8], event: &[u8], sound: bool) -> u8
 pub extern "C" fn desk_run(m: &mut [u8], events: &[u8], answers: &mut [u8]) -> usize
     ensures count { λ r. ⌜ r ≡ length (eventsFor (now (events .entry)) (now (answers .entry))) ⌝ }
     ensures memory { λ r. ⌜ now (m .exit) ≡ memoryOver (now (m .entry)) (eventsFor (now (events .entry)) (now (answers .entry))) ⌝ }
-    ensures answers { λ r. ⌜ now (answers .exit) ≡ writtenOver (now (answers .entry)) (answersOver (now (m .entry)) (eventsFor (now (events .entry)) (now (answers .entry)))) ⌝ }
+    ensures answers { λ r. ⌜ now (answers .exit) ≡ answered (now (m .entry)) (now (events .entry)) (now (answers .entry)) ⌝ }
 {
     let sound = is_sound(m);
     let mut at = 0;
