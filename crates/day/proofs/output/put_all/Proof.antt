@@ -1,0 +1,27 @@
+use Prim.Native.Nat.{_-_}
+use mathlib.Core.Path.{_≡_}
+use lib.ListN.{length}
+use borrow.Author.Needs.{needs}
+use Rattle.day.proofs.output.put_all.Statement.{statement}
+use Rattle.day.proofs.output.put_all.Tie as tie
+
+abbrev Inv-loop : tie.InvT-loop
+Inv-loop buf₀ used text at₀ k₀ k-end buf at k = length buf ≡ length buf₀
+
+abbrev μ-loop : tie.MeasureT-loop
+μ-loop buf₀ used text at₀ k₀ k-end buf at k = k-end - k
+
+pub put-all-spec : {M : Type 1} → statement M
+put-all-spec =
+    tie.close
+    (tie.spec
+    Inv-loop
+    μ-loop
+    (λ c. search needs)
+    (λ c. search needs)
+    (λ c κs. search needs)
+    (λ c. search needs)
+    (λ c. search needs)
+    (λ c. search needs)
+    (λ c. search needs)
+    (λ c. search needs))
