@@ -32,12 +32,12 @@ use layout::table::OWN_SET;
 use layout::table::ROSTER;
 use ledger::order::Order;
 use limits::lines::line_in_force;
-use limits::positions::PositionAnswer;
-use limits::positions::positions_within;
 use limits::questions::Existence;
 use limits::questions::SizeAnswer;
 use limits::questions::limits_exist;
 use limits::questions::order_size;
+use limits::within::PositionAnswer;
+use limits::within::positions_within;
 use words::part;
 use words::word;
 

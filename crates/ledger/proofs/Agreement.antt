@@ -8,8 +8,8 @@ use Rattle.integers.specs.Sum.{sumTo, sumTo-same}
 use Rattle.ledger.specs.declared.order.Order.{Order}
 use Rattle.ledger.specs.Roster.{Roster, Numbered, groupOfInstrument}
 use Rattle.ledger.specs.Positions.{Way, Place, instrument, group, ofInstrument, groupPart, sumGroup, potential}
-use Rattle.ledger.proofs.Weighing.{part-same}
 use Rattle.ledger.proofs.Groups.{groupTerm}
+use Rattle.ledger.proofs.Places.{part-same}
 
 -- two rosters, each with balances, that say the same of each instrument on them
 pub record Agree (r r′ : Roster) (S S′ : ℕ → ℤ) : Type 0 where

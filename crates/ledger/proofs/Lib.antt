@@ -1,8 +1,6 @@
 pub mod Fits
 pub mod Search
-pub mod Counting
-mod Gathering
-pub mod Weighing
+pub mod RosterWords
 pub mod Agreement
 pub mod Ways
 pub mod Amounts

@@ -27,6 +27,10 @@ unfolding groupPart
 weight-part w (pos k) p = refl
 weight-part w (negsuc k) p = refl
 
+pub part-same : (w : Way) (K : ℤ) (p q : Way → ℤ) → ((v : Way) → p v ≡ q v) → groupPart w K p ≡ groupPart w K q
+part-same w K p q same =
+    weight-part w K p ∙ ap (λ (z : ℤ). pos (natAbs K) *ℤ z) (same (wayBy K w)) ∙ sym (weight-part w K q)
+
 pub weight-way : (K : ℤ) (w : Way) → wayBy K (wayBy K w) ≡ w
 weight-way (pos k) w = refl
 weight-way (negsuc k) long = refl

@@ -5,6 +5,3 @@ pub mod Fillings
 pub mod Moves
 pub mod Records
 pub mod Derivatives
-pub mod Gathered
-pub mod Bounds
-pub mod Answers

@@ -13,8 +13,8 @@ use Rattle.ledger.specs.declared.order.Side.{Side}
 use Rattle.ledger.specs.Positions.{openOn}
 use Rattle.ledger.specs.Records.{ordersFrom, rosterIn}
 use Rattle.ledger.specs.Derivatives.{one}
-use Rattle.ledger.specs.Bounds.{InstrumentBounds, GroupBounds}
-use Rattle.ledger.proofs.Counting.{small-orders}
+use Rattle.positions.specs.Bounds.{InstrumentBounds, GroupBounds}
+use Rattle.positions.proofs.Counting.{small-orders}
 use Rattle.ledger_probe.specs.Checked.{FitOrders, FitBalances, FitRoster}
 
 pub never : {A : Type 0} → false ≡ true → A

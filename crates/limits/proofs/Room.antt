@@ -7,14 +7,14 @@ use lib.IntN.{ℤ, pos, natAbs, _+ℤ_, _*ℤ_, +ℤ-assoc}
 use Rattle.integers.specs.Magnitude.{magnitude-product-≤}
 use Rattle.ledger.specs.declared.order.Order.{Order}
 use Rattle.ledger.specs.declared.order.Side.{Side}
-use Rattle.ledger.specs.declared.positions.GroupPosition.{GroupPosition}
+use Rattle.positions.specs.declared.GroupPosition.{GroupPosition}
 use Rattle.ledger.specs.Roster.{Numbered}
 use Rattle.ledger.specs.Positions.{Way, long, short, group, toward, wayOf, sideTo, openOn, ofInstrument, potential}
 use Rattle.ledger.specs.Records.{ordersFrom, balancesIn, rosterIn}
 use Rattle.ledger.specs.Derivatives.{one}
-use Rattle.ledger.specs.Gathered.{onWay}
-use Rattle.ledger.specs.Bounds.{GroupBounds}
-use Rattle.ledger.specs.Answers.{InGroup}
+use Rattle.positions.specs.Gathered.{onWay}
+use Rattle.positions.specs.Bounds.{GroupBounds}
+use Rattle.positions.specs.Answers.{InGroup}
 use Rattle.ledger.proofs.Ways.{side-back}
 use Rattle.ledger.proofs.Sizes.{instrument-magnitude, potential-magnitude}
 

@@ -8,7 +8,7 @@ use Rattle.words.specs.Words.{wordAt}
 use Rattle.ledger.specs.declared.order.Order.{Order}
 use Rattle.ledger.specs.Roster.{Roster, Numbered, groupOfInstrument}
 use Rattle.ledger.specs.Records.{rosterIn}
-use Rattle.ledger.specs.Bounds.{GroupBounds}
+use Rattle.positions.specs.Bounds.{GroupBounds}
 use Rattle.limits.specs.Lines.{Lines, lineInForce, isSet}
 use Rattle.limits.specs.InBytes.{lineAt, groupLineAt, saysSet}
 

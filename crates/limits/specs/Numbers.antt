@@ -10,8 +10,8 @@ use Rattle.limits.specs.declared.questions.Existence.{Existence}
 use Rattle.limits.specs.declared.questions.Existence.the-variants.{Configured, NotConfigured}
 use Rattle.limits.specs.declared.questions.SizeAnswer.{SizeAnswer}
 use Rattle.limits.specs.declared.questions.SizeAnswer.the-variants.{Fits, BuyTooLarge, SellTooLarge}
-use Rattle.limits.specs.declared.positions.PositionAnswer.{PositionAnswer}
-use Rattle.limits.specs.declared.positions.PositionAnswer.the-variants.{Within, LongInstrument, ShortInstrument, LongGroup, ShortGroup}
+use Rattle.limits.specs.declared.within.PositionAnswer.{PositionAnswer}
+use Rattle.limits.specs.declared.within.PositionAnswer.the-variants.{Within, LongInstrument, ShortInstrument, LongGroup, ShortGroup}
 use Rattle.limits.specs.Lines.{Lines}
 use Rattle.limits.specs.Questions.{Question}
 use Rattle.limits.specs.Asked.{limitsSet, sizeFits}

@@ -1,4 +1,4 @@
 // Limit lines and the questions about them, over the ledger's positions.
 pub mod lines;
-pub mod positions;
 pub mod questions;
+pub mod within;

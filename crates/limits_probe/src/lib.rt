@@ -20,12 +20,12 @@ use ledger::order::Order;
 use ledger::records::side_of;
 use ledger_probe::group_input_fits;
 use limits::lines::line_in_force;
-use limits::positions::PositionAnswer;
-use limits::positions::positions_within;
 use limits::questions::Existence;
 use limits::questions::SizeAnswer;
 use limits::questions::limits_exist;
 use limits::questions::order_size;
+use limits::within::PositionAnswer;
+use limits::within::positions_within;
 use words::word;
 
 fn existence_number(a: Existence) -> u64

@@ -8,13 +8,13 @@ use lib.IntN.{ℤ}
 use lib.ListN.{length}
 use borrow.Author.Tests.{eq-eqb, ne-eqb}
 use Rattle.words.specs.Words.{wordAt, partOf}
-use Rattle.ledger.specs.declared.positions.InstrumentPosition.{InstrumentPosition}
-use Rattle.ledger.specs.declared.positions.GroupPosition.{GroupPosition}
+use Rattle.positions.specs.declared.InstrumentPosition.{InstrumentPosition}
+use Rattle.positions.specs.declared.GroupPosition.{GroupPosition}
 use Rattle.ledger.specs.Roster.{Numbered}
 use Rattle.ledger.specs.Positions.{long, short, instrument, group, potential}
 use Rattle.ledger.specs.Records.{ordersFrom}
 use Rattle.ledger.specs.Derivatives.{one}
-use Rattle.ledger.specs.Answers.{InInstrument, InGroup}
+use Rattle.positions.specs.Answers.{InInstrument, InGroup}
 use Rattle.limits.specs.Questions.{firstNo}
 use Rattle.book.specs.Decoding.{between}
 use Rattle.book.specs.Market.{derivatives}

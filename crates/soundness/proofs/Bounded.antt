@@ -14,9 +14,9 @@ use Rattle.ledger.specs.Orders.{remaining}
 use Rattle.ledger.specs.Roster.{Numbered}
 use Rattle.ledger.specs.Positions.{long, short, openOn, ofInstrument}
 use Rattle.ledger.specs.Records.{orderAt, ordersFrom, rosterIn}
-use Rattle.ledger.specs.Bounds.{OpenBounds, InstrumentBounds, GatherBounds, BalanceBounds, RosterBounds, GroupBounds}
+use Rattle.positions.specs.Bounds.{OpenBounds, InstrumentBounds, GatherBounds, BalanceBounds, RosterBounds, GroupBounds}
 use Rattle.ledger.specs.Derivatives.{one}
-use Rattle.ledger.proofs.Counting.{small-orders}
+use Rattle.positions.proofs.Counting.{small-orders}
 use Rattle.ledger.proofs.Sums.{open-nonneg}
 use Rattle.book.specs.Market.{derivatives}
 use Rattle.layout.specs.Layout.{countWord, rosterWord, ordersWord, balanceRow}

@@ -19,7 +19,7 @@ use Rattle.ledger.specs.Roster.{Roster, Numbered}
 use Rattle.ledger.specs.Positions.{sameSide}
 use Rattle.ledger.specs.Records.{orderAt, ordersFrom}
 use Rattle.ledger.specs.Derivatives.{counted}
-use Rattle.ledger.proofs.Counting.{counted-other-account, counted-other-instrument, counted-other-side, counted-own, left, counted-more, counted-all}
+use Rattle.positions.proofs.Counting.{counted-other-account, counted-other-instrument, counted-other-side, counted-own, left, counted-more, counted-all}
 use Rattle.layout.specs.Layout.{countWord, ordersWord}
 use Rattle.layout.specs.View.{rosterOf, tradingOf, openOrders}
 use Rattle.soundness.specs.Soundness.{ascend, orderSound, recordsSound, ordersSound}

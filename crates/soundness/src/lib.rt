@@ -1,9 +1,9 @@
 // Question 5: is the lent memory long enough, and does it hold a sound desk?
 pub mod lines;
 pub mod orders;
-pub mod positions;
 pub mod ranges;
 pub mod roster;
+pub mod sums;
 
 ghost use mathlib.Core.Path.{_≡_};
 ghost use Rattle.soundness.specs.Soundness.{soundDesk};
@@ -31,5 +31,5 @@ pub fn is_sound(m: &[u8]) -> bool
     if !lines::lines_are_sound(m) {
         return false;
     }
-    positions::orders_and_positions(m)
+    sums::orders_and_positions(m)
 }

@@ -3,6 +3,7 @@
 //!
 //! A day is bytes only. [`kinds::kinds`] lists the generators, each fixed by its seed.
 
+pub mod answers;
 pub mod class;
 pub mod demand3;
 pub mod faults;

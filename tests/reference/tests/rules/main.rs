@@ -20,3 +20,6 @@ mod rosters;
 mod soundness;
 mod trial;
 mod walk;
+
+/// The memory that the rules are tried on.
+use reference::{Lent, MEMORY};

@@ -1,7 +1,7 @@
 //! A weight of −2 and a balance of −2 are stored, read and used as −2.
 
 use crate::trial::{default_line, group_line, one_group, own_line, Trial, ONE, WIDE};
-use reference::{Lent, MEMORY};
+use crate::{Lent, MEMORY};
 use wire::{balance, fill, new, BUY, SELL};
 
 #[test]

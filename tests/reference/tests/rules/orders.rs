@@ -4,8 +4,8 @@ use crate::trial::{default_line, group_line, own_line, Trial, ONE, WIDE};
 use reference::{Order, Side};
 use wire::{balance, cancel, fill, new, replace, RosterSpec, BUY, SELL};
 
-fn open_orders(trial: &Trial) -> &[Order] {
-    &trial.lent.desk().unwrap().book.orders
+fn open_orders(trial: &Trial) -> Vec<Order> {
+    trial.lent.desk().unwrap().book.orders.clone()
 }
 
 fn two_accounts() -> Trial {

@@ -1,7 +1,7 @@
 //! The first failed question gives the number: an event that fails many is put right step by step.
 
 use crate::trial::{default_line, group_line, own_line, Trial, ONE, WIDE};
-use reference::{Lent, MEMORY};
+use crate::{Lent, MEMORY};
 use wire::{balance, block, block_level, cancel, fill, limit, new, replace};
 use wire::{Fields, RosterSpec, BUY, SELL};
 

@@ -1,7 +1,8 @@
 //! Reading positions: refused by 5, 7 and 8 in that order.
 
 use crate::trial::{Trial, ONE};
-use reference::{GroupPosition, InstrumentPosition, Lent, MEMORY};
+use crate::{Lent, MEMORY};
+use reference::{GroupPosition, InstrumentPosition};
 use wire::{balance, new, RosterSpec, SELL};
 
 /// Three accounts, two groups, one contract in each, four instruments.

@@ -1,6 +1,7 @@
 //! Questions 1 to 4: rosters at and past each of their bounds.
 
-use reference::{Lent, Roster, MEMORY};
+use crate::{Lent, MEMORY};
+use reference::Roster;
 use wire::RosterSpec;
 
 fn open(roster: &[u8]) -> u8 {

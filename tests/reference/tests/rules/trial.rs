@@ -1,6 +1,6 @@
 //! A desk to try events on.
 
-use reference::{Lent, MEMORY};
+use crate::{Lent, MEMORY};
 use wire::{limit, limit_level, Fields, RosterSpec};
 
 /// The largest figure that a limit may have.

@@ -2,7 +2,7 @@
 
 use crate::dice::Dice;
 use crate::trial::{Trial, WIDE};
-use reference::Lent;
+use crate::Lent;
 use wire::{balance, block, cancel, fill, limit, new, replace, Fields, RosterSpec, BUY, SELL};
 
 fn roster() -> RosterSpec {

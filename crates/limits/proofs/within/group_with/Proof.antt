@@ -1,0 +1,75 @@
+use Prim.Native.Nat.{_≤_}
+use mathlib.Core.Path.{_≡_, _∙_, ap}
+use native.Mathlib.Omega.{arith}
+use borrow.Author.Needs.{needs}
+use lib.IntN.{ℤ, pos, natAbs, _*ℤ_}
+use mir.Syntax.{w64}
+use mir.Val.{toZ}
+use mir.ValLaws.{toZ-pos}
+use Rattle.ledger.specs.Roster.{groupOfInstrument}
+use Rattle.ledger.specs.Positions.{group, wayOf, potential}
+use Rattle.ledger.specs.Records.{ordersFrom, balancesIn, rosterIn}
+use Rattle.ledger.specs.Derivatives.{one}
+use Rattle.ledger.proofs.Fits.{again, small-again}
+use Rattle.ledger.proofs.RosterWords.{contract-word, group-word}
+use Rattle.limits.proofs.Room.{on-way, group-room, rise-room}
+use Rattle.limits.proofs.within.group_with.Statement.{statement}
+use Rattle.limits.proofs.within.group_with.Tie as tie
+
+contract-small : (c : tie.After-word) → c .word .result ≤ 8
+contract-small c =
+    let s = c .before .before .before .before in
+    omega (arith, c .word .ensures ∙ contract-word _ _, s .pre .0 .positions .roster-small .contract (s .args .o .instrument) (s .pre .0 .instrument))
+
+group-of : (c : tie.After-word2) → let a = c .before .before .before .before .before .args in c .word2 .result ≡ groupOfInstrument (rosterIn (a .roster .now)) (a .o .instrument)
+group-of c = c .word2 .ensures ∙ group-word _ _ _ (c .before .word .ensures)
+
+-- the weight's magnitude and the rise, as the machine reads them
+read : (c : tie.After-magnitude) → let a = c .before .before .before .before .before .before .before .args in (again (c .magnitude .result) ≡ pos (natAbs (a .weight))) × (toZ w64 (a .added) ≡ pos (a .added))
+read c =
+    let s = c .before .before .before .before .before .before .before in
+    let k = c .magnitude .result in
+    let e : k ≡ pos (natAbs (s .args .weight)) = c .magnitude .ensures ∙ ap (λ (z : ℤ). pos (natAbs z)) (small-again (s .args .weight) (omega (arith, s .pre .1))) in
+    (small-again k (omega (arith, ap natAbs e, s .pre .1)) ∙ e, toZ-pos w64 _ (omega (arith, s .pre .0 .small)))
+
+times-requires : tie.Need-times-requires
+times-requires c κs =
+    let s = c .before .before .before .before .before .before .before in
+    rw (read c .0, read c .1) (omega arith, s .pre .1)
+
+rise : (c : tie.After-times) → let a = c .before .before .before .before .before .before .before .before .args in c .times .result .0 ≡ pos (natAbs (a .weight)) *ℤ pos (a .added)
+rise c = c .times .ensures ∙ rw (read (c .before) .0, read (c .before) .1)
+
+before : (c : tie.After-on-side) → let a = c .before .before .before .before .before .before .before .before .before .args in c .on-side .result .0 ≡ potential one (rosterIn (a .roster .now)) (ordersFrom (a .orders .now) 0 (a .n)) (a .o .account) (balancesIn (a .balances .now)) (group (groupOfInstrument (rosterIn (a .roster .now)) (a .o .instrument))) (wayOf (a .to))
+before c =
+    let at = c .before .before .before in
+    let a = at .before .before .before .before .before .before .args in
+    c .on-side .ensures
+    ∙ on-way (a .orders .now) (a .n) (a .balances .now) (a .roster .now) (a .o .account) (at .before .word2 .result) (wayOf (a .to)) (at .group-position .result) (at .group-position .ensures)
+    ∙ rw (group-of (at .before))
+
+plus-requires : tie.Need-plus-requires
+plus-requires c κs =
+    let s = c .before .before .before .before .before .before .before .before .before in
+    let a = s .args in
+    rw (before c, rise (c .before))
+    (omega (arith, group-room (a .orders .now) (a .n) (a .balances .now) (a .roster .now) (a .o .account) (groupOfInstrument (rosterIn (a .roster .now)) (a .o .instrument)) (s .pre .0 .positions) (wayOf (a .to)), rise-room (natAbs (a .weight)) (a .added) (s .pre .1) (s .pre .0 .small)))
+
+returns : tie.Need-returns
+returns c = c .plus .ensures ∙ rw (before (c .before), rise (c .before .before))
+
+pub group-with-spec : {M : Type 1} → statement M
+group-with-spec =
+    tie.close
+    (tie.spec
+    (λ c. search needs)
+    (λ c κs. search needs)
+    (λ c. omega (arith, contract-small c))
+    (λ c κs. omega (arith, contract-small c, c .before .before .before .before .pre .0 .positions .roster-small .long))
+    (λ c κs. search needs)
+    (λ c. search needs)
+    (λ c κs. search needs)
+    times-requires
+    (λ c κs. search needs)
+    plus-requires
+    returns)

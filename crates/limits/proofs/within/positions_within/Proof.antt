@@ -1,0 +1,103 @@
+use mathlib.Core.Path.{_≡_, _∙_, sym, ap}
+use mathlib.Core.Bool.{Bool, true, false, cond}
+use mathlib.Core.List.{List}
+use native.Mathlib.Omega.{arith}
+use borrow.Author.Needs.{needs}
+use borrow.Author.Tests.{not-true, not-false}
+use lib.IntN.{natAbs}
+use lib.Signed.{leZ}
+use mir.Syntax.{w64}
+use mir.Val.{toZ, ofZ}
+use mir.ValLaws.{toZ-ofZ}
+use Rattle.ledger.specs.declared.order.Order.{Order}
+use Rattle.ledger.specs.Positions.{wayOf}
+use Rattle.ledger.specs.Records.{ordersFrom, balancesIn, rosterIn}
+use Rattle.ledger.specs.Derivatives.{one}
+use Rattle.ledger.proofs.Fits.{again}
+use Rattle.ledger.proofs.RosterWords.{weight-word}
+use Rattle.limits.specs.Lines.{Lines}
+use Rattle.limits.specs.Questions.{firstNo}
+use Rattle.limits.specs.Asked.{positionQuestions}
+use Rattle.limits.specs.Raised.{Raised}
+use Rattle.limits.specs.Numbers.{groupNumber}
+use Rattle.limits.specs.Bounds.{InForce, OfGroup}
+use Rattle.limits.proofs.LinesRead.{group-figure-small}
+use Rattle.limits.proofs.InOrder.{instrument-passed, no-group, by-group}
+use Rattle.limits.proofs.within.positions_within.Statement.{statement}
+use Rattle.limits.proofs.within.positions_within.Tie as tie
+
+returns : tie.Need-returns
+returns c ls after in-force of-group raised =
+    let at = c .before .before in
+    c .instrument-refusal .ensures
+    ∙ sym (instrument-passed _ ls _ after _ _ _ _ _ in-force of-group raised _ _ (at .before .instrument-with .ensures) (at .before .before .largest-position .ensures) (sym (at .at-most .ensures) ∙ not-true _ (c .before .if1 .taken)))
+
+passed : (c : tie.Else1) → leZ (c .before .before .instrument-with .result .0) (c .before .before .before .largest-position .result .0) ≡ true
+passed c = sym (c .before .at-most .ensures) ∙ not-false _ (c .if1 .left)
+
+weight : (c : tie.After-signed-word) → let a = c .before .before .before .before .before .before .before .before .before .before .args in again (c .signed-word .result) ≡ rosterIn (a .roster .now) .weight (a .o .instrument)
+weight c =
+    toZ-ofZ w64 (c .signed-word .result) (record { sfits = c .signed-word .ok })
+    ∙ c .signed-word .ensures
+    ∙ weight-word _ _
+
+returns-2 : tie.Need-returns-2
+returns-2 c ls after in-force of-group raised =
+    let at = c .before .before in
+    sym (no-group _ ls _ after _ _ _ _ _ in-force of-group raised _ _ (at .before .before .instrument-with .ensures) (at .before .before .before .largest-position .ensures) (passed at) (sym (weight (c .before)) ∙ ap (toZ w64) (c .if2 .taken)))
+
+times-requires : tie.Need-times-requires
+times-requires c κs =
+    let s = c .before .before .before .before .before .before .before .before .before .before .before .before .before in
+    (omega (arith, ap natAbs (c .largest-of-group .ensures), group-figure-small (s .args .group .now) (c .before .group-side .result) (s .pre .2)), omega arith)
+
+group-with-requires : tie.Need-group-with-requires
+group-with-requires c κs =
+    let at = c .before .before .before .before in
+    let s = at .before .before .before .before .before .before .before .before .before .before in
+    (s .pre .0, rw (weight at) (s .pre .0 .positions .roster-small .weight (s .args .o .instrument) (s .pre .0 .instrument)))
+
+-- the answer by the group's test, in both its cases
+judged : (c : tie.After-at-most2) (ls : Lines) (after : List Order) → let a = c .before .before .before .before .before .before .before .before .before .before .before .before .before .before .before .before .args in InForce (rosterIn (a .roster .now)) ls (a .o) (a .line .now) → OfGroup (rosterIn (a .roster .now)) ls (a .o) (a .group .now) → Raised (a .added) (a .o) (ordersFrom (a .orders .now) 0 (a .n)) after → (t : Bool) → c .at-most2 .result ≡ t → firstNo (positionQuestions one (rosterIn (a .roster .now)) ls after (balancesIn (a .balances .now)) (a .o)) ≡ cond t 0 (groupNumber (wayOf (c .before .before .before .before .group-side .result)))
+judged c ls after in-force of-group raised t test =
+    let to = c .before .before .before .before in
+    let K = to .before .before in
+    let at = K .before in
+    let s = at .before .before .before .before .before .before .before .before .before in
+    by-group _ ls _ after _ _ _ _ _ in-force of-group raised _ _ (at .before .before .instrument-with .ensures) (at .before .before .before .largest-position .ensures) (passed at) (s .pre .0 .instrument)
+    (λ e. to .before .if2 .left (ap (ofZ w64) (sym (toZ-ofZ w64 (K .signed-word .result) (record { sfits = K .signed-word .ok })) ∙ weight K ∙ e)))
+    (wayOf (to .group-side .result))
+    (to .group-side .ensures ∙ rw (weight K))
+    _ _
+    (c .before .group-with .ensures ∙ rw (weight K))
+    (c .before .before .times .ensures ∙ rw (c .before .before .before .largest-of-group .ensures))
+    t
+    (sym (c .at-most2 .ensures) ∙ test)
+
+returns-3 : tie.Need-returns-3
+returns-3 c ls after in-force of-group raised = sym (judged (c .before) ls after in-force of-group raised true (c .if3 .taken))
+
+returns-4 : tie.Need-returns-4
+returns-4 c ls after in-force of-group raised =
+    c .group-refusal .ensures ∙ sym (judged (c .before .before) ls after in-force of-group raised false (c .before .if3 .left))
+
+pub positions-within-spec : {M : Type 1} → statement M
+positions-within-spec =
+    tie.close
+    (tie.spec
+    (λ c κs. search needs)
+    (λ c κs. search needs)
+    (λ c κs. search needs)
+    (λ c κs. search needs)
+    returns
+    (λ c. search needs)
+    (λ c κs. search needs)
+    returns-2
+    (λ c κs. search needs)
+    (λ c κs. search needs)
+    times-requires
+    group-with-requires
+    (λ c κs. search needs)
+    (λ c κs. search needs)
+    returns-3
+    returns-4)

@@ -1,0 +1,174 @@
+// Questions 21 to 24: are the positions with the event applied within their limits.
+// A side of a position is named by the orders that move an instrument there: Buy long, Sell short.
+ghost use mathlib.Core.Path.{_≡_};
+ghost use mathlib.Core.List.{List};
+ghost use Prim.Native.Nat.{_≤_};
+ghost use lib.IntN.{pos, natAbs, _+ℤ_, _*ℤ_};
+ghost use Rattle.ledger.specs.Roster.{groupOfInstrument};
+ghost use Rattle.ledger.specs.Positions.{group as inGroup, wayOf, wayBy, ofInstrument, potential};
+ghost use Rattle.ledger.specs.Records.{ordersFrom, balancesIn, rosterIn};
+ghost use Rattle.ledger.specs.Derivatives.{one};
+ghost use Rattle.positions.specs.Gathered.{onWay};
+ghost use Rattle.limits.specs.Lines.{Lines};
+ghost use Rattle.limits.specs.Questions.{firstNo};
+ghost use Rattle.limits.specs.Asked.{positionQuestions};
+ghost use Rattle.limits.specs.Raised.{Raised};
+ghost use Rattle.limits.specs.Numbers.{positionNumber, instrumentNumber, groupNumber};
+ghost use Rattle.limits.specs.Bounds.{LineBounds, GroupLineBounds, EventBounds, InForce, OfGroup};
+use crate::lines::largest_of_group;
+use crate::lines::largest_position;
+use ledger::order::Order;
+use ledger::order::Side;
+use ledger::units::Contracts;
+use ledger::units::Weighted;
+use positions::GroupPosition;
+use positions::group_position;
+use positions::open_on;
+use positions::potential;
+use words::signed_word;
+use words::word;
+
+// Questions 21 to 24.
+pub enum PositionAnswer {
+    Within,
+    LongInstrument,
+    ShortInstrument,
+    LongGroup,
+    ShortGroup,
+}
+
+fn instrument_refusal(side: Side) -> PositionAnswer
+    ensures { λ r. ⌜ positionNumber r ≡ instrumentNumber (wayOf side) ⌝ }
+{
+    match side {
+        Side::Buy => PositionAnswer::LongInstrument,
+        Side::Sell => PositionAnswer::ShortInstrument,
+    }
+}
+
+fn group_refusal(side: Side) -> PositionAnswer
+    ensures { λ r. ⌜ positionNumber r ≡ groupNumber (wayOf side) ⌝ }
+{
+    match side {
+        Side::Buy => PositionAnswer::LongGroup,
+        Side::Sell => PositionAnswer::ShortGroup,
+    }
+}
+
+// The side to which an order on `side` moves its group, by the sign of K.
+fn group_side(side: Side, weight: i64) -> Side
+    ensures { λ r. ⌜ wayOf r ≡ wayBy weight (wayOf side) ⌝ }
+{
+    if weight < 0 {
+        match side {
+            Side::Buy => Side::Sell,
+            Side::Sell => Side::Buy,
+        }
+    } else {
+        side
+    }
+}
+
+fn magnitude(weight: i64) -> i64
+    requires { ⌜ natAbs weight ≤ 1000000 ⌝ }
+    ensures { λ r. ⌜ r ≡ pos (natAbs weight) ⌝ }
+{
+    if 0 <= weight { weight } else { 0 - weight }
+}
+
+fn on_side(side: Side, at: GroupPosition) -> Weighted
+    ensures { λ r. ⌜ r .0 ≡ onWay (wayOf side) (at .long .0) (at .short .0) ⌝ }
+{
+    match side {
+        Side::Buy => at.long,
+        Side::Sell => at.short,
+    }
+}
+
+// PCI for Buy, PVI for Sell, of the order's account and instrument, with `added` more contracts of the order open.
+fn instrument_with(
+    orders: &[u8],
+    n: usize,
+    balances: &[u8],
+    roster: &[u8],
+    o: Order,
+    added: u64,
+) -> Contracts
+    requires { ⌜ EventBounds (now orders) n (now balances) (now roster) o added ⌝ }
+    ensures { λ r. ⌜
+        r .0
+        ≡ ofInstrument one (ordersFrom (now (orders .entry)) 0 n) (o .account) (balancesIn (now (balances .entry))) (o .instrument) (wayOf (o .side))
+        +ℤ pos added
+        ⌝ }
+{
+    let side = o.side;
+    let balance = Contracts(signed_word(balances, o.instrument as usize));
+    let before = open_on(orders, n, side, o.account, o.instrument);
+    potential(side, balance, before.plus(Contracts(added as i64)))
+}
+
+// PCC for `to` Buy, PVC for Sell, of the order's account and group, with `added` more contracts of weight K on that side.
+fn group_with(
+    orders: &[u8],
+    n: usize,
+    balances: &[u8],
+    roster: &[u8],
+    o: Order,
+    added: u64,
+    weight: i64,
+    to: Side,
+) -> Weighted
+    requires { ⌜ EventBounds (now orders) n (now balances) (now roster) o added × (natAbs weight ≤ 1000000) ⌝ }
+    ensures { λ r. ⌜
+        (let desk = rosterIn (now (roster .entry)) in
+        r .0
+        ≡ potential one desk (ordersFrom (now (orders .entry)) 0 n) (o .account) (balancesIn (now (balances .entry))) (inGroup (groupOfInstrument desk (o .instrument))) (wayOf to)
+        +ℤ pos (natAbs weight) *ℤ pos added)
+        ⌝ }
+{
+    let contract = word(roster, 11 + o.instrument as usize) as usize;
+    let group = word(roster, 3 + contract);
+    let before = group_position(orders, n, balances, roster, o.account, group);
+    let rise = Contracts(added as i64).times(magnitude(weight));
+    on_side(to, before).plus(rise)
+}
+
+// 21 to 24, of the order as the event enters it or raises it to: with `added` more contracts of it open, is PCI or PVI at most
+// the line in force's limit, and PCC or PVC at most the group line's times 10,000?
+pub fn positions_within(
+    orders: &[u8],
+    n: usize,
+    balances: &[u8],
+    roster: &[u8],
+    line: &[u8],
+    group: &[u8],
+    o: Order,
+    added: u64,
+) -> PositionAnswer
+    requires { ⌜ EventBounds (now orders) n (now balances) (now roster) o added × LineBounds (now line) × GroupLineBounds (now group) ⌝ }
+    ensures { λ a. ⌜
+        (let r = rosterIn (now (roster .entry)) in
+        (ls : Lines) (after : List Order) →
+        InForce r ls o (now (line .entry)) →
+        OfGroup r ls o (now (group .entry)) →
+        Raised added o (ordersFrom (now (orders .entry)) 0 n) after →
+        positionNumber a ≡ firstNo (positionQuestions one r ls after (balancesIn (now (balances .entry))) o))
+        ⌝ }
+{
+    let side = o.side;
+    let most = largest_position(line, side);
+    if !instrument_with(orders, n, balances, roster, o, added).at_most(most) {
+        return instrument_refusal(side);
+    }
+    let weight = signed_word(roster, 43 + o.instrument as usize);
+    if weight == 0 {
+        return PositionAnswer::Within;
+    }
+    let to = group_side(side, weight);
+    let most_of_group = largest_of_group(group, to).times(10000);
+    if group_with(orders, n, balances, roster, o, added, weight, to).at_most(most_of_group) {
+        PositionAnswer::Within
+    } else {
+        group_refusal(to)
+    }
+}

@@ -1,0 +1,3 @@
+pub mod Counting
+mod Gathering
+pub mod Weighing

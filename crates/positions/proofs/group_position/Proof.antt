@@ -1,0 +1,28 @@
+use mathlib.Core.Path.{refl}
+use Rattle.ledger.specs.Positions.{long, short}
+use Rattle.positions.proofs.Gathering.{empty-at}
+use Rattle.positions.proofs.Weighing.{cells-small, sum-potential}
+use Rattle.positions.proofs.group_position.Statement.{statement}
+use Rattle.positions.proofs.group_position.Tie as tie
+
+gather-requires : tie.Need-gather-requires
+gather-requires c κs = (c .before .before .before .before .pre .orders-small, refl, empty-at 65)
+
+weigh-requires : tie.Need-weigh-requires
+weigh-requires c κs =
+    let bounds = c .before .before .before .before .before .before .pre in
+    let gathered = c .before .gather .ensures in
+    (bounds .balances-small, bounds .roster-small, gathered .size, cells-small _ _ _ gathered (bounds .orders-small .unfilled))
+
+returns : tie.Need-returns
+returns c =
+    let bounds = c .before .before .before .before .before .before .before .pre in
+    let gathered = c .before .before .gather .ensures in
+    let few = bounds .roster-small .instruments in
+    record {
+      its-long = sum-potential _ _ _ _ long _ _ gathered few _ (c .weigh .ensures long);
+      its-short = sum-potential _ _ _ _ short _ _ gathered few _ (c .weigh .ensures short);
+    }
+
+pub group-position-spec : {M : Type 1} → statement M
+group-position-spec = tie.close (tie.spec gather-requires weigh-requires returns)

@@ -1,0 +1,67 @@
+use Prim.Native.Nat.{ℕ, _+_, _-_, _≤_}
+use mathlib.Core.Path.{_≡_, _∙_, ap}
+use native.Mathlib.Omega.{arith}
+use borrow.Author.Needs.{needs}
+use Rattle.words.specs.Words.{signedAt}
+use Rattle.ledger.specs.Positions.{Way, long}
+use Rattle.ledger.specs.Records.{rosterIn}
+use Rattle.positions.specs.Gathered.{onWay, sumByCells}
+use Rattle.ledger.proofs.RosterWords.{instruments-word}
+use Rattle.positions.proofs.Weighing.{sum-none, sum-more, sum-small}
+use Rattle.positions.proofs.weigh.Statement.{statement}
+use Rattle.positions.proofs.weigh.Tie as tie
+
+abbrev Inv-loop : tie.InvT-loop
+Inv-loop cells balances roster group instruments sum₀ j₀ sum j =
+    (instruments ≡ rosterIn roster .instruments)
+    × (j ≤ instruments)
+    × ((w : Way) → onWay w (sum .long .0) (sum .short .0) ≡ sumByCells cells (signedAt balances) (rosterIn roster) group j w)
+
+abbrev μ-loop : tie.MeasureT-loop
+μ-loop cells balances roster group instruments sum₀ j₀ sum j = instruments - j
+
+loop-holds : tie.Need-loop-holds Inv-loop μ-loop
+loop-holds c = (c .word .ensures ∙ instruments-word _, omega arith, λ w. sum-none _ _ _ _ w)
+
+with-part-requires : tie.Need-with-part-requires Inv-loop μ-loop
+with-part-requires c κs =
+    let at = c .before in
+    let s = at .before .before .before .before in
+    let balances = s .pre .0 in
+    let roster = s .pre .1 in
+    let j = at .loop .j in
+    let most = at .loop .inv .0 in
+    let few = roster .instruments in (
+      record { size = s .pre .2; long = balances .long; instrument = (omega arith, omega arith); balance = balances .balance (j + 1) (omega arith, omega arith); unfilled = λ v. s .pre .3 v (j + 1) (omega arith, omega arith) },
+      roster,
+      (omega arith, omega arith),
+      λ w. rw (at .loop .inv .2 w) (sum-small _ _ _ _ w j (omega arith) (λ i h. roster .weight i (omega arith)) (λ i h. balances .balance i (omega arith)) (s .pre .3)),
+    )
+
+loop-again : tie.Need-loop-again Inv-loop μ-loop
+loop-again c =
+    let at = c .before .before in
+    (at .loop .inv .0, omega arith, λ w. sum-more _ _ _ _ w (at .loop .j) _ _ (at .loop .inv .2 w) (c .with-part .ensures w))
+
+returns : tie.Need-returns Inv-loop μ-loop
+returns c w =
+    let at = c .before in
+    let a = at .before .before .before .before .args in
+    let last : at .loop .j ≡ rosterIn (a .roster .now) .instruments = omega (arith, at .loop .inv .0) in
+    at .loop .inv .2 w
+    ∙ ap (λ (n : ℕ). sumByCells (a .cells .now) (signedAt (a .balances .now)) (rosterIn (a .roster .now)) (a .group) n w) last
+
+pub weigh-spec : {M : Type 1} → statement M
+weigh-spec =
+    tie.close
+    (tie.spec
+    Inv-loop
+    μ-loop
+    (λ c κs. search needs)
+    loop-holds
+    (λ c. omega arith)
+    with-part-requires
+    (λ c. omega arith)
+    (λ c. omega arith)
+    loop-again
+    returns)

@@ -1,0 +1,251 @@
+// The potential positions of an account on a derivatives desk, by instrument and by group. They know no limit: `limits` stands above.
+ghost use mathlib.Core.Path.{_≡_};
+ghost use Prim.Native.Nat.{ℕ, _+_, _≤_};
+ghost use lib.IntN.{negℤ, natAbs, _+ℤ_};
+ghost use lib.ListN.{length, getD};
+ghost use Rattle.ledger.specs.declared.order.Side.{Side};
+ghost use Rattle.ledger.specs.Roster.{Numbered};
+ghost use Rattle.ledger.specs.Positions.{Way, opposite, toward, wayOf, sameSide, openOn, groupPart};
+ghost use Rattle.ledger.specs.Records.{ordersFrom, balancesIn, rosterIn};
+ghost use Rattle.ledger.specs.Derivatives.{one, counted};
+ghost use Rattle.positions.specs.Gathered.{onWay, cell, added, Gathered, byCells, partByCells, sumByCells};
+ghost use Rattle.positions.specs.Answers.{InInstrument, InGroup};
+ghost use Rattle.positions.specs.Bounds.{OpenBounds, InstrumentBounds, CellBounds, GatherBounds, BalanceBounds, RosterBounds, GroupBounds};
+use ledger::order::Order;
+use ledger::order::Side;
+use ledger::records::load;
+use ledger::units::Contracts;
+use ledger::units::Weighted;
+use words::signed_word;
+use words::word;
+
+// The balance of an instrument and its potential positions.
+pub struct InstrumentPosition {
+    pub balance: Contracts,
+    pub long: Contracts,
+    pub short: Contracts,
+}
+
+// The potential positions of a group.
+pub struct GroupPosition {
+    pub long: Weighted,
+    pub short: Weighted,
+}
+
+fn same_side(a: Side, b: Side) -> bool
+    ensures { λ r. ⌜ r ≡ sameSide a b ⌝ }
+{
+    match a {
+        Side::Buy => match b {
+            Side::Buy => true,
+            Side::Sell => false,
+        },
+        Side::Sell => match b {
+            Side::Buy => false,
+            Side::Sell => true,
+        },
+    }
+}
+
+// What remains of the order where it stands on that side of the account and instrument, else 0.
+fn counted(o: Order, side: Side, account: u64, instrument: u64) -> u64
+    ensures { λ r. ⌜ r ≡ counted o side account instrument ⌝ }
+{
+    if o.account != account {
+        return 0;
+    }
+    if o.instrument != instrument {
+        return 0;
+    }
+    let own = o.side;
+    if same_side(own, side) {
+        o.remaining()
+    } else {
+        0
+    }
+}
+
+// B (side Buy) or V (side Sell): what remains of the open orders on that side of the account and instrument.
+pub fn open_on(orders: &[u8], n: usize, side: Side, account: u64, instrument: u64) -> Contracts
+    requires { ⌜ OpenBounds (now orders) n side account instrument ⌝ }
+    ensures { λ r. ⌜ r .0 ≡ openOn one (ordersFrom (now (orders .entry)) 0 n) side account instrument ⌝ }
+{
+    let mut sum: u64 = 0;
+    for p in 0..n {
+        sum += counted(load(orders, p), side, account, instrument);
+    }
+    Contracts(sum as i64)
+}
+
+// PCI = S + B for Buy, PVI = −S + V for Sell.
+pub fn potential(side: Side, balance: Contracts, unfilled: Contracts) -> Contracts
+    requires { ⌜ natAbs (balance .0) + natAbs (unfilled .0) ≤ 9000000000000000000 ⌝ }
+    ensures { λ r. ⌜ r .0 ≡ toward (wayOf side) (balance .0) +ℤ unfilled .0 ⌝ }
+{
+    match side {
+        Side::Buy => balance.plus(unfilled),
+        Side::Sell => balance.negated().plus(unfilled),
+    }
+}
+
+// The positions of an instrument by its balance, B and V.
+fn position_by(balance: Contracts, buys: Contracts, sells: Contracts) -> InstrumentPosition
+    requires { ⌜ (natAbs (balance .0) + natAbs (buys .0) ≤ 9000000000000000000) × (natAbs (balance .0) + natAbs (sells .0) ≤ 9000000000000000000) ⌝ }
+    ensures { λ r. ⌜ (r .balance .0 ≡ balance .0) × (r .long .0 ≡ balance .0 +ℤ buys .0) × (r .short .0 ≡ negℤ (balance .0) +ℤ sells .0) ⌝ }
+{
+    InstrumentPosition {
+        balance,
+        long: potential(Side::Buy, balance, buys),
+        short: potential(Side::Sell, balance, sells),
+    }
+}
+
+// The positions of the account in an instrument; word `instrument` of `balances` is its balance.
+pub fn instrument_position(
+    orders: &[u8],
+    n: usize,
+    balances: &[u8],
+    account: u64,
+    instrument: u64,
+) -> InstrumentPosition
+    requires { ⌜ InstrumentBounds (now orders) n (now balances) account instrument ⌝ }
+    ensures { λ r. ⌜ InInstrument (now (orders .entry)) n (now (balances .entry)) account instrument r ⌝ }
+{
+    let balance = Contracts(signed_word(balances, instrument as usize));
+    let buys = open_on(orders, n, Side::Buy, account, instrument);
+    let sells = open_on(orders, n, Side::Sell, account, instrument);
+    position_by(balance, buys, sells)
+}
+
+fn opposite(side: Side) -> Side
+    ensures { λ r. ⌜ wayOf r ≡ opposite (wayOf side) ⌝ }
+{
+    match side {
+        Side::Buy => Side::Sell,
+        Side::Sell => Side::Buy,
+    }
+}
+
+// The position on a side.
+fn on_side(side: Side, long: Contracts, short: Contracts) -> Contracts
+    ensures { λ r. ⌜ r .0 ≡ onWay (wayOf side) (long .0) (short .0) ⌝ }
+{
+    match side {
+        Side::Buy => long,
+        Side::Sell => short,
+    }
+}
+
+// An instrument's part in its group's position on a side: by the sign of its weight, of the same side or of the other.
+fn group_part(side: Side, weight: i64, long: Contracts, short: Contracts) -> Weighted
+    requires { ⌜ (natAbs weight ≤ 1000000) × (natAbs (long .0) ≤ 200000000000) × (natAbs (short .0) ≤ 200000000000) ⌝ }
+    ensures { λ r. ⌜ r .0 ≡ groupPart (wayOf side) weight (λ w. onWay w (long .0) (short .0)) ⌝ }
+{
+    if weight < 0 {
+        on_side(opposite(side), long, short).times(0 - weight)
+    } else {
+        on_side(side, long, short).times(weight)
+    }
+}
+
+fn cell(side: Side, instrument: u64) -> usize
+    requires { ⌜ instrument ≤ 32 ⌝ }
+    ensures { λ r. ⌜ r ≡ cell side instrument ⌝ }
+{
+    match side {
+        Side::Buy => instrument as usize,
+        Side::Sell => 32 + instrument as usize,
+    }
+}
+
+// Adds what remains of the order to its cell, where it is of the account.
+fn add_to(cells: &mut [u64; 65], o: Order, account: u64)
+    requires { ⌜ (length (now cells) ≡ 65) × (o .instrument ≤ 32) × (getD (now cells) (cell (o .side) (o .instrument)) 0 + counted o (o .side) account (o .instrument) ≤ 9000000000000000000) ⌝ }
+    ensures { λ r. ⌜ now (cells .exit) ≡ added (now (cells .entry)) o account ⌝ }
+{
+    if o.account == account {
+        let side = o.side;
+        let j = cell(side, o.instrument);
+        cells[j] += o.remaining();
+    }
+}
+
+// Gathers B and V of the account and each instrument, in one pass over the orders.
+fn gather(orders: &[u8], n: usize, account: u64, cells: &mut [u64; 65])
+    requires { ⌜ GatherBounds (now orders) n account × (length (now cells) ≡ 65) × ((j : ℕ) → getD (now cells) j 0 ≡ 0) ⌝ }
+    ensures { λ r. ⌜ Gathered (now (cells .exit)) (ordersFrom (now (orders .entry)) 0 n) account ⌝ }
+{
+    for p in 0..n {
+        add_to(cells, load(orders, p), account);
+    }
+}
+
+// The positions of an instrument by the cells.
+fn by_cells(cells: &[u64; 65], balances: &[u8], i: usize) -> InstrumentPosition
+    requires { ⌜ CellBounds (now cells) (now balances) i ⌝ }
+    ensures { λ r. ⌜ ((w : Way) → onWay w (r .long .0) (r .short .0) ≡ byCells (now (cells .entry)) (balancesIn (now (balances .entry))) i w) ⌝ }
+{
+    let balance = Contracts(signed_word(balances, i));
+    let buys = Contracts(cells[i] as i64);
+    let sells = Contracts(cells[32 + i] as i64);
+    position_by(balance, buys, sells)
+}
+
+// The positions with the part of instrument `i` added, where it is of the group.
+fn with_part(
+    sum: GroupPosition,
+    cells: &[u64; 65],
+    balances: &[u8],
+    roster: &[u8],
+    group: u64,
+    i: usize,
+) -> GroupPosition
+    requires { ⌜ CellBounds (now cells) (now balances) i × RosterBounds (now roster) (rosterIn (now roster)) × Numbered (rosterIn (now roster) .instruments) i × ((w : Way) → natAbs (onWay w (sum .long .0) (sum .short .0)) ≤ 8000000000000000000) ⌝ }
+    ensures { λ r. ⌜ ((w : Way) → onWay w (r .long .0) (r .short .0) ≡ onWay w (sum .long .0) (sum .short .0) +ℤ partByCells (now (cells .entry)) (balancesIn (now (balances .entry))) (rosterIn (now (roster .entry))) group i w) ⌝ }
+{
+    let contract = word(roster, 11 + i) as usize;
+    if word(roster, 3 + contract) != group {
+        return sum;
+    }
+    let weight = signed_word(roster, 43 + i);
+    let at = by_cells(cells, balances, i);
+    let long = group_part(Side::Buy, weight, at.long, at.short);
+    let short = group_part(Side::Sell, weight, at.long, at.short);
+    GroupPosition {
+        long: sum.long.plus(long),
+        short: sum.short.plus(short),
+    }
+}
+
+// The sums of the parts of the group's instruments, in one pass over the roster.
+fn weigh(cells: &[u64; 65], balances: &[u8], roster: &[u8], group: u64) -> GroupPosition
+    requires { ⌜ BalanceBounds (now balances) (rosterIn (now roster) .instruments) × RosterBounds (now roster) (rosterIn (now roster)) × (length (now cells) ≡ 65) × ((s : Side) (i : ℕ) → Numbered 32 i → getD (now cells) (cell s i) 0 ≤ 100000000000) ⌝ }
+    ensures { λ r. ⌜ ((w : Way) → onWay w (r .long .0) (r .short .0) ≡ sumByCells (now (cells .entry)) (balancesIn (now (balances .entry))) (rosterIn (now (roster .entry))) group (rosterIn (now (roster .entry)) .instruments) w) ⌝ }
+{
+    let instruments = word(roster, 3) as usize;
+    let mut sum = GroupPosition {
+        long: Weighted(0),
+        short: Weighted(0),
+    };
+    for j in 0..instruments {
+        sum = with_part(sum, cells, balances, roster, group, j + 1);
+    }
+    sum
+}
+
+// The positions of the account in a group: one pass over the orders, one over the roster's instruments.
+pub fn group_position(
+    orders: &[u8],
+    n: usize,
+    balances: &[u8],
+    roster: &[u8],
+    account: u64,
+    group: u64,
+) -> GroupPosition
+    requires { ⌜ GroupBounds (now orders) n (now balances) (now roster) account ⌝ }
+    ensures { λ r. ⌜ InGroup (now (orders .entry)) n (now (balances .entry)) (now (roster .entry)) account group r ⌝ }
+{
+    let mut cells = [0u64; 65];
+    gather(orders, n, account, &mut cells);
+    weigh(&cells, balances, roster, group)
+}

@@ -1,0 +1,53 @@
+use Prim.Native.Nat.{_-_, _≤_}
+use mathlib.Core.Path.{_≡_}
+use mathlib.Core.Bool.{true}
+use native.Mathlib.Omega.{arith}
+use borrow.Author.Needs.{needs}
+use Rattle.layout.specs.Rosters.{every}
+use Rattle.layout.specs.View.{rosterOf}
+use Rattle.soundness.specs.Soundness.{placeSound, accountSound}
+use Rattle.soundness.proofs.Every.{every-none, every-no, every-on, every-all}
+use Rattle.soundness.proofs.sums.account_is_sound.Statement.{statement}
+use Rattle.soundness.proofs.sums.account_is_sound.Tie as tie
+
+abbrev Inv-loop : tie.InvT-loop
+Inv-loop m cells a n j₀ j = (n ≡ rosterOf m .instruments) × (j ≤ n) × (every j (placeSound m a) ≡ true)
+
+abbrev μ-loop : tie.MeasureT-loop
+μ-loop m cells a n j₀ j = n - j
+
+place-is-sound-requires : tie.Need-place-is-sound-requires Inv-loop μ-loop
+place-is-sound-requires c κs =
+    let s = c .before .before .before .before in
+    (s .pre .0, s .pre .1, s .pre .2, (omega arith, omega arith))
+
+returns : tie.Need-returns Inv-loop μ-loop
+unfolding accountSound
+returns c =
+    let at = c .before .before .before in
+    every-no _ _ (at .loop .j) _ (omega arith) (c .before .place-is-sound .ensures) (c .if1 .taken)
+
+loop-again : tie.Need-loop-again Inv-loop μ-loop
+loop-again c =
+    let at = c .before .before .before in
+    (at .loop .inv .0, omega arith, every-on _ (at .loop .j) _ (at .loop .inv .2) (c .before .place-is-sound .ensures) (c .if1 .left))
+
+returns-2 : tie.Need-returns-2 Inv-loop μ-loop
+unfolding accountSound
+returns-2 c = every-all _ _ (c .before .loop .j) (omega arith) (omega arith) (c .before .loop .inv .2)
+
+pub account-is-sound-spec : {M : Type 1} → statement M
+account-is-sound-spec =
+    tie.close
+    (tie.spec
+    Inv-loop
+    μ-loop
+    (λ c κs. search needs)
+    (λ c. (c .instruments .ensures, omega arith, every-none _))
+    (λ c. omega arith)
+    place-is-sound-requires
+    returns
+    (λ c. omega arith)
+    (λ c. omega arith)
+    loop-again
+    returns-2)

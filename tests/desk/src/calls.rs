@@ -1,0 +1,68 @@
+//! The exported functions of the crate `desk`.
+
+extern "C" {
+    fn desk_open(m: *mut u8, m_len: usize, roster: *const u8, roster_len: usize) -> u8;
+    fn desk_event(m: *mut u8, m_len: usize, event: *const u8, event_len: usize) -> u8;
+    fn desk_instrument_position(
+        m: *const u8,
+        m_len: usize,
+        account: u16,
+        instrument: u16,
+        report: *mut i64,
+    ) -> u8;
+    fn desk_group_position(
+        m: *const u8,
+        m_len: usize,
+        account: u16,
+        group: u16,
+        report: *mut i64,
+    ) -> u8;
+}
+
+/// The four functions of a desk. The readers get memory that they could write, so that a write by
+/// one of them is seen and not undefined.
+#[derive(Clone, Copy)]
+pub struct Calls {
+    pub open: fn(&mut [u8], &[u8]) -> u8,
+    pub event: fn(&mut [u8], &[u8]) -> u8,
+    pub instrument_position: fn(&mut [u8], u16, u16, &mut [i64; 3]) -> u8,
+    pub group_position: fn(&mut [u8], u16, u16, &mut [i64; 2]) -> u8,
+}
+
+/// The proved functions.
+pub const PROVED: Calls = Calls {
+    open: |memory, roster| unsafe {
+        desk_open(
+            memory.as_mut_ptr(),
+            memory.len(),
+            roster.as_ptr(),
+            roster.len(),
+        )
+    },
+    event: |memory, event| unsafe {
+        desk_event(
+            memory.as_mut_ptr(),
+            memory.len(),
+            event.as_ptr(),
+            event.len(),
+        )
+    },
+    instrument_position: |memory, account, instrument, report| unsafe {
+        desk_instrument_position(
+            memory.as_mut_ptr(),
+            memory.len(),
+            account,
+            instrument,
+            report.as_mut_ptr(),
+        )
+    },
+    group_position: |memory, account, group, report| unsafe {
+        desk_group_position(
+            memory.as_mut_ptr(),
+            memory.len(),
+            account,
+            group,
+            report.as_mut_ptr(),
+        )
+    },
+};

@@ -1,0 +1,199 @@
+//! When a memory holds a sound desk: document 01's list and the layout's own conditions, each by
+//! itself.
+
+use std::collections::BTreeSet;
+
+use days::plain::Line;
+use reference::roster::Sizes;
+
+use super::{figures_of, lines, places, Field, Part, Words};
+
+const LARGEST_WEIGHT: u64 = 1_000_000;
+const LARGEST_LIMIT: u64 = 1_000_000_000;
+const LARGEST_TOTAL: u64 = 1_000_000;
+const LARGEST_POSITION: i128 = 1_000_000_000;
+
+/// What a sound desk has to keep. That B and V equal the orders' sums is kept by every memory, for
+/// neither is stored.
+#[derive(Clone, Copy, PartialEq, Eq, PartialOrd, Ord, Debug)]
+pub enum Clause {
+    /// The layout's: the kind of desk is 1.
+    Kind,
+    /// The layout's: at most 256 orders are open.
+    Count,
+    /// The layout's: no id is below the one in the record before. With ids that differ and are
+    /// not 0, they ascend strictly.
+    IdsAscend,
+    /// The layout's: a side is 1 or 2.
+    Side,
+    /// The layout's: the figures of a line that is not set are in range too.
+    UnsetLine,
+    Sizes,
+    GroupOfContract,
+    ContractOfInstrument,
+    Weight,
+    OwnLine,
+    DefaultLine,
+    GroupLine,
+    OrderAccount,
+    OrderInstrument,
+    OrderTotal,
+    IdsNonZero,
+    IdsDiffer,
+    Remaining,
+    /// S + B is at most 1,000,000,000.
+    Long,
+    /// −S + V is at most 1,000,000,000.
+    Short,
+    /// Every account with an open order is marked as trading.
+    Trading,
+}
+
+impl Clause {
+    pub const ALL: [Clause; 21] = [
+        Clause::Kind,
+        Clause::Count,
+        Clause::IdsAscend,
+        Clause::Side,
+        Clause::UnsetLine,
+        Clause::Sizes,
+        Clause::GroupOfContract,
+        Clause::ContractOfInstrument,
+        Clause::Weight,
+        Clause::OwnLine,
+        Clause::DefaultLine,
+        Clause::GroupLine,
+        Clause::OrderAccount,
+        Clause::OrderInstrument,
+        Clause::OrderTotal,
+        Clause::IdsNonZero,
+        Clause::IdsDiffer,
+        Clause::Remaining,
+        Clause::Long,
+        Clause::Short,
+        Clause::Trading,
+    ];
+}
+
+/// The clauses asked of a memory that it breaks.
+#[derive(Default)]
+struct Asked {
+    broken: BTreeSet<Clause>,
+}
+
+impl Asked {
+    fn ask(&mut self, clause: Clause, kept: bool) {
+        if !kept {
+            self.broken.insert(clause);
+        }
+    }
+}
+
+impl Words<'_> {
+    /// The clauses that the memory breaks; a sound desk breaks none. Where sizes or count are past
+    /// their limits, what hangs on them is not asked.
+    pub fn broken(&self) -> BTreeSet<Clause> {
+        let mut asked = Asked::default();
+        asked.ask(Clause::Kind, self.get(Field::Kind) == 1);
+        asked.ask(Clause::Count, self.count().is_some());
+        asked.ask(Clause::Sizes, self.sizes().is_some());
+        if let Some(sizes) = self.sizes() {
+            self.ask_roster(sizes, &mut asked);
+            for line in lines(sizes) {
+                asked.ask(self.line_clause(line), self.line_is_in_range(line));
+            }
+            if let Some(count) = self.count() {
+                self.ask_ids(count, &mut asked);
+                for record in 0..count {
+                    self.ask_order(sizes, record, &mut asked);
+                }
+                self.ask_positions(sizes, count, &mut asked);
+            }
+        }
+        asked.broken
+    }
+
+    fn ask_roster(&self, sizes: Sizes, asked: &mut Asked) {
+        for contract in 1..=sizes.contracts {
+            let group = self.get(Field::GroupOf(contract));
+            asked.ask(Clause::GroupOfContract, is_number(group, sizes.groups));
+        }
+        for instrument in 1..=sizes.instruments {
+            let contract = self.get(Field::ContractOf(instrument));
+            let named = is_number(contract, sizes.contracts);
+            asked.ask(Clause::ContractOfInstrument, named);
+            let weight = self.signed(Field::Weight(instrument)).unsigned_abs();
+            asked.ask(Clause::Weight, weight <= LARGEST_WEIGHT);
+        }
+    }
+
+    /// The clause that a line's figures are under.
+    pub fn line_clause(&self, line: Line) -> Clause {
+        match line {
+            _ if !self.is(Field::Set(line)) => Clause::UnsetLine,
+            Line::Own { .. } => Clause::OwnLine,
+            Line::Default { .. } => Clause::DefaultLine,
+            Line::Group { .. } => Clause::GroupLine,
+        }
+    }
+
+    fn line_is_in_range(&self, line: Line) -> bool {
+        (0..figures_of(line)).all(|place| self.get(Field::Figure(line, place)) <= LARGEST_LIMIT)
+    }
+
+    fn ask_ids(&self, count: usize, asked: &mut Asked) {
+        let id = |record| self.get(Field::Order(record, Part::Id));
+        let ids: Vec<u64> = (0..count).map(id).collect();
+        let different: BTreeSet<u64> = ids.iter().copied().collect();
+        asked.ask(Clause::IdsNonZero, !different.contains(&0));
+        asked.ask(Clause::IdsDiffer, different.len() == count);
+        asked.ask(Clause::IdsAscend, ids.is_sorted());
+    }
+
+    fn ask_order(&self, sizes: Sizes, record: usize, asked: &mut Asked) {
+        let part = |part| self.get(Field::Order(record, part));
+        let (account, instrument) = (part(Part::Account), part(Part::Instrument));
+        let (total, filled) = (part(Part::Total), part(Part::Filled));
+        let on_roster = is_number(account, sizes.accounts);
+        let marked = !on_roster || self.is(Field::Mark(account as u16));
+        asked.ask(Clause::OrderAccount, on_roster);
+        asked.ask(Clause::Trading, marked);
+        asked.ask(
+            Clause::OrderInstrument,
+            is_number(instrument, sizes.instruments),
+        );
+        asked.ask(Clause::Side, matches!(part(Part::Side), 1 | 2));
+        asked.ask(Clause::OrderTotal, (1..=LARGEST_TOTAL).contains(&total));
+        asked.ask(Clause::Remaining, filled < total);
+    }
+
+    /// S + B and −S + V of every account and instrument. An order off the roster or of no side is
+    /// in no sum; nothing remains of one that is filled past its total.
+    fn ask_positions(&self, sizes: Sizes, count: usize, asked: &mut Asked) {
+        let balance = |(account, instrument)| i128::from(self.balance(account, instrument));
+        let mut long: Vec<i128> = places(sizes).map(balance).collect();
+        let mut short: Vec<i128> = long.iter().map(|balance| -balance).collect();
+        for record in 0..count {
+            let part = |part| self.get(Field::Order(record, part));
+            let (account, instrument) = (part(Part::Account), part(Part::Instrument));
+            let sums = match part(Part::Side) {
+                1 => &mut long,
+                2 => &mut short,
+                _ => continue,
+            };
+            if is_number(account, sizes.accounts) && is_number(instrument, sizes.instruments) {
+                let place = (account - 1) * u64::from(sizes.instruments) + instrument - 1;
+                let remaining = part(Part::Total).saturating_sub(part(Part::Filled));
+                sums[place as usize] += i128::from(remaining);
+            }
+        }
+        let in_range = |sums: Vec<i128>| sums.into_iter().all(|sum| sum <= LARGEST_POSITION);
+        asked.ask(Clause::Long, in_range(long));
+        asked.ask(Clause::Short, in_range(short));
+    }
+}
+
+/// From 1 to the most.
+fn is_number(number: u64, most: u16) -> bool {
+    (1..=u64::from(most)).contains(&number)
+}

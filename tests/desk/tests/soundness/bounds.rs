@@ -1,0 +1,98 @@
+//! What each field of a sound desk is set to, and which clauses it is under.
+
+use days::random::Random;
+use desk::layout::{Clause, Field, Part, Words};
+use reference::positions;
+
+const LARGEST: i64 = 1_000_000_000;
+const LARGEST_WEIGHT: i64 = 1_000_000;
+const LARGEST_TOTAL: u64 = 1_000_000;
+
+/// The clauses that a field's value can keep or break by itself.
+pub fn clauses(words: Words, field: Field) -> Vec<Clause> {
+    match field {
+        Field::Kind => vec![Clause::Kind],
+        Field::Accounts | Field::Groups | Field::Contracts | Field::Instruments => {
+            vec![Clause::Sizes]
+        }
+        Field::GroupOf(_) => vec![Clause::GroupOfContract],
+        Field::ContractOf(_) => vec![Clause::ContractOfInstrument],
+        Field::Weight(_) => vec![Clause::Weight],
+        Field::Count => vec![Clause::Count],
+        Field::Mark(_) => vec![Clause::Trading],
+        Field::Block(_) | Field::Set(_) => Vec::new(),
+        Field::Balance { .. } => vec![Clause::Long, Clause::Short],
+        Field::Figure(line, _) => vec![words.line_clause(line)],
+        Field::Order(_, Part::Id) => vec![Clause::IdsNonZero, Clause::IdsDiffer, Clause::IdsAscend],
+        Field::Order(_, Part::Account) => vec![Clause::OrderAccount],
+        Field::Order(_, Part::Instrument) => vec![Clause::OrderInstrument],
+        Field::Order(_, Part::Side) => vec![Clause::Side],
+        Field::Order(_, Part::Total) => vec![Clause::OrderTotal, Clause::Remaining],
+        Field::Order(_, Part::Filled) => vec![Clause::Remaining],
+    }
+}
+
+/// What a field is set to: small numbers, numbers near the present one and the field's bounds,
+/// numbers whose low bytes alone are the present one, the largest, and any.
+pub fn values(words: Words, field: Field, random: &mut Random) -> Vec<u64> {
+    let now = words.get(field);
+    let mut values = vec![0, 1, 2, u64::MAX, 1 << 63, (1 << 63) - 1, random.number()];
+    values.extend(near(now));
+    values.extend([8, 16, 32, 48].map(|bits| now.wrapping_add(1 << bits)));
+    values.push(now ^ 1 << random.below(64));
+    values.extend(bounds(words, field).into_iter().flat_map(near));
+    values
+}
+
+/// A number, one less and one more.
+fn near(number: u64) -> [u64; 3] {
+    [number.wrapping_sub(1), number, number.wrapping_add(1)]
+}
+
+/// The last values in range, and the numbers that the field is compared with.
+fn bounds(words: Words, field: Field) -> Vec<u64> {
+    match field {
+        Field::Kind | Field::Mark(_) | Field::Block(_) | Field::Set(_) => vec![1],
+        Field::Accounts => vec![16],
+        Field::Groups => vec![4],
+        Field::Contracts => vec![8],
+        Field::Instruments => vec![32],
+        Field::GroupOf(_) => vec![words.get(Field::Groups)],
+        Field::ContractOf(_) => vec![words.get(Field::Contracts)],
+        Field::Weight(_) => vec![LARGEST_WEIGHT as u64, -LARGEST_WEIGHT as u64],
+        Field::Count => vec![256],
+        Field::Balance {
+            account,
+            instrument,
+        } => balances(words, account, instrument),
+        Field::Figure(..) => vec![LARGEST as u64],
+        Field::Order(record, part) => order_bounds(words, record, part),
+    }
+}
+
+/// The balances that leave S + B or −S + V, or S and −S alone, at its most.
+fn balances(words: Words, account: u16, instrument: u16) -> Vec<u64> {
+    let Some(desk) = words.desk().filter(|desk| desk.is_sound()) else {
+        return Vec::new();
+    };
+    let buys = positions::open_buys(&desk.book, account, instrument) as i64;
+    let sells = positions::open_sells(&desk.book, account, instrument) as i64;
+    let balances = [LARGEST - buys, sells - LARGEST, LARGEST, -LARGEST];
+    balances.map(|balance| balance as u64).to_vec()
+}
+
+fn order_bounds(words: Words, record: usize, part: Part) -> Vec<u64> {
+    let other = |record, part| words.get(Field::Order(record, part));
+    match part {
+        Part::Id => {
+            let last = words.count().map_or(0, |count| count.saturating_sub(1));
+            let neighbours = [record.saturating_sub(1), (record + 1).min(last)];
+            neighbours.map(|record| other(record, Part::Id)).to_vec()
+        }
+        Part::Account => vec![words.get(Field::Accounts)],
+        Part::Instrument => vec![words.get(Field::Instruments)],
+        Part::Side => vec![1, 2],
+        Part::Total => vec![LARGEST_TOTAL, other(record, Part::Filled)],
+        Part::Filled => vec![other(record, Part::Total)],
+    }
+}
