@@ -3,6 +3,14 @@
 extern "C" {
     fn desk_open(m: *mut u8, m_len: usize, roster: *const u8, roster_len: usize) -> u8;
     fn desk_event(m: *mut u8, m_len: usize, event: *const u8, event_len: usize) -> u8;
+    fn desk_run(
+        m: *mut u8,
+        m_len: usize,
+        events: *const u8,
+        events_len: usize,
+        answers: *mut u8,
+        answers_len: usize,
+    ) -> usize;
     fn desk_instrument_position(
         m: *const u8,
         m_len: usize,
@@ -19,7 +27,21 @@ extern "C" {
     ) -> u8;
 }
 
-/// The four functions of a desk. The readers get memory that they could write, so that a write by
+/// Answers a run of events: how many answers were written.
+pub fn run(memory: &mut [u8], events: &[u8], answers: &mut [u8]) -> usize {
+    unsafe {
+        desk_run(
+            memory.as_mut_ptr(),
+            memory.len(),
+            events.as_ptr(),
+            events.len(),
+            answers.as_mut_ptr(),
+            answers.len(),
+        )
+    }
+}
+
+/// The functions of a desk that answer one question at a time. The readers get memory that they could write, so that a write by
 /// one of them is seen and not undefined.
 #[derive(Clone, Copy)]
 pub struct Calls {

@@ -1,5 +1,7 @@
 //! The proved day program, run as its users run it.
 
+pub mod replayed;
+
 use std::io::{Read, Write};
 use std::path::{Path, PathBuf};
 use std::process::{Child, Command, Stdio};
