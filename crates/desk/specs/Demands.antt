@@ -66,8 +66,9 @@ abbrev pub groupSum : List ℕ → ℕ → ℕ → Way → ℤ
 groupSum m a g w =
     sumGroup (rosterOf m) g (λ i. groupPart w (rosterOf m .weight i) (ofInstrument one (openOrders m) a (balancesOf m a) i))
 
--- "The answer to a roster or an event is the first check that it fails, as document 01 lists them, or an acceptance if it fails
--- none, and every potential position reported is the one that the open orders and balances give."
+-- "The answer to a roster or an event is the first check that it fails, the EntryPoint LiNe phases among them, as document 01
+-- lists them, or an acceptance if it fails none, and every potential position reported is the one that the open orders and
+-- balances give."
 pub record Demand2 : Type 0 where
   pub roster : (m s : List ℕ) → Answers (openingQuestions m s) (openingAnswer m s)
   pub event : (m e : List ℕ) → Answers (eventQuestions m e) (answerTo m e)
