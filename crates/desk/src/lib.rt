@@ -16,7 +16,7 @@ use decoding::decode;
 use opening::open_desk;
 use reading::read_group;
 use reading::read_instrument;
-use soundness::is_sound;
+use soundness::is_sound_with_sums;
 
 // Opens a desk in `m` from the roster's bytes.
 #[no_mangle]
@@ -33,10 +33,11 @@ pub extern "C" fn desk_event(m: &mut [u8], event: &[u8]) -> u8
     ensures answer { λ r. ⌜ r ≡ answerTo (now (m .entry)) (now (event .entry)) ⌝ }
     ensures memory { λ r. ⌜ now (m .exit) ≡ after (now (m .entry)) (now (event .entry)) ⌝ }
 {
-    if !is_sound(m) {
+    let mut cells = [0u64; 1057];
+    if !is_sound_with_sums(m, &mut cells) {
         return 5;
     }
-    let outcome = step(m, decode(event));
+    let outcome = step(m, &mut cells, decode(event));
     let answer = outcome.answer;
     number_of(answer)
 }

@@ -1,15 +1,18 @@
 // Many events in one call. Question 5 is asked once: an event that is answered leaves the desk as sound as it was.
 ghost use mathlib.Core.Path.{_≡_};
+ghost use mathlib.Core.Bool.{true};
 ghost use Prim.Native.Nat.{_<_};
 ghost use lib.ListN.{length, take, drop};
+ghost use Rattle.layout.specs.View.{openOrders};
 ghost use Rattle.soundness.specs.Soundness.{soundDesk};
+ghost use Rattle.soundness.specs.Cells.{Sums};
 ghost use Rattle.desk.specs.Step.{answerTo, after};
 ghost use Rattle.desk.specs.Days.{memoryOver};
 ghost use Rattle.desk.specs.Run.{eventsFor, answered};
 use crate::numbers::number_of;
 use crate::step::step;
 use decoding::decode;
-use soundness::is_sound;
+use soundness::is_sound_with_sums;
 
 // The event at byte `at`: 48 bytes, or what is left.
 fn event_at<'a>(events: &'a [u8], at: usize) -> &'a [u8]
@@ -23,17 +26,19 @@ fn event_at<'a>(events: &'a [u8], at: usize) -> &'a [u8]
     &events[at..end]
 }
 
-// Answers an event at a desk that is sound or not, and works it where it is accepted.
-fn answer_next(m: &mut [u8], event: &[u8], sound: bool) -> u8
-    requires { ⌜ sound ≡ soundDesk (now m) ⌝ }
+// Answers an event at a desk that is sound or not, and works it where it is accepted. Where it is sound, the cells hold B and V of all
+// accounts.
+fn answer_next(m: &mut [u8], cells: &mut [u64; 1057], event: &[u8], sound: bool) -> u8
+    requires { ⌜ (sound ≡ soundDesk (now m)) × (sound ≡ true → Sums (now cells) (openOrders (now m))) ⌝ }
     ensures answer { λ r. ⌜ r ≡ answerTo (now (m .entry)) (now (event .entry)) ⌝ }
     ensures memory { λ r. ⌜ now (m .exit) ≡ after (now (m .entry)) (now (event .entry)) ⌝ }
     ensures sound { λ r. ⌜ sound ≡ soundDesk (now (m .exit)) ⌝ }
+    ensures sums { λ r. ⌜ (sound ≡ true → Sums (now (cells .exit)) (openOrders (now (m .exit)))) ⌝ }
 {
     if !sound {
         return 5;
     }
-    let outcome = step(m, decode(event));
+    let outcome = step(m, cells, decode(event));
     let answer = outcome.answer;
     number_of(answer)
 }
@@ -45,12 +50,13 @@ pub extern "C" fn desk_run(m: &mut [u8], events: &[u8], answers: &mut [u8]) -> u
     ensures memory { λ r. ⌜ now (m .exit) ≡ memoryOver (now (m .entry)) (eventsFor (now (events .entry)) (now (answers .entry))) ⌝ }
     ensures answers { λ r. ⌜ now (answers .exit) ≡ answered (now (m .entry)) (now (events .entry)) (now (answers .entry)) ⌝ }
 {
-    let sound = is_sound(m);
+    let mut cells = [0u64; 1057];
+    let sound = is_sound_with_sums(m, &mut cells);
     let mut at = 0;
     let mut count = 0;
     while at < events.len() && count < answers.len() {
         let event = event_at(events, at);
-        answers[count] = answer_next(m, event, sound);
+        answers[count] = answer_next(m, &mut cells, event, sound);
         at += event.len();
         count += 1;
     }

@@ -2,12 +2,15 @@
 ghost use mathlib.Core.Path.{_≡_};
 ghost use Rattle.ledger.specs.declared.order.Side.the-variants.{Buy, Sell};
 ghost use Rattle.book.specs.Answers.{numberOf};
+ghost use Rattle.layout.specs.View.{openOrders};
 ghost use Rattle.layout.specs.Judged.{judged};
+ghost use Rattle.soundness.specs.Cells.{Sums};
 ghost use Rattle.soundness.specs.Held.{Held};
 ghost use Rattle.desk.specs.Step.{stepped, movedBy};
 use book::Answer;
 use book::Event;
 use judging::judge;
+use sums::keep;
 use working::Moved;
 use working::nothing;
 use working::work;
@@ -18,19 +21,24 @@ pub struct Outcome {
     pub moved: Moved,
 }
 
-pub fn step(m: &mut [u8], e: Event) -> Outcome
-    requires { ⌜ Held (now m) ⌝ }
+// The cells hold B and V of all accounts, before the event and after it.
+pub fn step(m: &mut [u8], cells: &mut [u64], e: Event) -> Outcome
+    requires { ⌜ Held (now m) × Sums (now cells) (openOrders (now m)) ⌝ }
     ensures answer { λ r. ⌜ numberOf (r .answer) ≡ judged (now (m .entry)) e ⌝ }
     ensures memory { λ r. ⌜ now (m .exit) ≡ stepped (now (m .entry)) e ⌝ }
     ensures moved { λ r. ⌜ (r .moved .bought ≡ movedBy (now (m .entry)) e Buy) × (r .moved .sold ≡ movedBy (now (m .entry)) e Sell) ⌝ }
+    ensures sums { λ r. ⌜ Sums (now (cells .exit)) (openOrders (now (m .exit))) ⌝ }
 {
-    let verdict = judge(m, e);
+    let verdict = judge(m, cells, e);
     let answer = verdict.answer;
     match answer {
-        Answer::Accepted => Outcome {
-            answer,
-            moved: work(m, e, verdict.place),
-        },
+        Answer::Accepted => {
+            keep(cells, m, e, verdict.place);
+            Outcome {
+                answer,
+                moved: work(m, e, verdict.place),
+            }
+        }
         no => Outcome {
             answer: no,
             moved: nothing(),

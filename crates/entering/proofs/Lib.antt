@@ -2,3 +2,4 @@ mod OnDesk
 mod Blocks
 mod LineBytes
 mod Answered
+mod Cells

@@ -1,7 +1,9 @@
--- What the functions between the questions and the memory take and give: an order's contract and group, and the bytes of its lines.
+-- What the functions between the questions and the memory take and give: an order's contract and group, the bytes of its
+-- lines, and the cells of its account.
 use Prim.Native.Nat.{ℕ, _+_, _*_}
 use mathlib.Core.Path.{_≡_}
 use mathlib.Core.List.{List}
+use lib.ListN.{take, drop}
 use Rattle.words.specs.Words.{wordAt, partOf}
 use Rattle.ledger.specs.declared.order.Order.{Order}
 use Rattle.ledger.specs.Roster.{Numbered, groupOfInstrument}
@@ -25,3 +27,7 @@ lineBytes m o =
 
 unfoldable pub groupBytes : List ℕ → Order → List ℕ
 groupBytes m o = partOf (partOf m (groupRow (o .account)) 10) (groupOfInstrument (rosterOf m) (o .instrument) * 2) 2
+
+-- B and V of account a, of those of all accounts
+unfoldable pub cellsOf : List ℕ → ℕ → List ℕ
+cellsOf cells a = take 545 (drop (a * 32) cells)

@@ -2,6 +2,8 @@
 // them and is the caller's.
 ghost use mathlib.Core.Path.{_≡_};
 ghost use mathlib.Core.List.{List};
+ghost use Prim.Native.Nat.{_≤_};
+ghost use lib.ListN.{length};
 ghost use Rattle.ledger.specs.declared.order.Order.{Order};
 ghost use Rattle.ledger.specs.Roster.{Numbered};
 ghost use Rattle.ledger.specs.Derivatives.{one};
@@ -11,14 +13,14 @@ ghost use Rattle.limits.specs.Asked.{positionQuestions};
 ghost use Rattle.limits.specs.Numbers.{positionNumber, existenceQuestions};
 ghost use Rattle.book.specs.Answers.{numberOf};
 ghost use Rattle.layout.specs.View.{rosterOf, linesOf, balancesOf, openOrders};
+ghost use Rattle.soundness.specs.Cells.{Sums};
 ghost use Rattle.soundness.specs.Held.{Held};
 ghost use Rattle.entering.specs.Questions.{admission, withinLimits, OnRoster, Sizable};
-ghost use Rattle.entering.specs.Places.{ContractOf, GroupOf, lineBytes};
+ghost use Rattle.entering.specs.Places.{ContractOf, GroupOf, lineBytes, cellsOf};
 use book::Answer;
 use layout::table::ACCOUNT_BLOCKS;
 use layout::table::BALANCES;
 use layout::table::CONTRACTS_OF;
-use layout::table::COUNT;
 use layout::table::DEFAULT_LINES;
 use layout::table::DEFAULT_SET;
 use layout::table::GROUP_BLOCKS;
@@ -26,7 +28,6 @@ use layout::table::GROUP_LINES;
 use layout::table::GROUP_SET;
 use layout::table::GROUPS_OF;
 use layout::table::INSTRUMENT_BLOCKS;
-use layout::table::ORDERS;
 use layout::table::OWN_LINES;
 use layout::table::OWN_SET;
 use layout::table::ROSTER;
@@ -119,9 +120,26 @@ fn position_answer(a: PositionAnswer) -> Answer
     }
 }
 
+// B and V of an account.
+fn cells_of<'a>(cells: &'a [u64], account: usize) -> &'a [u64]
+    requires { ⌜ (length (now cells) ≡ 1057) × (account ≤ 16) ⌝ }
+    ensures { λ r. ⌜ now r ≡ cellsOf (now (cells .entry)) account ⌝ }
+{
+    let first = account * 32;
+    let end = first + 545;
+    &cells[first..end]
+}
+
 // 21 to 24.
-fn positions_of(m: &[u8], o: Order, added: u64, line: &[u8], contract: usize) -> Answer
-    requires { ⌜ Sizable (now m) o added × ContractOf (now m) (o .instrument) contract × (now line ≡ lineBytes (now m) o) ⌝ }
+fn positions_of(
+    m: &[u8],
+    cells: &[u64],
+    o: Order,
+    added: u64,
+    line: &[u8],
+    contract: usize,
+) -> Answer
+    requires { ⌜ Sizable (now m) o added × Sums (now cells) (openOrders (now m)) × ContractOf (now m) (o .instrument) contract × (now line ≡ lineBytes (now m) o) ⌝ }
     ensures { λ r. ⌜
         ((after : List Order) →
         Raised added o (openOrders (now (m .entry))) after →
@@ -130,18 +148,18 @@ fn positions_of(m: &[u8], o: Order, added: u64, line: &[u8], contract: usize) ->
         ⌝ }
 {
     let account = o.account as usize;
-    let orders = part(m, ORDERS, 2048);
-    let n = word(m, COUNT) as usize;
+    let own = cells_of(cells, account);
     let balances = part(m, BALANCES + account * 32, 33);
     let roster = part(m, ROSTER, 76);
     let of_groups = part(m, GROUP_LINES + account * 8, 10);
     let of_group = part(of_groups, group_of(m, contract) * 2, 2);
-    position_answer(positions_within(orders, n, balances, roster, line, of_group, o, added))
+    position_answer(positions_within(own, balances, roster, line, of_group, o, added))
 }
 
-// 19 to 24, of the order as the event enters it or raises it to, `added` contracts more of it then being open.
-pub fn within_limits(m: &[u8], o: Order, added: u64) -> Answer
-    requires { ⌜ Sizable (now m) o added ⌝ }
+// 19 to 24, of the order as the event enters it or raises it to, `added` contracts more of it then being open. The cells hold B and V of
+// all accounts.
+pub fn within_limits(m: &[u8], cells: &[u64], o: Order, added: u64) -> Answer
+    requires { ⌜ Sizable (now m) o added × Sums (now cells) (openOrders (now m)) ⌝ }
     ensures { λ r. ⌜
         ((after : List Order) →
         Raised added o (openOrders (now (m .entry))) after →
@@ -152,7 +170,7 @@ pub fn within_limits(m: &[u8], o: Order, added: u64) -> Answer
     let line = line_of(m, o, contract);
     let side = o.side;
     match order_size(line, side, o.total) {
-        SizeAnswer::Fits => positions_of(m, o, added, line, contract),
+        SizeAnswer::Fits => positions_of(m, cells, o, added, line, contract),
         SizeAnswer::BuyTooLarge => Answer::BuyTooLarge,
         SizeAnswer::SellTooLarge => Answer::SellTooLarge,
     }

@@ -1,4 +1,4 @@
-// The judge of NEW and REPLACE.
+// The judge of NEW and REPLACE. The cells hold B and V of all accounts.
 ghost use mathlib.Core.Path.{_≡_};
 ghost use Prim.Native.Nat.{_<_};
 ghost use Rattle.limits.specs.Questions.{firstNo};
@@ -6,6 +6,7 @@ ghost use Rattle.book.specs.declared.Event.the-variants.{New, Replace};
 ghost use Rattle.book.specs.Answers.{numberOf};
 ghost use Rattle.layout.specs.View.{openOrders};
 ghost use Rattle.layout.specs.Judged.{judged, NamedAt};
+ghost use Rattle.soundness.specs.Cells.{Sums};
 ghost use Rattle.soundness.specs.Held.{Held};
 ghost use Rattle.entering.specs.Questions.{Sizable};
 ghost use Rattle.judging.specs.Rest.{newWithin, newRest, Fresh, raisedRest, replaceRest, Replaceable};
@@ -26,25 +27,25 @@ use ledger::order::Side;
 use words::word;
 
 // 18 to 24 of a NEW.
-fn new_within(m: &[u8], o: Order) -> Answer
-    requires { ⌜ Fresh (now m) o × Sizable (now m) o (o .total) ⌝ }
+fn new_within(m: &[u8], cells: &[u64], o: Order) -> Answer
+    requires { ⌜ Fresh (now m) o × Sizable (now m) o (o .total) × Sums (now cells) (openOrders (now m)) ⌝ }
     ensures { λ r. ⌜ numberOf r ≡ firstNo (newWithin (now (m .entry)) o) ⌝ }
 {
     if 256 <= word(m, COUNT) {
         return Answer::NoPlaceFree;
     }
-    within_limits(m, o, o.total)
+    within_limits(m, cells, o, o.total)
 }
 
 // 13 to 24 of a NEW.
-fn new_order(m: &[u8], o: Order) -> Answer
-    requires { ⌜ Fresh (now m) o ⌝ }
+fn new_order(m: &[u8], cells: &[u64], o: Order) -> Answer
+    requires { ⌜ Fresh (now m) o × Sums (now cells) (openOrders (now m)) ⌝ }
     ensures { λ r. ⌜ numberOf r ≡ firstNo (newRest (now (m .entry)) o) ⌝ }
 {
     match find_order(m, o.id) {
         Found::At(p) => Answer::DuplicateOrder,
         Found::Nothing => match admitted(m, o) {
-            Answer::Accepted => new_within(m, o),
+            Answer::Accepted => new_within(m, cells, o),
             no => no,
         },
     }
@@ -53,13 +54,14 @@ fn new_order(m: &[u8], o: Order) -> Answer
 // NEW: questions 7 to 9 and 13 to 24.
 pub fn judge_new(
     m: &[u8],
+    cells: &[u64],
     side: Side,
     account: u64,
     instrument: u64,
     id: u64,
     quantity: i64,
 ) -> Answer
-    requires { ⌜ Held (now m) ⌝ }
+    requires { ⌜ Held (now m) × Sums (now cells) (openOrders (now m)) ⌝ }
     ensures { λ r. ⌜ numberOf r ≡ judged (now (m .entry)) (New side account instrument id quantity) ⌝ }
 {
     if !account_known(m, account) {
@@ -73,6 +75,7 @@ pub fn judge_new(
     }
     new_order(
         m,
+        cells,
         Order {
             id,
             account,
@@ -85,21 +88,21 @@ pub fn judge_new(
 }
 
 // 14 to 24 of a REPLACE that raises order `o` to `total`.
-fn raised(m: &[u8], o: Order, total: u64) -> Answer
-    requires { ⌜ Replaceable (now m) o total × (o .total < total) ⌝ }
+fn raised(m: &[u8], cells: &[u64], o: Order, total: u64) -> Answer
+    requires { ⌜ Replaceable (now m) o total × (o .total < total) × Sums (now cells) (openOrders (now m)) ⌝ }
     ensures { λ r. ⌜ numberOf r ≡ firstNo (raisedRest (now (m .entry)) o total) ⌝ }
 {
     let before = o.total;
     let after = o.replaced_total(total);
     match admitted(m, after) {
-        Answer::Accepted => within_limits(m, after, total - before),
+        Answer::Accepted => within_limits(m, cells, after, total - before),
         no => no,
     }
 }
 
 // 12 to 24 of a REPLACE of order `o`.
-fn replaced(m: &[u8], o: Order, total: u64) -> Answer
-    requires { ⌜ Replaceable (now m) o total ⌝ }
+fn replaced(m: &[u8], cells: &[u64], o: Order, total: u64) -> Answer
+    requires { ⌜ Replaceable (now m) o total × Sums (now cells) (openOrders (now m)) ⌝ }
     ensures { λ r. ⌜ numberOf r ≡ firstNo (replaceRest (now (m .entry)) o total) ⌝ }
 {
     if total <= o.filled {
@@ -108,12 +111,12 @@ fn replaced(m: &[u8], o: Order, total: u64) -> Answer
     if total <= o.total {
         return Answer::Accepted;
     }
-    raised(m, o, total)
+    raised(m, cells, o, total)
 }
 
 // REPLACE: questions 9, 11, 12 and 14 to 24.
-pub fn judge_replace(m: &[u8], id: u64, total: i64) -> Verdict
-    requires { ⌜ Held (now m) ⌝ }
+pub fn judge_replace(m: &[u8], cells: &[u64], id: u64, total: i64) -> Verdict
+    requires { ⌜ Held (now m) × Sums (now cells) (openOrders (now m)) ⌝ }
     ensures answer { λ r. ⌜ numberOf (r .answer) ≡ judged (now (m .entry)) (Replace id total) ⌝ }
     ensures place { λ r. ⌜ (judged (now (m .entry)) (Replace id total) ≡ 0 → NamedAt (Replace id total) (openOrders (now (m .entry))) (r .place)) ⌝ }
 {
@@ -122,7 +125,7 @@ pub fn judge_replace(m: &[u8], id: u64, total: i64) -> Verdict
     }
     match find_order(m, id) {
         Found::At(p) => Verdict {
-            answer: replaced(m, load_order(m, p), total as u64),
+            answer: replaced(m, cells, load_order(m, p), total as u64),
             place: p,
         },
         Found::Nothing => plain(Answer::OrderNotFound),

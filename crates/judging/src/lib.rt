@@ -9,6 +9,7 @@ ghost use mathlib.Core.Path.{_≡_};
 ghost use Rattle.book.specs.Answers.{numberOf};
 ghost use Rattle.layout.specs.View.{openOrders};
 ghost use Rattle.layout.specs.Judged.{judged, NamedAt};
+ghost use Rattle.soundness.specs.Cells.{Sums};
 ghost use Rattle.soundness.specs.Held.{Held};
 use crate::entries::judge_new;
 use crate::entries::judge_replace;
@@ -33,9 +34,9 @@ pub fn plain(answer: Answer) -> Verdict
     Verdict { answer, place: 0 }
 }
 
-// The answer to an event of any kind.
-pub fn judge(m: &[u8], e: Event) -> Verdict
-    requires { ⌜ Held (now m) ⌝ }
+// The answer to an event of any kind. The cells hold B and V of all accounts.
+pub fn judge(m: &[u8], cells: &[u64], e: Event) -> Verdict
+    requires { ⌜ Held (now m) × Sums (now cells) (openOrders (now m)) ⌝ }
     ensures answer { λ r. ⌜ numberOf (r .answer) ≡ judged (now (m .entry)) e ⌝ }
     ensures place { λ r. ⌜ (judged (now (m .entry)) e ≡ 0 → NamedAt e (openOrders (now (m .entry))) (r .place)) ⌝ }
 {
@@ -53,8 +54,8 @@ pub fn judge(m: &[u8], e: Event) -> Verdict
             instrument,
             id,
             quantity,
-        } => plain(judge_new(m, side, account, instrument, id, quantity)),
-        Event::Replace { id, total } => judge_replace(m, id, total),
+        } => plain(judge_new(m, cells, side, account, instrument, id, quantity)),
+        Event::Replace { id, total } => judge_replace(m, cells, id, total),
         Event::Cancel { id } => judge_cancel(m, id),
         Event::Fill { id, quantity } => judge_fill(m, id, quantity),
         Event::Junk => plain(Answer::NoEvent),

@@ -1,41 +1,50 @@
--- Potential positions as the code makes them up, and how large a group's is, within the bounds.
+-- Potential positions as the code makes them up by the cells, and how large they are within the bounds.
 use Prim.Native.Nat.{ℕ, _+_, _*_, _≤_}
-use mathlib.Core.Path.{_≡_, sym}
+use mathlib.Core.Path.{_≡_, refl, _∙_, sym, ap}
 use mathlib.Core.List.{List}
 use native.Mathlib.Omega.{arith}
+use lib.ListN.{getD}
 use lib.IntN.{ℤ, pos, natAbs, _+ℤ_, _*ℤ_, +ℤ-assoc}
 use Rattle.integers.specs.Magnitude.{magnitude-product-≤}
 use Rattle.ledger.specs.declared.order.Order.{Order}
 use Rattle.ledger.specs.declared.order.Side.{Side}
-use Rattle.positions.specs.declared.GroupPosition.{GroupPosition}
 use Rattle.ledger.specs.Roster.{Numbered}
-use Rattle.ledger.specs.Positions.{Way, long, short, group, toward, wayOf, sideTo, openOn, ofInstrument, potential}
-use Rattle.ledger.specs.Records.{ordersFrom, balancesIn, rosterIn}
+use Rattle.ledger.specs.Positions.{Way, group, toward, wayOf, ofInstrument, potential}
+use Rattle.ledger.specs.Records.{balancesIn, rosterIn}
 use Rattle.ledger.specs.Derivatives.{one}
-use Rattle.positions.specs.Gathered.{onWay}
-use Rattle.positions.specs.Bounds.{GroupBounds}
-use Rattle.positions.specs.Answers.{InGroup}
+use Rattle.positions.specs.Gathered.{cell, Gathered, byCells, sumByCells}
+use Rattle.positions.specs.Bounds.{CellBounds, WeighBounds}
 use Rattle.ledger.proofs.Ways.{side-back}
-use Rattle.ledger.proofs.Sizes.{instrument-magnitude, potential-magnitude}
+use Rattle.positions.proofs.Weighing.{by-cells-potential, sum-small, sum-potential}
+use Rattle.limits.specs.Bounds.{EventBounds}
 
 -- PCI or PVI by what is open on the order's side and n more
-pub with-more : (orders : List Order) (a : ℕ) (S : ℕ → ℤ) (i : ℕ) (s : Side) (n : ℕ) → toward (wayOf s) (S i) +ℤ (openOn one orders s a i +ℤ pos n) ≡ ofInstrument one orders a S i (wayOf s) +ℤ pos n
-unfolding ofInstrument
-with-more orders a S i s n = rw (side-back s) (sym (+ℤ-assoc (toward (wayOf s) (S i)) (openOn one orders s a i) (pos n)))
+pub with-more : (cells : List ℕ) (S : ℕ → ℤ) (i : ℕ) (s : Side) (n : ℕ) → toward (wayOf s) (S i) +ℤ (pos (getD cells (cell s i) 0) +ℤ pos n) ≡ byCells cells S i (wayOf s) +ℤ pos n
+unfolding byCells
+with-more cells S i s n = rw (side-back s) (sym (+ℤ-assoc (toward (wayOf s) (S i)) (pos (getD cells (cell s i) 0)) (pos n)))
 
-module _ (orders : List ℕ) (n : ℕ) (balances roster : List ℕ) (a g : ℕ) where
-  -- of a group's two positions, the one on a side
-  pub on-way : (w : Way) (p : GroupPosition) → InGroup orders n balances roster a g p → onWay w (p .long .0) (p .short .0) ≡ potential one (rosterIn roster) (ordersFrom orders 0 n) a (balancesIn balances) (group g) w
-  on-way long p found = found .its-long
-  on-way short p found = found .its-short
+module _ (cells balances roster : List ℕ) where
+  pub instrument-bounds : (o : Order) (n : ℕ) → EventBounds cells balances roster o n → CellBounds cells balances (o .instrument)
+  instrument-bounds o n bounds =
+      let all = bounds .positions in
+      let numbered : Numbered 32 (o .instrument) = (bounds .instrument .0, omega (arith, bounds .instrument .1, all .roster-small .instruments)) in
+      record { size = all .size; long = all .balances-small .long; instrument = numbered; balance = all .balances-small .balance (o .instrument) (bounds .instrument); unfilled = λ s. all .unfilled s (o .instrument) numbered }
 
-  pub group-room : GroupBounds orders n balances roster a → (w : Way) → natAbs (potential one (rosterIn roster) (ordersFrom orders 0 n) a (balancesIn balances) (group g) w) ≤ 6400000000000000000
-  group-room bounds w =
-      omega (arith, bounds .roster-small .instruments, potential-magnitude one (rosterIn roster) (ordersFrom orders 0 n) a (balancesIn balances) g w 1000000 200000000000 (bounds .roster-small .weight) small)
-    where
-      small : (i : ℕ) → Numbered (rosterIn roster .instruments) i → (v : Way) → natAbs (ofInstrument one (ordersFrom orders 0 n) a (balancesIn balances) i v) ≤ 200000000000
-      small i numbered v =
-          omega (arith, instrument-magnitude one (ordersFrom orders 0 n) a (balancesIn balances) i v, bounds .balances-small .balance i numbered, bounds .orders-small .unfilled (sideTo v) i)
+  pub group-room : (g : ℕ) → WeighBounds cells balances roster → (w : Way) → natAbs (sumByCells cells (balancesIn balances) (rosterIn roster) g (rosterIn roster .instruments) w) ≤ 8000000000000000000
+  group-room g bounds w =
+      sum-small cells (balancesIn balances) (rosterIn roster) g w (rosterIn roster .instruments) (bounds .roster-small .instruments) (bounds .roster-small .weight) (bounds .balances-small .balance) (bounds .unfilled)
+
+  -- where the cells hold B and V, the positions are those that the orders give
+  module _ (before : List Order) (o : Order) (n : ℕ) (bounds : EventBounds cells balances roster o n) (gathered : Gathered cells before (o .account)) (w : Way) (x : ℤ) where
+    pub of-orders : (y : ℤ) → y ≡ byCells cells (balancesIn balances) (o .instrument) w +ℤ x → y ≡ ofInstrument one before (o .account) (balancesIn balances) (o .instrument) w +ℤ x
+    of-orders y e =
+        e
+        ∙ ap (λ (z : ℤ). z +ℤ x) (by-cells-potential cells (balancesIn balances) before (o .account) gathered w (o .instrument) (instrument-bounds o n bounds .instrument))
+
+    pub of-group : (g : ℕ) (y : ℤ) → y ≡ sumByCells cells (balancesIn balances) (rosterIn roster) g (rosterIn roster .instruments) w +ℤ x → y ≡ potential one (rosterIn roster) before (o .account) (balancesIn balances) (group g) w +ℤ x
+    of-group g y e =
+        e
+        ∙ ap (λ (z : ℤ). z +ℤ x) (sum-potential cells (balancesIn balances) (rosterIn roster) g w before (o .account) gathered (bounds .positions .roster-small .instruments) (sumByCells cells (balancesIn balances) (rosterIn roster) g (rosterIn roster .instruments) w) refl)
 
 pub rise-room : (k n : ℕ) → k ≤ 1000000 → n ≤ 1000000000 → natAbs (pos k *ℤ pos n) ≤ 1000000000000000
 rise-room k n h l = magnitude-product-≤ (pos k) (pos n) 1000000 1000000000 h l

@@ -8,7 +8,7 @@ use Rattle.words.specs.Words.{wordAt}
 use Rattle.ledger.specs.declared.order.Order.{Order}
 use Rattle.ledger.specs.Roster.{Roster, Numbered, groupOfInstrument}
 use Rattle.ledger.specs.Records.{rosterIn}
-use Rattle.positions.specs.Bounds.{GroupBounds}
+use Rattle.positions.specs.Bounds.{WeighBounds}
 use Rattle.limits.specs.Lines.{Lines, lineInForce, isSet}
 use Rattle.limits.specs.InBytes.{lineAt, groupLineAt, saysSet}
 
@@ -22,8 +22,8 @@ pub record GroupLineBounds (line : List ℕ) : Type 0 where
   pub small : (k : ℕ) → k < 2 → wordAt line k ≤ 100000000000
 
 -- for an event that adds `added` contracts to what remains of order o
-pub record EventBounds (orders : List ℕ) (n : ℕ) (balances roster : List ℕ) (o : Order) (added : ℕ) : Type 0 where
-  pub positions : GroupBounds orders n balances roster (o .account)
+pub record EventBounds (cells balances roster : List ℕ) (o : Order) (added : ℕ) : Type 0 where
+  pub positions : WeighBounds cells balances roster
   pub instrument : Numbered (rosterIn roster .instruments) (o .instrument)
   pub small : added ≤ 1000000000
 

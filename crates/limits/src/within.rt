@@ -5,10 +5,11 @@ ghost use mathlib.Core.List.{List};
 ghost use Prim.Native.Nat.{_≤_};
 ghost use lib.IntN.{pos, natAbs, _+ℤ_, _*ℤ_};
 ghost use Rattle.ledger.specs.Roster.{groupOfInstrument};
-ghost use Rattle.ledger.specs.Positions.{group as inGroup, wayOf, wayBy, ofInstrument, potential};
-ghost use Rattle.ledger.specs.Records.{ordersFrom, balancesIn, rosterIn};
+ghost use Rattle.ledger.specs.Positions.{wayOf, wayBy};
+ghost use Rattle.ledger.specs.Records.{balancesIn, rosterIn};
 ghost use Rattle.ledger.specs.Derivatives.{one};
-ghost use Rattle.positions.specs.Gathered.{onWay};
+ghost use Rattle.positions.specs.Gathered.{onWay, Gathered, byCells, sumByCells};
+ghost use Rattle.positions.specs.Bounds.{CellBounds};
 ghost use Rattle.limits.specs.Lines.{Lines};
 ghost use Rattle.limits.specs.Questions.{firstNo};
 ghost use Rattle.limits.specs.Asked.{positionQuestions};
@@ -22,9 +23,9 @@ use ledger::order::Side;
 use ledger::units::Contracts;
 use ledger::units::Weighted;
 use positions::GroupPosition;
-use positions::group_position;
-use positions::open_on;
+use positions::cell;
 use positions::potential;
+use positions::weigh;
 use words::signed_word;
 use words::word;
 
@@ -86,31 +87,19 @@ fn on_side(side: Side, at: GroupPosition) -> Weighted
 }
 
 // PCI for Buy, PVI for Sell, of the order's account and instrument, with `added` more contracts of the order open.
-fn instrument_with(
-    orders: &[u8],
-    n: usize,
-    balances: &[u8],
-    roster: &[u8],
-    o: Order,
-    added: u64,
-) -> Contracts
-    requires { ⌜ EventBounds (now orders) n (now balances) (now roster) o added ⌝ }
-    ensures { λ r. ⌜
-        r .0
-        ≡ ofInstrument one (ordersFrom (now (orders .entry)) 0 n) (o .account) (balancesIn (now (balances .entry))) (o .instrument) (wayOf (o .side))
-        +ℤ pos added
-        ⌝ }
+fn instrument_with(cells: &[u64], balances: &[u8], o: Order, added: u64) -> Contracts
+    requires { ⌜ CellBounds (now cells) (now balances) (o .instrument) × (added ≤ 1000000000) ⌝ }
+    ensures { λ r. ⌜ r .0 ≡ byCells (now (cells .entry)) (balancesIn (now (balances .entry))) (o .instrument) (wayOf (o .side)) +ℤ pos added ⌝ }
 {
     let side = o.side;
     let balance = Contracts(signed_word(balances, o.instrument as usize));
-    let before = open_on(orders, n, side, o.account, o.instrument);
+    let before = Contracts(cells[cell(side, o.instrument)] as i64);
     potential(side, balance, before.plus(Contracts(added as i64)))
 }
 
 // PCC for `to` Buy, PVC for Sell, of the order's account and group, with `added` more contracts of weight K on that side.
 fn group_with(
-    orders: &[u8],
-    n: usize,
+    cells: &[u64],
     balances: &[u8],
     roster: &[u8],
     o: Order,
@@ -118,26 +107,25 @@ fn group_with(
     weight: i64,
     to: Side,
 ) -> Weighted
-    requires { ⌜ EventBounds (now orders) n (now balances) (now roster) o added × (natAbs weight ≤ 1000000) ⌝ }
+    requires { ⌜ EventBounds (now cells) (now balances) (now roster) o added × (natAbs weight ≤ 1000000) ⌝ }
     ensures { λ r. ⌜
         (let desk = rosterIn (now (roster .entry)) in
         r .0
-        ≡ potential one desk (ordersFrom (now (orders .entry)) 0 n) (o .account) (balancesIn (now (balances .entry))) (inGroup (groupOfInstrument desk (o .instrument))) (wayOf to)
+        ≡ sumByCells (now (cells .entry)) (balancesIn (now (balances .entry))) desk (groupOfInstrument desk (o .instrument)) (desk .instruments) (wayOf to)
         +ℤ pos (natAbs weight) *ℤ pos added)
         ⌝ }
 {
     let contract = word(roster, 11 + o.instrument as usize) as usize;
     let group = word(roster, 3 + contract);
-    let before = group_position(orders, n, balances, roster, o.account, group);
+    let before = weigh(cells, balances, roster, group);
     let rise = Contracts(added as i64).times(magnitude(weight));
     on_side(to, before).plus(rise)
 }
 
 // 21 to 24, of the order as the event enters it or raises it to: with `added` more contracts of it open, is PCI or PVI at most
-// the line in force's limit, and PCC or PVC at most the group line's times 10,000?
+// the line in force's limit, and PCC or PVC at most the group line's times 10,000? The cells hold B and V of its account.
 pub fn positions_within(
-    orders: &[u8],
-    n: usize,
+    cells: &[u64],
     balances: &[u8],
     roster: &[u8],
     line: &[u8],
@@ -145,19 +133,20 @@ pub fn positions_within(
     o: Order,
     added: u64,
 ) -> PositionAnswer
-    requires { ⌜ EventBounds (now orders) n (now balances) (now roster) o added × LineBounds (now line) × GroupLineBounds (now group) ⌝ }
+    requires { ⌜ EventBounds (now cells) (now balances) (now roster) o added × LineBounds (now line) × GroupLineBounds (now group) ⌝ }
     ensures { λ a. ⌜
         (let r = rosterIn (now (roster .entry)) in
-        (ls : Lines) (after : List Order) →
+        (ls : Lines) (before after : List Order) →
+        Gathered (now (cells .entry)) before (o .account) →
         InForce r ls o (now (line .entry)) →
         OfGroup r ls o (now (group .entry)) →
-        Raised added o (ordersFrom (now (orders .entry)) 0 n) after →
+        Raised added o before after →
         positionNumber a ≡ firstNo (positionQuestions one r ls after (balancesIn (now (balances .entry))) o))
         ⌝ }
 {
     let side = o.side;
     let most = largest_position(line, side);
-    if !instrument_with(orders, n, balances, roster, o, added).at_most(most) {
+    if !instrument_with(cells, balances, o, added).at_most(most) {
         return instrument_refusal(side);
     }
     let weight = signed_word(roster, 43 + o.instrument as usize);
@@ -166,7 +155,7 @@ pub fn positions_within(
     }
     let to = group_side(side, weight);
     let most_of_group = largest_of_group(group, to).times(10000);
-    if group_with(orders, n, balances, roster, o, added, weight, to).at_most(most_of_group) {
+    if group_with(cells, balances, roster, o, added, weight, to).at_most(most_of_group) {
         PositionAnswer::Within
     } else {
         group_refusal(to)

@@ -1,3 +1,3 @@
 pub mod Counting
-mod Gathering
+pub mod Gathering
 pub mod Weighing

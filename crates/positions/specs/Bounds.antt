@@ -30,7 +30,7 @@ pub record GatherBounds (orders : List ℕ) (n a : ℕ) : Type 0 where
 
 -- for PCI and PVI of instrument i by the cells
 pub record CellBounds (cells balances : List ℕ) (i : ℕ) : Type 0 where
-  pub size : length cells ≡ 65
+  pub size : length cells ≡ 545
   pub long : 264 ≤ length balances
   pub instrument : Numbered 32 i
   pub balance : natAbs (balancesIn balances i) ≤ 100000000000
@@ -47,6 +47,13 @@ pub record RosterBounds (m : List ℕ) (r : Roster) : Type 0 where
   pub instruments : r .instruments ≤ 32
   pub contract : (i : ℕ) → Numbered (r .instruments) i → Numbered 8 (r .contractOf i)
   pub weight : (i : ℕ) → Numbered (r .instruments) i → natAbs (r .weight i) ≤ 1000000
+
+-- for PCC and PVC by the cells
+pub record WeighBounds (cells balances roster : List ℕ) : Type 0 where
+  pub size : length cells ≡ 545
+  pub unfilled : (s : Side) (i : ℕ) → Numbered 32 i → getD cells (cell s i) 0 ≤ 100000000000
+  pub balances-small : BalanceBounds balances (rosterIn roster .instruments)
+  pub roster-small : RosterBounds roster (rosterIn roster)
 
 -- for PCC and PVC of account a
 pub record GroupBounds (orders : List ℕ) (n : ℕ) (balances roster : List ℕ) (a : ℕ) : Type 0 where

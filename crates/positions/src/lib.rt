@@ -10,7 +10,7 @@ ghost use Rattle.ledger.specs.Records.{ordersFrom, balancesIn, rosterIn};
 ghost use Rattle.ledger.specs.Derivatives.{one, counted};
 ghost use Rattle.positions.specs.Gathered.{onWay, cell, added, Gathered, byCells, partByCells, sumByCells};
 ghost use Rattle.positions.specs.Answers.{InInstrument, InGroup};
-ghost use Rattle.positions.specs.Bounds.{OpenBounds, InstrumentBounds, CellBounds, GatherBounds, BalanceBounds, RosterBounds, GroupBounds};
+ghost use Rattle.positions.specs.Bounds.{OpenBounds, InstrumentBounds, CellBounds, GatherBounds, RosterBounds, WeighBounds, GroupBounds};
 use ledger::order::Order;
 use ledger::order::Side;
 use ledger::records::load;
@@ -148,19 +148,19 @@ fn group_part(side: Side, weight: i64, long: Contracts, short: Contracts) -> Wei
     }
 }
 
-fn cell(side: Side, instrument: u64) -> usize
+pub fn cell(side: Side, instrument: u64) -> usize
     requires { ⌜ instrument ≤ 32 ⌝ }
     ensures { λ r. ⌜ r ≡ cell side instrument ⌝ }
 {
     match side {
         Side::Buy => instrument as usize,
-        Side::Sell => 32 + instrument as usize,
+        Side::Sell => 512 + instrument as usize,
     }
 }
 
 // Adds what remains of the order to its cell, where it is of the account.
-fn add_to(cells: &mut [u64; 65], o: Order, account: u64)
-    requires { ⌜ (length (now cells) ≡ 65) × (o .instrument ≤ 32) × (getD (now cells) (cell (o .side) (o .instrument)) 0 + counted o (o .side) account (o .instrument) ≤ 9000000000000000000) ⌝ }
+fn add_to(cells: &mut [u64; 545], o: Order, account: u64)
+    requires { ⌜ (length (now cells) ≡ 545) × (o .instrument ≤ 32) × (getD (now cells) (cell (o .side) (o .instrument)) 0 + counted o (o .side) account (o .instrument) ≤ 9000000000000000000) ⌝ }
     ensures { λ r. ⌜ now (cells .exit) ≡ added (now (cells .entry)) o account ⌝ }
 {
     if o.account == account {
@@ -171,8 +171,8 @@ fn add_to(cells: &mut [u64; 65], o: Order, account: u64)
 }
 
 // Gathers B and V of the account and each instrument, in one pass over the orders.
-fn gather(orders: &[u8], n: usize, account: u64, cells: &mut [u64; 65])
-    requires { ⌜ GatherBounds (now orders) n account × (length (now cells) ≡ 65) × ((j : ℕ) → getD (now cells) j 0 ≡ 0) ⌝ }
+pub fn gather(orders: &[u8], n: usize, account: u64, cells: &mut [u64; 545])
+    requires { ⌜ GatherBounds (now orders) n account × (length (now cells) ≡ 545) × ((j : ℕ) → getD (now cells) j 0 ≡ 0) ⌝ }
     ensures { λ r. ⌜ Gathered (now (cells .exit)) (ordersFrom (now (orders .entry)) 0 n) account ⌝ }
 {
     for p in 0..n {
@@ -181,20 +181,20 @@ fn gather(orders: &[u8], n: usize, account: u64, cells: &mut [u64; 65])
 }
 
 // The positions of an instrument by the cells.
-fn by_cells(cells: &[u64; 65], balances: &[u8], i: usize) -> InstrumentPosition
+fn by_cells(cells: &[u64], balances: &[u8], i: usize) -> InstrumentPosition
     requires { ⌜ CellBounds (now cells) (now balances) i ⌝ }
     ensures { λ r. ⌜ ((w : Way) → onWay w (r .long .0) (r .short .0) ≡ byCells (now (cells .entry)) (balancesIn (now (balances .entry))) i w) ⌝ }
 {
     let balance = Contracts(signed_word(balances, i));
     let buys = Contracts(cells[i] as i64);
-    let sells = Contracts(cells[32 + i] as i64);
+    let sells = Contracts(cells[512 + i] as i64);
     position_by(balance, buys, sells)
 }
 
 // The positions with the part of instrument `i` added, where it is of the group.
 fn with_part(
     sum: GroupPosition,
-    cells: &[u64; 65],
+    cells: &[u64],
     balances: &[u8],
     roster: &[u8],
     group: u64,
@@ -218,8 +218,8 @@ fn with_part(
 }
 
 // The sums of the parts of the group's instruments, in one pass over the roster.
-fn weigh(cells: &[u64; 65], balances: &[u8], roster: &[u8], group: u64) -> GroupPosition
-    requires { ⌜ BalanceBounds (now balances) (rosterIn (now roster) .instruments) × RosterBounds (now roster) (rosterIn (now roster)) × (length (now cells) ≡ 65) × ((s : Side) (i : ℕ) → Numbered 32 i → getD (now cells) (cell s i) 0 ≤ 100000000000) ⌝ }
+pub fn weigh(cells: &[u64], balances: &[u8], roster: &[u8], group: u64) -> GroupPosition
+    requires { ⌜ WeighBounds (now cells) (now balances) (now roster) ⌝ }
     ensures { λ r. ⌜ ((w : Way) → onWay w (r .long .0) (r .short .0) ≡ sumByCells (now (cells .entry)) (balancesIn (now (balances .entry))) (rosterIn (now (roster .entry))) group (rosterIn (now (roster .entry)) .instruments) w) ⌝ }
 {
     let instruments = word(roster, 3) as usize;
@@ -245,7 +245,7 @@ pub fn group_position(
     requires { ⌜ GroupBounds (now orders) n (now balances) (now roster) account ⌝ }
     ensures { λ r. ⌜ InGroup (now (orders .entry)) n (now (balances .entry)) (now (roster .entry)) account group r ⌝ }
 {
-    let mut cells = [0u64; 65];
+    let mut cells = [0u64; 545];
     gather(orders, n, account, &mut cells);
     weigh(&cells, balances, roster, group)
 }

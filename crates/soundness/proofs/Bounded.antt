@@ -78,6 +78,10 @@ module _ (m : List ℕ) (h : Held m) where
   open-small s a i =
       omega (arith, held-count m h, small-orders (partOf m ordersWord 2048) (wordAt m countWord) 1000000 order-small s a i)
 
+  pub unfilled-small : (s : Side) (a i : ℕ) → natAbs (openOn one (openOrders m) s a i) ≤ 256000000
+  unfolding openOrders
+  unfilled-small s a i = open-small s a i
+
   -- ---- the balances
   pub balance-small : (a i : ℕ) → natAbs (balancesOf m a i) ≤ 1000000000
   unfolding view bookOf derivatives ofInstrument

@@ -23,7 +23,7 @@ use Rattle.positions.proofs.Counting.{counted-other-account, counted-other-inst
 use Rattle.layout.specs.Layout.{countWord, ordersWord}
 use Rattle.layout.specs.View.{rosterOf, tradingOf, openOrders}
 use Rattle.soundness.specs.Soundness.{ascend, orderSound, recordsSound, ordersSound}
-use Rattle.soundness.specs.Cells.{cell, added, Empty, Gathered}
+use Rattle.soundness.specs.Cells.{cell, added, Empty, Sums, Gathered}
 use Rattle.soundness.proofs.Records.{order-out, remaining-small, checked, checked-all, checked-end, checked-id, checked-order, checked-on}
 
 pub cell-inside : (s : Side) (a i : ℕ) → a ≤ 16 → i ≤ 32 → cell s a i < 1057
@@ -39,7 +39,7 @@ same-row a i b k h l e =
     let same : a ≡ b = omega arith in
     (same, omega arith)
 
-same-cell : (s t : Side) (a i b k : ℕ) → Numbered 16 a → Numbered 32 i → Numbered 16 b → Numbered 32 k → cell s a i ≡ cell t b k → (s ≡ t) × (a ≡ b) × (i ≡ k)
+pub same-cell : (s t : Side) (a i b k : ℕ) → Numbered 16 a → Numbered 32 i → Numbered 16 b → Numbered 32 k → cell s a i ≡ cell t b k → (s ≡ t) × (a ≡ b) × (i ≡ k)
 same-cell Buy Buy a i b k u h v l e = let r = same-row a i b k h l e in (refl, r .0, r .1)
 same-cell Sell Sell a i b k u h v l e = let r = same-row a i b k h l (omega arith) in (refl, r .0, r .1)
 same-cell Buy Sell a i b k u h v l e = absurd (omega arith)
@@ -53,6 +53,9 @@ zero-at (suc n) (suc j) = zero-at n j
 
 pub empty-cells : (n : ℕ) → n ≡ 1057 → Empty (replicate n 0)
 empty-cells n e = record { size = length-replicate n 0 ∙ e; zero = zero-at n }
+
+pub gathered-sums : (cells : List ℕ) (orders : List Order) → Gathered cells orders → Sums cells orders
+gathered-sums cells orders g = record { size = g .size; sums = g .sums }
 
 -- ---- one order
 module _ (cells : List ℕ) (o : Order) (size : length cells ≡ 1057) (account : Numbered 16 (o .account)) (instrument : Numbered 32 (o .instrument)) where

@@ -2,7 +2,7 @@ pub mod Every
 pub mod Asked
 pub mod RosterLaws
 pub mod Records
-mod Gathering
+pub mod Gathering
 mod Places
 mod Whole
 pub mod Questions

@@ -45,7 +45,7 @@ fn order_is_sound(m: &[u8], side: u64, o: Order) -> bool
 }
 
 // The cell of a side, account and instrument.
-fn cell(side: Side, account: u64, instrument: u64) -> usize
+pub fn cell(side: Side, account: u64, instrument: u64) -> usize
     requires { ⌜ (account ≤ 16) × (instrument ≤ 32) ⌝ }
     ensures { λ r. ⌜ r ≡ cell side account instrument ⌝ }
 {

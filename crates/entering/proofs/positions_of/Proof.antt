@@ -8,40 +8,39 @@ use Rattle.entering.proofs.Answered.{event-bounds, by-words}
 use Rattle.entering.proofs.positions_of.Statement.{statement}
 use Rattle.entering.proofs.positions_of.Tie as tie
 
-part-requires-5 : tie.Need-part-requires-5
-part-requires-5 c κs =
-    let rows = part-long _ _ _ _ (c .before .part4 .ensures) (omega arith) in
+part-requires-4 : tie.Need-part-requires-4
+part-requires-4 c κs =
+    let rows = part-long _ _ _ _ (c .before .part3 .ensures) (omega arith) in
     omega arith
 
-bytes : (c : tie.After-part5) → let a = c .before .before .before .before .before .before .before .before .before .args in c .part5 .result .now ≡ groupBytes (a .m .now) (a .o)
+bytes : (c : tie.After-part4) → let a = c .before .before .before .before .before .before .before .before .before .args in c .part4 .result .now ≡ groupBytes (a .m .now) (a .o)
 unfolding groupBytes
 bytes c =
     let s = c .before .before .before .before .before .before .before .before .before in
-    c .part5 .ensures
-    ∙ rw (c .before .before .part4 .ensures, group-is _ _ _ _ (s .pre .1) (c .before .group-of .ensures))
+    c .part4 .ensures
+    ∙ rw (c .before .before .part3 .ensures, group-is _ _ _ _ (s .pre .2) (c .before .group-of .ensures))
 
 positions-within-requires : tie.Need-positions-within-requires
 positions-within-requires c κs =
-    let s = c .before .before .before .before .before .before .before .before .before in
-    let p3 = c .before .before .before in
-    let w = p3 .before .before in
-    (rw (w .before .part .ensures, w .word .ensures, p3 .before .part2 .ensures, p3 .part3 .ensures) (event-bounds _ _ _ (s .pre .0)), rw (s .pre .2) (line-bounds _ _ (s .pre .0 .on)), rw (bytes c) (group-bounds _ _ (s .pre .0 .on)))
+    let p2 = c .before .before .before in
+    let own = p2 .before .before in
+    let s = own .before .before .before .before in
+    (rw (own .cells-of .ensures, p2 .before .part .ensures, p2 .part2 .ensures) (event-bounds _ _ _ _ (s .pre .0) (s .pre .1)), rw (s .pre .3) (line-bounds _ _ (s .pre .0 .on)), rw (bytes c) (group-bounds _ _ (s .pre .0 .on)))
 
 returns : tie.Need-returns
 returns c after raised =
-    let p5 = c .before .before in
-    let p3 = p5 .before .before .before in
-    let w = p3 .before .before in
-    let s = w .before .before .before .before in
+    let p4 = c .before .before in
+    let p2 = p4 .before .before .before in
+    let own = p2 .before .before in
+    let s = own .before .before .before .before in
     c .position-answer .ensures
-    ∙ by-words _ _ _ (s .pre .0) _ (rw (w .before .part .ensures, w .word .ensures, p3 .before .part2 .ensures, p3 .part3 .ensures, s .pre .2, bytes p5) at (c .before .positions-within .ensures)) after raised
+    ∙ by-words _ _ _ _ (s .pre .0) (s .pre .1) _ (rw (own .cells-of .ensures, p2 .before .part .ensures, p2 .part2 .ensures, s .pre .3, bytes p4) at (c .before .positions-within .ensures)) after raised
 
 pub positions-of-spec : {M : Type 1} → statement M
 positions-of-spec =
     tie.close
     (tie.spec
     (λ c κs. search needs)
-    (λ c κs. search needs)
     (λ c. search needs)
     (λ c. search needs)
     (λ c κs. search needs)
@@ -51,7 +50,7 @@ positions-of-spec =
     (λ c κs. search needs)
     (λ c κs. search needs)
     (λ c. search needs)
-    part-requires-5
+    part-requires-4
     positions-within-requires
     (λ c κs. search needs)
     returns)

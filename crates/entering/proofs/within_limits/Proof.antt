@@ -14,13 +14,13 @@ use Rattle.entering.proofs.within_limits.Tie as tie
 
 order-size-requires : tie.Need-order-size-requires
 order-size-requires c κs =
-    let s = c .before .before .before in
-    omega (arith, ap length (c .line-of .ensures), line-bounds _ _ (s .pre .on) .long)
-
-size : (c : tie.After-order-size) → let a = c .before .before .before .before .args in sizeNumber (c .order-size .result) ≡ firstNo (sizeQuestions one (rosterOf (a .m .now)) (linesOf (a .m .now) (a .o .account)) (a .o))
-size c =
     let s = c .before .before .before .before in
-    c .order-size .ensures _ _ _ (rw (c .before .line-of .ensures) (line-in-force _ _ (s .pre .on) (s .pre .set))) refl refl
+    omega (arith, ap length (c .line-of .ensures), line-bounds _ _ (s .pre .0 .on) .long)
+
+size : (c : tie.After-order-size) → let a = c .before .before .before .before .before .args in sizeNumber (c .order-size .result) ≡ firstNo (sizeQuestions one (rosterOf (a .m .now)) (linesOf (a .m .now) (a .o .account)) (a .o))
+size c =
+    let s = c .before .before .before .before .before in
+    c .order-size .ensures _ _ _ (rw (c .before .line-of .ensures) (line-in-force _ _ (s .pre .0 .on) (s .pre .0 .set))) refl refl
 
 returns : tie.Need-returns
 returns c after raised =

@@ -16,16 +16,16 @@ use Rattle.positions.proofs.by_cells.Statement.{statement}
 use Rattle.positions.proofs.by_cells.Tie as tie
 
 cast-t7 : tie.Need-cast-t7
-cast-t7 c = omega (sized, c .before .before .before .pre .unfilled Buy)
+cast-t7 c = omega (sized, c .before .before .before .before .pre .unfilled Buy)
 
 cast-t7-2 : tie.Need-cast-t7-2
-cast-t7-2 c = omega (sized, c .before .before .before .before .pre .unfilled Sell)
+cast-t7-2 c = omega (sized, c .before .before .before .before .before .pre .unfilled Sell)
 
 -- what the machine reads is the balance, B and V
-read : (c : tie.After-t112) → let a = c .before .before .before .before .args in (again (c .before .before .signed-word .result) ≡ signedAt (a .balances .now) (a .i)) × (toZ w64 (getD (a .cells .now) (a .i) 0) ≡ pos (getD (a .cells .now) (a .i) 0)) × (toZ w64 (getD (a .cells .now) (32 + a .i) 0) ≡ pos (getD (a .cells .now) (32 + a .i) 0))
+read : (c : tie.After-shared-slice-known4) → let a = c .before .before .before .before .before .args in (again (c .before .before .signed-word .result) ≡ signedAt (a .balances .now) (a .i)) × (toZ w64 (getD (a .cells .now) (a .i) 0) ≡ pos (getD (a .cells .now) (a .i) 0)) × (toZ w64 (getD (a .cells .now) (512 + a .i) 0) ≡ pos (getD (a .cells .now) (512 + a .i) 0))
 read c =
     let at = c .before .before in
-    let s = at .before .before in (
+    let s = at .before .before .before in (
       toZ-ofZ w64 (at .signed-word .result) (record { sfits = at .signed-word .ok }) ∙ at .signed-word .ensures,
       toZ-pos w64 _ (omega (arith, s .pre .unfilled Buy)),
       toZ-pos w64 _ (omega (arith, s .pre .unfilled Sell)),
@@ -33,7 +33,7 @@ read c =
 
 position-by-requires : tie.Need-position-by-requires
 position-by-requires c κs =
-    let bounds = c .before .before .before .before .pre in
+    let bounds = c .before .before .before .before .before .pre in
     rw (read c .0, read c .1, read c .2) (omega (arith, bounds .unfilled Buy), omega (arith, bounds .unfilled Sell))
 
 returns : tie.Need-returns

@@ -1,4 +1,4 @@
-use mathlib.Core.Path.{refl}
+use mathlib.Core.Path.{refl, sym}
 use Rattle.ledger.specs.Positions.{long, short}
 use Rattle.positions.proofs.Gathering.{empty-at}
 use Rattle.positions.proofs.Weighing.{cells-small, sum-potential}
@@ -6,13 +6,16 @@ use Rattle.positions.proofs.group_position.Statement.{statement}
 use Rattle.positions.proofs.group_position.Tie as tie
 
 gather-requires : tie.Need-gather-requires
-gather-requires c κs = (c .before .before .before .before .pre .orders-small, refl, empty-at 65)
+gather-requires c κs = (c .before .before .before .before .pre .orders-small, refl, empty-at 545)
+
+slice-aggregate-weigh : tie.Need-slice-aggregate-weigh
+slice-aggregate-weigh c = sym (c .before .gather .ensures .size)
 
 weigh-requires : tie.Need-weigh-requires
 weigh-requires c κs =
     let bounds = c .before .before .before .before .before .before .pre in
     let gathered = c .before .gather .ensures in
-    (bounds .balances-small, bounds .roster-small, gathered .size, cells-small _ _ _ gathered (bounds .orders-small .unfilled))
+    record { size = gathered .size; unfilled = cells-small _ _ _ gathered (bounds .orders-small .unfilled); balances-small = bounds .balances-small; roster-small = bounds .roster-small }
 
 returns : tie.Need-returns
 returns c =
@@ -25,4 +28,4 @@ returns c =
     }
 
 pub group-position-spec : {M : Type 1} → statement M
-group-position-spec = tie.close (tie.spec gather-requires weigh-requires returns)
+group-position-spec = tie.close (tie.spec gather-requires slice-aggregate-weigh weigh-requires returns)

@@ -26,16 +26,16 @@ loop-holds c = (c .word .ensures ∙ instruments-word _, omega arith, λ w. sum-
 with-part-requires : tie.Need-with-part-requires Inv-loop μ-loop
 with-part-requires c κs =
     let at = c .before in
-    let s = at .before .before .before .before in
-    let balances = s .pre .0 in
-    let roster = s .pre .1 in
+    let s = at .before .before .before .before .before in
+    let balances = s .pre .balances-small in
+    let roster = s .pre .roster-small in
     let j = at .loop .j in
     let most = at .loop .inv .0 in
     let few = roster .instruments in (
-      record { size = s .pre .2; long = balances .long; instrument = (omega arith, omega arith); balance = balances .balance (j + 1) (omega arith, omega arith); unfilled = λ v. s .pre .3 v (j + 1) (omega arith, omega arith) },
+      record { size = s .pre .size; long = balances .long; instrument = (omega arith, omega arith); balance = balances .balance (j + 1) (omega arith, omega arith); unfilled = λ v. s .pre .unfilled v (j + 1) (omega arith, omega arith) },
       roster,
       (omega arith, omega arith),
-      λ w. rw (at .loop .inv .2 w) (sum-small _ _ _ _ w j (omega arith) (λ i h. roster .weight i (omega arith)) (λ i h. balances .balance i (omega arith)) (s .pre .3)),
+      λ w. rw (at .loop .inv .2 w) (sum-small _ _ _ _ w j (omega arith) (λ i h. roster .weight i (omega arith)) (λ i h. balances .balance i (omega arith)) (s .pre .unfilled)),
     )
 
 loop-again : tie.Need-loop-again Inv-loop μ-loop
@@ -46,7 +46,7 @@ loop-again c =
 returns : tie.Need-returns Inv-loop μ-loop
 returns c w =
     let at = c .before in
-    let a = at .before .before .before .before .args in
+    let a = at .before .before .before .before .before .args in
     let last : at .loop .j ≡ rosterIn (a .roster .now) .instruments = omega (arith, at .loop .inv .0) in
     at .loop .inv .2 w
     ∙ ap (λ (n : ℕ). sumByCells (a .cells .now) (signedAt (a .balances .now)) (rosterIn (a .roster .now)) (a .group) n w) last

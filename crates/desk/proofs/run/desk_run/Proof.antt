@@ -1,50 +1,49 @@
 use Prim.Native.Nat.{_-_}
-use mathlib.Core.Path.{_≡_, refl, _∙_}
+use mathlib.Core.Path.{_≡_, refl, _∙_, sym}
+use mathlib.Core.Bool.{true}
 use native.Mathlib.Omega.{arith}
 use borrow.Author.Needs.{needs}
 use borrow.Author.Tests.{ltb-true, ltb-false}
 use lib.ListN.{length}
+use Rattle.layout.specs.View.{openOrders}
 use Rattle.soundness.specs.Soundness.{soundDesk}
+use Rattle.soundness.specs.Cells.{Sums}
+use Rattle.soundness.proofs.Gathering.{empty-cells, gathered-sums}
 use Rattle.desk.proofs.Cutting.{event-within}
 use Rattle.desk.proofs.Turns.{Running, begins, turns, events-end, room-ends}
 use Rattle.desk.proofs.run.desk_run.Statement.{statement}
 use Rattle.desk.proofs.run.desk_run.Tie as tie
 
 abbrev Inv-loop : tie.InvT-loop
-Inv-loop m₀ events answers₀ sound at₀ count₀ m answers at count =
-    (length m ≡ length m₀) × (sound ≡ soundDesk m) × Running m₀ events answers₀ m answers at count
+Inv-loop m₀ events answers₀ cells₀ sound at₀ count₀ m answers cells at count =
+    (length m ≡ length m₀) × (sound ≡ soundDesk m) × (sound ≡ true → Sums cells (openOrders m)) × Running m₀ events answers₀ m answers at count
 
 abbrev μ-loop : tie.MeasureT-loop
-μ-loop m₀ events answers₀ sound at₀ count₀ m answers at count = length events - at
+μ-loop m₀ events answers₀ cells₀ sound at₀ count₀ m answers cells at count = length events - at
 
 add-at : tie.Need-add-at Inv-loop μ-loop
 add-at c =
-    let cut = c .before .before .before .before in
+    let cut = c .before .before .before .before .before in
     let fits = event-within _ _ _ (cut .before .before .loop-test .taken) (cut .event-at .ensures) in
     omega arith
 
 loop-less : tie.Need-loop-less Inv-loop μ-loop
 loop-less c =
-    let cut = c .before .before .before .before in
+    let cut = c .before .before .before .before .before in
     let fits = event-within _ _ _ (cut .before .before .loop-test .taken) (cut .event-at .ensures) in
     omega arith
 
 loop-again : tie.Need-loop-again Inv-loop μ-loop
 loop-again c =
     let done = c .before .before in
-    let cut = done .before .before in
+    let cut = done .before .before .before in
     let room = cut .before in
     let inv = room .before .before .loop .inv in (
       done .answer-next .kept .0 ∙ inv .0,
-      done .answer-next .ensures .1 .1,
-      turns _ _ _ _ _ _ _ (inv .2) _ _ _ (room .before .loop-test .taken) (ltb-true _ _ (room .if1 .taken)) (cut .event-at .ensures) (done .answer-next .ensures .0) (done .answer-next .ensures .1 .0),
+      done .answer-next .ensures .1 .1 .0,
+      done .answer-next .ensures .1 .1 .1,
+      turns _ _ _ _ _ _ _ (inv .3) _ _ _ (room .before .loop-test .taken) (ltb-true _ _ (room .if1 .taken)) (cut .event-at .ensures) (done .answer-next .ensures .0) (done .answer-next .ensures .1 .0),
     )
-
-returns : tie.Need-returns Inv-loop μ-loop
-returns c = room-ends _ _ _ _ _ _ _ (c .before .before .loop .inv .2) (ltb-false _ _ (c .if1 .left))
-
-returns-2 : tie.Need-returns-2 Inv-loop μ-loop
-returns-2 c = events-end _ _ _ _ _ _ _ (c .before .loop .inv .2) (c .loop-test .left)
 
 pub desk-run-spec : {M : Type 1} → statement M
 desk-run-spec =
@@ -52,8 +51,8 @@ desk-run-spec =
     (tie.spec
     Inv-loop
     μ-loop
-    (λ c κs. search needs)
-    (λ c. (refl, c .is-sound .ensures, begins _ _ _))
+    (λ c κs. empty-cells 1057 refl)
+    (λ c. (refl, c .is-sound-with-sums .ensures .0, λ t. gathered-sums _ _ (c .is-sound-with-sums .ensures .1 t), begins _ _ _))
     (λ c κs. search needs)
     (λ c κs. search needs)
     (λ c. omega (arith, ltb-true))
@@ -63,7 +62,7 @@ desk-run-spec =
     loop-again
     (λ c. search needs)
     (λ c. search needs)
-    returns
+    (λ c. room-ends _ _ _ _ _ _ _ (c .before .before .loop .inv .3) (ltb-false _ _ (c .if1 .left)))
     (λ c. search needs)
     (λ c. search needs)
-    returns-2)
+    (λ c. events-end _ _ _ _ _ _ _ (c .before .loop .inv .3) (c .loop-test .left)))

@@ -15,15 +15,15 @@ use Rattle.judging.proofs.ByKind.{new-answer}
 use Rattle.judging.proofs.entries.judge_new.Statement.{statement}
 use Rattle.judging.proofs.entries.judge_new.Tie as tie
 
-known : (c : tie.Else1) → let a = c .before .before .before .args in between 1 (rosterOf (a .m .now) .accounts) (a .account) ≡ true
+known : (c : tie.Else1) → let a = c .before .before .before .before .args in between 1 (rosterOf (a .m .now) .accounts) (a .account) ≡ true
 known c = said-yes _ _ (c .before .account-known .ensures) (c .if1 .left)
 
-listed : (c : tie.Else2) → let a = c .before .before .before .before .before .args in between 1 (rosterOf (a .m .now) .instruments) (a .instrument) ≡ true
+listed : (c : tie.Else2) → let a = c .before .before .before .before .before .before .args in between 1 (rosterOf (a .m .now) .instruments) (a .instrument) ≡ true
 listed c = said-yes _ _ (c .before .instrument-known .ensures) (c .if2 .left)
 
-whole : (c : tie.Else3) → isQuantity (c .before .before .before .before .before .before .before .args .quantity) ≡ true
+whole : (c : tie.Else3) → isQuantity (c .before .before .before .before .before .before .before .before .args .quantity) ≡ true
 whole c =
-    let s = c .before .before .before .before .before .before .before in
+    let s = c .before .before .before .before .before .before .before .before in
     said-yes _ _ (said isQuantity (s .fits .quantity) (c .before .is-quantity .ensures)) (c .if3 .left)
 
 returns : tie.Need-returns
@@ -38,24 +38,26 @@ returns-3 : tie.Need-returns-3
 unfolding numberOf
 returns-3 c =
     let two = c .before .before in
-    let s = two .before .before .before .before .before in
+    let s = two .before .before .before .before .before .before in
     sym (new-answer _ _ _ _ _ _ true true false (known (two .before .before)) (listed two) (said-no _ _ (said isQuantity (s .fits .quantity) (c .before .is-quantity .ensures)) (c .if3 .taken)))
 
-cast-t9 : tie.Need-cast-t9
-cast-t9 c = quantity-cast _ (c .before .before .before .before .before .before .before .fits .quantity) (whole c)
+cast-t10 : tie.Need-cast-t10
+cast-t10 c = quantity-cast _ (c .before .before .before .before .before .before .before .before .fits .quantity) (whole c)
 
 new-order-requires : tie.Need-new-order-requires
 new-order-requires c κs =
     let two = c .before .before in
     let one = two .before .before in
-    let s = one .before .before .before in
+    let s = one .before .before .before .before in
     let a = s .args in
-    let r = rosterOf (a .m .now) in
-    record {
-      on = record { held = s .pre; account = between-numbered (r .accounts) (a .account) (known one); instrument = between-numbered (r .instruments) (a .instrument) (listed two) };
-      small = rw (toZ-ofZ w64 (a .quantity) (s .fits .quantity)) (quantity-numbered (a .quantity) (whole c) .1);
-      unfilled = refl;
-    }
+    let r = rosterOf (a .m .now) in (
+      record {
+        on = record { held = s .pre .0; account = between-numbered (r .accounts) (a .account) (known one); instrument = between-numbered (r .instruments) (a .instrument) (listed two) };
+        small = rw (toZ-ofZ w64 (a .quantity) (s .fits .quantity)) (quantity-numbered (a .quantity) (whole c) .1);
+        unfilled = refl;
+      },
+      s .pre .1,
+    )
 
 returns-4 : tie.Need-returns-4
 unfolding newOrder
@@ -63,7 +65,7 @@ returns-4 c =
     let three = c .before in
     let two = three .before .before in
     let one = two .before .before in
-    let s = one .before .before .before in
+    let s = one .before .before .before .before in
     rw (toZ-ofZ w64 (s .args .quantity) (s .fits .quantity)) at (c .new-order .ensures)
     ∙ sym (new-answer _ _ _ _ _ _ true true true (known one) (listed two) (whole three))
 
@@ -77,6 +79,6 @@ judge-new-spec =
     returns-2
     (λ c κs. search needs)
     returns-3
-    cast-t9
+    cast-t10
     new-order-requires
     returns-4)

@@ -19,41 +19,41 @@ use Rattle.judging.proofs.Places.{found-order, order-named, place-small
 use Rattle.judging.proofs.entries.judge_replace.Statement.{statement}
 use Rattle.judging.proofs.entries.judge_replace.Tie as tie
 
-whole : (c : tie.Else1) → isQuantity (c .before .before .before .args .total) ≡ true
-whole c = said-yes _ _ (said isQuantity (c .before .before .before .fits .total) (c .before .is-quantity .ensures)) (c .if1 .left)
+whole : (c : tie.Else1) → isQuantity (c .before .before .before .before .args .total) ≡ true
+whole c = said-yes _ _ (said isQuantity (c .before .before .before .before .fits .total) (c .before .is-quantity .ensures)) (c .if1 .left)
 
-found : (c : tie.After-p) → let a = c .before .before .before .before .before .before .args in placeFrom 0 (a .id) (openOrders (a .m .now)) ≡ At (c .p .given .0 .0)
+found : (c : tie.After-p) → let a = c .before .before .before .before .before .before .before .args in placeFrom 0 (a .id) (openOrders (a .m .now)) ≡ At (c .p .given .0 .0)
 found c = sym (c .before .before .find-order .ensures) ∙ c .p .given .1
 
 returns : tie.Need-returns
 unfolding numberOf
 returns c =
-    let s = c .before .before .before .before in
+    let s = c .before .before .before .before .before in
     refused FigureOutOfRange (c .plain .ensures) (replace-figure _ _ _ (said-no _ _ (said isQuantity (s .fits .total) (c .before .before .is-quantity .ensures)) (c .before .if1 .taken))) (omega arith)
 
 load-order-requires : tie.Need-load-order-requires
 load-order-requires c κs =
-    let s = c .before .before .before .before .before .before .before in
-    (s .pre .long, place-small _ _ (s .pre) _ (found (c .before)))
+    let s = c .before .before .before .before .before .before .before .before in
+    (s .pre .0 .long, place-small _ _ (s .pre .0) _ (found (c .before)))
 
 cast-replaced : tie.Need-cast-replaced
 cast-replaced c =
     let one = c .before .before .before .before .before in
-    quantity-cast _ (one .before .before .before .fits .total) (whole one)
+    quantity-cast _ (one .before .before .before .before .fits .total) (whole one)
 
 replaced-requires : tie.Need-replaced-requires
 replaced-requires c κs =
     let p = c .before .before in
     let one = p .before .before .before in
-    let s = one .before .before .before in
+    let s = one .before .before .before .before in
     rw (c .load-order .ensures, toZ-ofZ w64 (s .args .total) (s .fits .total))
-    (record { held = s .pre; found = order-named _ _ _ (found p); small = quantity-numbered (s .args .total) (whole one) .1 })
+    (record { held = s .pre .0; found = order-named _ _ _ (found p); small = quantity-numbered (s .args .total) (whole one) .1 }, s .pre .1)
 
 returns-2 : tie.Need-returns-2
 returns-2 c =
     let p = c .before .before .before in
     let one = p .before .before .before in
-    let s = one .before .before .before in
+    let s = one .before .before .before .before in
     let again = toZ-ofZ w64 (s .args .total) (s .fits .total) in
     (rw (c .before .load-order .ensures, again) at (c .replaced .ensures) ∙ sym (replace-found _ _ _ _ (whole one) (found-order _ _ _ (found p))), λ z. found p)
 

@@ -11,19 +11,20 @@ use Rattle.judging.proofs.Places.{found-order, no-order}
 use Rattle.judging.proofs.entries.new_order.Statement.{statement}
 use Rattle.judging.proofs.entries.new_order.Tie as tie
 
-free : (c : tie.After-enum-told) → let a = c .before .before .before .before .args in find (a .o .id) (openOrders (a .m .now)) ≡ none
+free : (c : tie.After-enum-told) → let a = c .before .before .before .before .before .args in find (a .o .id) (openOrders (a .m .now)) ≡ none
 free c = no-order _ _ (sym (c .before .before .find-order .ensures) ∙ c .enum-told .given .1)
 
 new-within-requires : tie.Need-new-within-requires
 new-within-requires c κs =
     let asked = c .before .before in
-    let f = asked .before .before .before .before .before .pre in
-    (f, record { on = f .on; set = limits-set _ _ _ (asked .admitted .ensures) (c .enum-told2 .given .1); small = f .small })
+    let pre = asked .before .before .before .before .before .before .pre in
+    let f = pre .0 in
+    (f, record { on = f .on; set = limits-set _ _ _ (asked .admitted .ensures) (c .enum-told2 .given .1); small = f .small }, pre .1)
 
 returns : tie.Need-returns
 unfolding newRest firstNo numberOf
 returns c =
-    let s = c .before .before .before .before .before in
+    let s = c .before .before .before .before .before .before in
     rw (found-order (s .args .m .now) (s .args .o .id) _ (sym (c .before .before .before .find-order .ensures) ∙ c .before .p .given .1))
 
 returns-2 : tie.Need-returns-2
@@ -36,7 +37,7 @@ returns-3 : tie.Need-returns-3
 unfolding newRest firstNo
 returns-3 c =
     let asked = c .before in
-    let a = asked .before .before .before .before .before .args in
+    let a = asked .before .before .before .before .before .before .args in
     rw (free (asked .before)) (first-refuses (a .m .now) (a .o) _ (asked .admitted .ensures) (c .match2 .keys2) _)
 
 pub new-order-spec : {M : Type 1} → statement M

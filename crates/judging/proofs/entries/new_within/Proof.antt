@@ -14,13 +14,13 @@ use Rattle.judging.proofs.entries.new_within.Tie as tie
 returns : tie.Need-returns
 unfolding newWithin firstNo numberOf
 returns c =
-    let m = c .before .before .before .args .m .now in
+    let m = c .before .before .before .before .args .m .now in
     rw (le-ltb (length (openOrders m)) 256 (omega (arith, open-count m, c .before .word .ensures)))
 
 returns-2 : tie.Need-returns-2
 unfolding newWithin firstNo
 returns-2 c =
-    let s = c .before .before .before .before in
+    let s = c .before .before .before .before .before in
     let m = s .args .m .now in
     rw (lt-ltb (length (openOrders m)) 256 (omega (arith, open-count m, c .before .before .word .ensures)))
     (c .within-limits .ensures _ (entered-raises (s .args .o) (openOrders m) (s .pre .0 .unfilled)))

@@ -14,24 +14,24 @@ use Rattle.judging.proofs.entries.raised.Tie as tie
 
 admitted-requires : tie.Need-admitted-requires
 admitted-requires c κs =
-    let s = c .before .before in
+    let s = c .before .before .before in
     rw (c .replaced-total .ensures) (replaced-on _ _ _ (s .pre .0))
 
-asked : (c : tie.After-admitted) → let a = c .before .before .before .args in numberOf (c .admitted .result) ≡ firstNo (admission (a .m .now) (replacedTotal (a .o) (a .total)))
+asked : (c : tie.After-admitted) → let a = c .before .before .before .before .args in numberOf (c .admitted .result) ≡ firstNo (admission (a .m .now) (replacedTotal (a .o) (a .total)))
 asked c = rw (c .before .replaced-total .ensures) at (c .admitted .ensures)
 
 within-limits-requires : tie.Need-within-limits-requires
 within-limits-requires c κs =
     let at = c .before .before in
-    let s = at .before .before .before in
+    let s = at .before .before .before .before in
     rw (at .before .replaced-total .ensures)
-    (record { on = replaced-on _ _ _ (s .pre .0); set = limits-set _ _ _ (asked at) (c .enum-told .given .1); small = omega (arith, s .pre .0 .small) })
+    (record { on = replaced-on _ _ _ (s .pre .0); set = limits-set _ _ _ (asked at) (c .enum-told .given .1); small = omega (arith, s .pre .0 .small) }, s .pre .2)
 
 returns : tie.Need-returns
 unfolding raisedRest
 returns c =
     let at = c .before .before .before in
-    let s = at .before .before .before in
+    let s = at .before .before .before .before in
     (rw (at .before .replaced-total .ensures) at (c .within-limits .ensures)) _ (replaced-raises _ _ _ (s .pre .0) (s .pre .1))
     ∙ sym (then-second _ _ _ (asked at) (c .before .enum-told .given .1) _)
 

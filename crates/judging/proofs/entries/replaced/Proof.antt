@@ -11,19 +11,19 @@ use Rattle.judging.proofs.entries.replaced.Tie as tie
 returns : tie.Need-returns
 unfolding replaceRest firstNo numberOf
 returns c =
-    let a = c .before .before .before .args in
+    let a = c .before .before .before .before .args in
     rw (le-ltb (a .o .filled) (a .total) (omega arith))
 
 returns-2 : tie.Need-returns-2
 unfolding replaceRest firstNo numberOf
 returns-2 c =
-    let a = c .before .before .before .before .before .args in
+    let a = c .before .before .before .before .before .before .args in
     rw (lt-ltb (a .o .filled) (a .total) (omega arith), le-ltb (a .o .total) (a .total) (omega arith))
 
 returns-3 : tie.Need-returns-3
 unfolding replaceRest firstNo
 returns-3 c =
-    let a = c .before .before .before .before .before .before .args in
+    let a = c .before .before .before .before .before .before .before .args in
     c .raised .ensures ∙ rw (lt-ltb (a .o .filled) (a .total) (omega arith), lt-ltb (a .o .total) (a .total) (omega arith))
 
 pub replaced-spec : {M : Type 1} → statement M

@@ -7,12 +7,12 @@ use mir.Syntax.{w64}
 use mir.Val.{toZ}
 use mir.ValLaws.{toZ-pos}
 use Rattle.ledger.specs.Roster.{groupOfInstrument}
-use Rattle.ledger.specs.Positions.{group, wayOf, potential}
-use Rattle.ledger.specs.Records.{ordersFrom, balancesIn, rosterIn}
-use Rattle.ledger.specs.Derivatives.{one}
+use Rattle.ledger.specs.Positions.{wayOf}
+use Rattle.ledger.specs.Records.{balancesIn, rosterIn}
 use Rattle.ledger.proofs.Fits.{again, small-again}
 use Rattle.ledger.proofs.RosterWords.{contract-word, group-word}
-use Rattle.limits.proofs.Room.{on-way, group-room, rise-room}
+use Rattle.positions.specs.Gathered.{sumByCells}
+use Rattle.limits.proofs.Room.{group-room, rise-room}
 use Rattle.limits.proofs.within.group_with.Statement.{statement}
 use Rattle.limits.proofs.within.group_with.Tie as tie
 
@@ -40,20 +40,18 @@ times-requires c κs =
 rise : (c : tie.After-times) → let a = c .before .before .before .before .before .before .before .before .args in c .times .result .0 ≡ pos (natAbs (a .weight)) *ℤ pos (a .added)
 rise c = c .times .ensures ∙ rw (read (c .before) .0, read (c .before) .1)
 
-before : (c : tie.After-on-side) → let a = c .before .before .before .before .before .before .before .before .before .args in c .on-side .result .0 ≡ potential one (rosterIn (a .roster .now)) (ordersFrom (a .orders .now) 0 (a .n)) (a .o .account) (balancesIn (a .balances .now)) (group (groupOfInstrument (rosterIn (a .roster .now)) (a .o .instrument))) (wayOf (a .to))
+before : (c : tie.After-on-side) → let a = c .before .before .before .before .before .before .before .before .before .args in c .on-side .result .0 ≡ sumByCells (a .cells .now) (balancesIn (a .balances .now)) (rosterIn (a .roster .now)) (groupOfInstrument (rosterIn (a .roster .now)) (a .o .instrument)) (rosterIn (a .roster .now) .instruments) (wayOf (a .to))
 before c =
     let at = c .before .before .before in
     let a = at .before .before .before .before .before .before .args in
-    c .on-side .ensures
-    ∙ on-way (a .orders .now) (a .n) (a .balances .now) (a .roster .now) (a .o .account) (at .before .word2 .result) (wayOf (a .to)) (at .group-position .result) (at .group-position .ensures)
-    ∙ rw (group-of (at .before))
+    c .on-side .ensures ∙ at .weigh .ensures (wayOf (a .to)) ∙ rw (group-of (at .before))
 
 plus-requires : tie.Need-plus-requires
 plus-requires c κs =
     let s = c .before .before .before .before .before .before .before .before .before in
     let a = s .args in
     rw (before c, rise (c .before))
-    (omega (arith, group-room (a .orders .now) (a .n) (a .balances .now) (a .roster .now) (a .o .account) (groupOfInstrument (rosterIn (a .roster .now)) (a .o .instrument)) (s .pre .0 .positions) (wayOf (a .to)), rise-room (natAbs (a .weight)) (a .added) (s .pre .1) (s .pre .0 .small)))
+    (omega (arith, group-room (a .cells .now) (a .balances .now) (a .roster .now) (groupOfInstrument (rosterIn (a .roster .now)) (a .o .instrument)) (s .pre .0 .positions) (wayOf (a .to)), rise-room (natAbs (a .weight)) (a .added) (s .pre .1) (s .pre .0 .small)))
 
 returns : tie.Need-returns
 returns c = c .plus .ensures ∙ rw (before (c .before), rise (c .before .before))

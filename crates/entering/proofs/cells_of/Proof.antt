@@ -1,0 +1,26 @@
+use Prim.Native.Nat.{_+_, _*_, _-_}
+use mathlib.Core.Path.{_≡_}
+use native.Mathlib.Omega.{arith}
+use borrow.Author.Needs.{needs}
+use Rattle.entering.specs.Places.{cellsOf}
+use Rattle.entering.proofs.cells_of.Statement.{statement}
+use Rattle.entering.proofs.cells_of.Tie as tie
+
+returns : tie.Need-returns
+unfolding cellsOf
+returns c =
+    let a = c .before .args .account in
+    let count : a * 32 + 545 - a * 32 ≡ 545 = omega arith in
+    simp count
+
+pub cells-of-spec : {M : Type 1} → statement M
+cells-of-spec =
+    tie.close
+    (tie.spec
+    (λ c. search needs)
+    (λ c. search needs)
+    (λ c. search needs)
+    (λ c. search needs)
+    (λ c. search needs)
+    (λ c. search needs)
+    returns)

@@ -1,0 +1,2 @@
+mod Shifts
+mod Keeping

@@ -1,0 +1,151 @@
+-- Each kind of accepted event shifts what counts of one order.
+use Prim.Native.Nat.{ℕ, _-_, _≤_, _<_, _^_}
+use mathlib.Core.Path.{_≡_, refl, _∙_, sym, ap}
+use mathlib.Core.List.{List}
+use mathlib.Core.Option.{some}
+use native.Mathlib.Nat.{one-mul}
+use native.Mathlib.Omega.{arith}
+use lib.IntN.{ℤ, natAbs, _+ℤ_}
+use mir.Syntax.{w64}
+use mir.Val.{SFits, toZ, ofZ}
+use mir.ValLaws.{toZ-ofZ}
+use Rattle.words.specs.Bytes.{Bytes}
+use Rattle.ledger.specs.declared.order.Order.{Order}
+use Rattle.ledger.specs.declared.order.Side.{Side}
+use Rattle.ledger.specs.declared.find.Found.the-variants.{At}
+use Rattle.ledger.specs.Orders.{remaining, replacedTotal, placeFrom}
+use Rattle.ledger.specs.Roster.{Numbered}
+use Rattle.ledger.specs.Positions.{openOn}
+use Rattle.ledger.specs.Derivatives.{one}
+use Rattle.ledger.proofs.Amounts.{amount}
+use Rattle.ledger.proofs.Changes.{Shifted as Shift}
+use Rattle.limits.specs.Raised.{addedOn}
+use Rattle.book.specs.declared.LimitLine.{LimitLine}
+use Rattle.book.specs.declared.LimitLine.the-variants.{Own, Default, OfGroup}
+use Rattle.book.specs.declared.Blocked.{Blocked}
+use Rattle.book.specs.declared.Blocked.the-variants.{Account, Instrument, GroupFor}
+use Rattle.book.specs.declared.Event.{Event}
+use Rattle.book.specs.declared.Event.the-variants.{Limit, Block, New, Replace, Cancel, Fill}
+use Rattle.book.specs.Market.{derivatives}
+use Rattle.book.specs.OpenOrders.{find}
+use Rattle.book.specs.Books.{Book, newOrder, work}
+use Rattle.book.specs.Sound.{OrderFits}
+use Rattle.book.proofs.Plain.{derivatives-unit}
+use Rattle.book.proofs.Shifts.{new-shift, replace-shift, cancel-shift, fill-shift}
+use Rattle.layout.specs.View.{rosterOf, openOrders, bookOf, view}
+use Rattle.layout.specs.Judged.{judged}
+use Rattle.layout.specs.Stores.{orderIn}
+use Rattle.soundness.specs.Held.{Held}
+use Rattle.soundness.proofs.Bounded.{held-readable}
+use Rattle.working.specs.Working.{Ready, worked}
+use Rattle.working.proofs.Small.{Sized}
+use Rattle.working.proofs.Told.{Found, told}
+use Rattle.working.proofs.ViewWorked.{view-worked}
+use Rattle.working.proofs.Changing.{named-found}
+use Rattle.sums.specs.Shifted.{Shifted}
+
+pub same-amount : (n : ℕ) (o : Order) (s : Side) (a i : ℕ) → amount one s a i o n ≡ addedOn n o s a i
+unfolding amount addedOn one
+same-amount n o s a i = simp one-mul
+
+remaining-most : (o : Order) → remaining o ≤ o .total
+unfolding remaining
+remaining-most o = omega arith
+
+-- ---- the open orders after the event
+module _ (m : List ℕ) (bytes : Bytes m) (held : Held m) (e : Event) (sized : Sized e) (accepted : judged m e ≡ 0) where
+  after-event : openOrders (worked m e) ≡ work (derivatives .unit) (bookOf m) e .orders
+  unfolding view bookOf
+  after-event = ap (λ v. v .book .orders) (view-worked m bytes held e sized accepted)
+
+  -- the book's shift, told of the memory
+  told-shift : (o : Order) (x y x′ y′ : ℕ) → Numbered 16 (o .account) → Numbered 32 (o .instrument) → y ≤ 1000000 → x ≡ x′ → y ≡ y′ → Shift (derivatives .unit) o x′ y′ (bookOf m .orders) (work (derivatives .unit) (bookOf m) e .orders) → Shifted o x y (openOrders m) (openOrders (worked m e))
+  unfolding derivatives bookOf
+  told-shift o x y x′ y′ account instrument small same-x same-y shift =
+      record {
+        account = account;
+        instrument = instrument;
+        small = small;
+        sums = λ s a i. rw (after-event, same-x, same-y, ← same-amount x′ o s a i, ← same-amount y′ o s a i) (shift .sums s a i);
+      }
+
+-- the same event by another name
+pub shifted-as : (m : List ℕ) (e e′ : Event) (o : Order) (x y : ℕ) → e ≡ e′ → Shifted o x y (openOrders m) (openOrders (worked m e′)) → Shifted o x y (openOrders m) (openOrders (worked m e))
+shifted-as m e e′ o x y same shift = rw same shift
+
+-- ---- an event that leaves the open orders as they are
+pub still-limit : (b : Book) (a : ℕ) (l : LimitLine) → work (derivatives .unit) b (Limit a l) .orders ≡ b .orders
+unfolding work
+still-limit b a (Own i f) = refl
+still-limit b a (Default c f) = refl
+still-limit b a (OfGroup g x y) = refl
+
+pub still-block : (b : Book) (what : Blocked) (z : ℤ) → work (derivatives .unit) b (Block what z) .orders ≡ b .orders
+unfolding work
+still-block b (Account a) z = refl
+still-block b (Instrument i) z = refl
+still-block b (GroupFor a g) z = refl
+
+pub unshifted : (m : List ℕ) → Bytes m → Held m → (e : Event) → Sized e → judged m e ≡ 0 → work (derivatives .unit) (bookOf m) e .orders ≡ bookOf m .orders → (o : Order) (x y : ℕ) → x ≡ 0 → y ≡ 0 → o .account ≡ 1 → o .instrument ≡ 1 → Shifted o x y (openOrders m) (openOrders (worked m e))
+unfolding bookOf
+unshifted m bytes held e sized accepted same o x y no-x no-y first-a first-i =
+    record {
+      account = (omega arith, omega arith);
+      instrument = (omega arith, omega arith);
+      small = omega arith;
+      sums = λ s a i. rw (after-event m bytes held e sized accepted, same, no-x, no-y);
+    }
+
+-- ---- NEW
+pub new-shifted : {m : List ℕ} {s : Side} {a i id p : ℕ} {n : ℤ} → Bytes m → id < 2 ^ 64 → Ready m (New s a i id n) p → (o : Order) (x y : ℕ) → o ≡ newOrder s a i id n → x ≡ 0 → y ≡ natAbs n → Shifted o x y (openOrders m) (openOrders (worked m (New s a i id n)))
+unfolding newOrder remaining
+new-shifted {m} {s} {a} {i} {id} {p} {n} bytes word ready o x y made x-is y-is =
+    let t = told m (ready .held) (New s a i id n) (ready .accepted) in
+    let bounds = held-readable m (ready .held) in
+    rw made
+    (told-shift m bytes (ready .held) (New s a i id n) word (ready .accepted) (newOrder s a i id n) x y 0 (remaining (newOrder s a i id n)) (t .0 .0, omega (arith, t .0 .1, bounds .accounts)) (t .1 .0, omega (arith, t .1 .1, bounds .instruments)) (omega (arith, t .2 .1 .1)) x-is (omega arith) (new-shift derivatives (bookOf m) s a i id n))
+
+-- ---- the order in record p is the one that the event names
+module _ (m : List ℕ) (id p : ℕ) (o : Order) (bytes : Bytes m) (held : Held m) (loaded : o ≡ orderIn m p) where
+  found : placeFrom 0 id (openOrders m) ≡ At p → find id (openOrders m) ≡ some o
+  found named = named-found m id p named ∙ ap some (sym loaded)
+
+  in-book : placeFrom 0 id (openOrders m) ≡ At p → find id (bookOf m .orders) ≡ some o
+  unfolding bookOf
+  in-book = found
+
+  fits : (f : Found m id) → placeFrom 0 id (openOrders m) ≡ At p → OrderFits (rosterOf m) o
+  fits f named = let e = f .found in let same : f .order ≡ o = cc (found named) in rw same at (f .fits)
+
+  account : OrderFits (rosterOf m) o → Numbered 16 (o .account)
+  account f = (f .account .0, omega (arith, f .account .1, held-readable m held .accounts))
+
+  instrument : OrderFits (rosterOf m) o → Numbered 32 (o .instrument)
+  instrument f = (f .instrument .0, omega (arith, f .instrument .1, held-readable m held .instruments))
+
+  pub replace-shifted : {n : ℤ} → Ready m (Replace id n) p → SFits w64 n → (o′ : Order) (x y : ℕ) → o′ ≡ replacedTotal o (natAbs (toZ w64 (ofZ w64 n))) → x ≡ remaining o → y ≡ remaining o′ → Shifted o x y (openOrders m) (openOrders (worked m (Replace id n)))
+  unfolding remaining replacedTotal
+  replace-shifted {n} ready fits-n o′ x y made x-is y-is =
+      let t = told m held (Replace id n) (ready .accepted) in
+      let f = fits (t .0) (ready .named) in
+      let y-now : y ≡ natAbs n - o .filled = y-is ∙ rw (made, toZ-ofZ w64 n fits-n) in
+      told-shift m bytes held (Replace id n) tt (ready .accepted) o x y (o .total - o .filled) (natAbs n - o .filled) (account f) (instrument f) (omega (arith, y-now, t .1 .1 .1)) x-is y-now (replace-shift derivatives (bookOf m) derivatives-unit id o (in-book (ready .named)) n)
+
+  pub cancel-shifted : Ready m (Cancel id) p → (x : ℕ) → x ≡ remaining o → Shifted o x 0 (openOrders m) (openOrders (worked m (Cancel id)))
+  cancel-shifted ready x x-is =
+      let f = fits (told m held (Cancel id) (ready .accepted)) (ready .named) in
+      told-shift m bytes held (Cancel id) tt (ready .accepted) o x 0 (remaining o) 0 (account f) (instrument f) (omega arith) x-is refl (cancel-shift derivatives (bookOf m) derivatives-unit id o (in-book (ready .named)))
+
+  pub fill-most : {n : ℤ} → Ready m (Fill id n) p → SFits w64 n → natAbs (toZ w64 (ofZ w64 n)) ≤ remaining o
+  fill-most {n} ready fits-n =
+      let t = told m held (Fill id n) (ready .accepted) in
+      let e = t .0 .found in
+      let same : t .0 .order ≡ o = cc (found (ready .named)) in
+      rw (toZ-ofZ w64 n fits-n) (rw same at (t .2))
+
+  pub fill-shifted : {n : ℤ} → Ready m (Fill id n) p → SFits w64 n → (x : ℕ) → x ≡ remaining o → Shifted o x (x - natAbs (toZ w64 (ofZ w64 n))) (openOrders m) (openOrders (worked m (Fill id n)))
+  fill-shifted {n} ready fits-n x x-is =
+      let t = told m held (Fill id n) (ready .accepted) in
+      let f = fits (t .0) (ready .named) in
+      let same = toZ-ofZ w64 n fits-n in
+      told-shift m bytes held (Fill id n) tt (ready .accepted) o x (x - natAbs (toZ w64 (ofZ w64 n))) (remaining o) (remaining o - natAbs n) (account f) (instrument f) (omega (arith, remaining-most o, f .total .1)) x-is (rw (x-is, same)) (fill-shift derivatives (bookOf m) derivatives-unit id o (in-book (ready .named)) n (rw same at (fill-most ready fits-n)))
