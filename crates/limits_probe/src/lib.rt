@@ -26,6 +26,7 @@ use limits::questions::limits_exist;
 use limits::questions::order_size;
 use limits::within::PositionAnswer;
 use limits::within::positions_within;
+use positions::gather;
 use words::word;
 
 fn existence_number(a: Existence) -> u64
@@ -183,5 +184,7 @@ pub extern "C" fn probe_positions(
         total: added,
         filled: 0,
     };
-    position_number(positions_within(orders, n, balances, roster, line, group, o, added))
+    let mut cells = [0u64; 545];
+    gather(orders, n, account, &mut cells);
+    position_number(positions_within(&cells, balances, roster, line, group, o, added))
 }
