@@ -48,7 +48,7 @@ fn same_side(a: Side, b: Side) -> bool
 }
 
 // What remains of the order where it stands on that side of the account and instrument, else 0.
-fn counted(o: Order, side: Side, account: u64, instrument: u64) -> u64
+pub fn counted(o: Order, side: Side, account: u64, instrument: u64) -> u64
     ensures { λ r. ⌜ r ≡ counted o side account instrument ⌝ }
 {
     if o.account != account {
@@ -89,7 +89,7 @@ pub fn potential(side: Side, balance: Contracts, unfilled: Contracts) -> Contrac
 }
 
 // The positions of an instrument by its balance, B and V.
-fn position_by(balance: Contracts, buys: Contracts, sells: Contracts) -> InstrumentPosition
+pub fn position_by(balance: Contracts, buys: Contracts, sells: Contracts) -> InstrumentPosition
     requires { ⌜ (natAbs (balance .0) + natAbs (buys .0) ≤ 9000000000000000000) × (natAbs (balance .0) + natAbs (sells .0) ≤ 9000000000000000000) ⌝ }
     ensures { λ r. ⌜ (r .balance .0 ≡ balance .0) × (r .long .0 ≡ balance .0 +ℤ buys .0) × (r .short .0 ≡ negℤ (balance .0) +ℤ sells .0) ⌝ }
 {

@@ -11,8 +11,8 @@ use layout::table::ORDERS;
 use layout::table::ROSTER;
 use ledger::units::Contracts;
 use ledger::units::Weighted;
+use order_list::listed_position;
 use positions::group_position;
-use positions::instrument_position;
 use soundness::is_sound;
 use soundness::ranges::between;
 use soundness::roster::accounts;
@@ -39,7 +39,7 @@ fn instrument_report(m: &[u8], account: u64, instrument: u64) -> [i64; 3]
     requires { ⌜ Read (now m) account × Numbered (rosterOf (now m) .instruments) instrument ⌝ }
     ensures { λ r. ⌜ r ≡ instrumentReport (now (m .entry)) account instrument ⌝ }
 {
-    let at = instrument_position(
+    let at = listed_position(
         part(m, ORDERS, 2048),
         word(m, COUNT) as usize,
         part(m, BALANCES + account as usize * 32, 33),

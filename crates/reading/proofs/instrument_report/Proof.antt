@@ -1,24 +1,25 @@
 use borrow.Author.Needs.{needs}
 use mir.Syntax.{w64}
 use mir.ValLaws.{toZ-ofZ}
+use Rattle.soundness.proofs.SoundDesk.{held-count}
 use Rattle.soundness.proofs.Bounded.{instrument-bounds}
 use Rattle.reading.proofs.Reports.{instrument-told}
 use Rattle.reading.proofs.instrument_report.Statement.{statement}
 use Rattle.reading.proofs.instrument_report.Tie as tie
 
-instrument-position-requires : tie.Need-instrument-position-requires
-instrument-position-requires c κs =
+listed-position-requires : tie.Need-listed-position-requires
+listed-position-requires c κs =
     let orders = c .before .before in
     let read = orders .before .before .pre in
-    rw (orders .part .ensures, c .before .word .ensures, c .part2 .ensures) (instrument-bounds _ (read .0 .held) _ (read .0 .account) _ (read .1))
+    rw (orders .part .ensures, c .before .word .ensures, c .part2 .ensures) (held-count _ (read .0 .held), instrument-bounds _ (read .0 .held) _ (read .0 .account) _ (read .1))
 
 returns : tie.Need-returns
 returns c =
     let at = c .before .before .before in
     let start = at .before .before .before .before .before in
     rw (toZ-ofZ w64 (c .before .before .contracts .result) (record { sfits = c .before .before .contracts .ok }), c .before .before .contracts .ensures, toZ-ofZ w64 (c .before .contracts2 .result) (record { sfits = c .before .contracts2 .ok }), c .before .contracts2 .ensures, toZ-ofZ w64 (c .contracts3 .result) (record { sfits = c .contracts3 .ok }), c .contracts3 .ensures)
-    (instrument-told _ _ (start .pre .0) _ (start .pre .1) (at .instrument-position .result)
-    (rw (← at .before .before .before .part .ensures, ← at .before .before .word .ensures, ← at .before .part2 .ensures) (at .instrument-position .ensures)))
+    (instrument-told _ _ (start .pre .0) _ (start .pre .1) (at .listed-position .result)
+    (rw (← at .before .before .before .part .ensures, ← at .before .before .word .ensures, ← at .before .part2 .ensures) (at .listed-position .ensures)))
 
 pub instrument-report-spec : {M : Type 1} → statement M
 instrument-report-spec =
@@ -29,7 +30,7 @@ instrument-report-spec =
     (λ c. search needs)
     (λ c. search needs)
     (λ c κs. search needs)
-    instrument-position-requires
+    listed-position-requires
     (λ c κs. search needs)
     (λ c κs. search needs)
     (λ c κs. search needs)

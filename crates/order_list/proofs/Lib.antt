@@ -1,0 +1,6 @@
+mod Orders
+mod Turns
+mod Again
+mod Local
+mod Sums
+mod Loading
