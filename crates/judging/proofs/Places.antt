@@ -1,5 +1,5 @@
 -- The order that an id names: where the search finds it in the memory, and how the book finds it.
-use Prim.Native.Nat.{ℕ, zero, suc, _+_, _<_}
+use Prim.Native.Nat.{ℕ, zero, suc, _+_, _≤_, _<_}
 use mathlib.Core.Path.{_≡_, refl, sym, subst}
 use mathlib.Core.Bool.{Bool, true, false, cond}
 use mathlib.Core.List.{List, [], _∷_}
@@ -13,10 +13,12 @@ use Rattle.ledger.specs.Orders.{placeFrom}
 use Rattle.ledger.specs.Records.{orderAt, ordersFrom}
 use Rattle.ledger.proofs.Search.{found-place}
 use Rattle.book.specs.OpenOrders.{find}
+use Rattle.book.specs.Sound.{Ascending}
 use Rattle.book.proofs.Cuts.{standing}
 use Rattle.layout.specs.Layout.{countWord, ordersWord}
-use Rattle.layout.specs.View.{openOrders}
-use Rattle.layout.specs.Stores.{orderIn}
+use Rattle.layout.specs.View.{openOrders, bookOf, view}
+use Rattle.layout.specs.Stores.{orderIn, rank}
+use Rattle.layout.proofs.Shifting.{rank-open}
 use Rattle.soundness.specs.Held.{Held}
 use Rattle.soundness.proofs.SoundDesk.{held-count}
 
@@ -38,6 +40,16 @@ module _ (id : ℕ) where
       by : (t : Bool) → cond t (At q) (placeFrom (q + 1) id os) ≡ Nothing → (placeFrom (q + 1) id os ≡ Nothing → find id os ≡ none) → cond t (some o) (find id os) ≡ none
       by true d later = let z : _≡_ {A = ℕ} 0 1 = cc in absurd (omega arith)
       by false d later = later d
+
+-- ---- at a sound desk
+module _ (m : List ℕ) (held : Held m) where
+  pub held-ids : Ascending 0 (openOrders m)
+  unfolding view bookOf
+  held-ids = held .book .ids
+
+  -- the place of the first larger id
+  pub rank-small : (id p : ℕ) → p ≡ rank id (openOrders m) → p ≤ 256
+  rank-small id p is = omega (arith, rank-open m id, held-count m held)
 
 module _ (m : List ℕ) (id : ℕ) where
   pub found-order : (p : ℕ) → placeFrom 0 id (openOrders m) ≡ At p → find id (openOrders m) ≡ some (orderIn m p)

@@ -5,6 +5,7 @@ ghost use Rattle.limits.specs.Questions.{firstNo};
 ghost use Rattle.book.specs.declared.Event.the-variants.{New, Replace};
 ghost use Rattle.book.specs.Answers.{numberOf};
 ghost use Rattle.layout.specs.View.{openOrders};
+ghost use Rattle.layout.specs.Stores.{rank};
 ghost use Rattle.layout.specs.Judged.{judged, NamedAt};
 ghost use Rattle.soundness.specs.Cells.{Sums};
 ghost use Rattle.soundness.specs.Held.{Held};
@@ -14,12 +15,14 @@ use crate::Verdict;
 use crate::known::account_known;
 use crate::known::instrument_known;
 use crate::orders::find_order;
+use crate::orders::found_before;
 use crate::plain;
 use crate::ranges::is_quantity;
 use book::Answer;
 use entering::admitted;
 use entering::within_limits;
 use layout::orders::load_order;
+use layout::orders::place;
 use layout::table::COUNT;
 use ledger::find::Found;
 use ledger::order::Order;
@@ -37,13 +40,13 @@ fn new_within(m: &[u8], cells: &[u64], o: Order) -> Answer
     within_limits(m, cells, o, o.total)
 }
 
-// 13 to 24 of a NEW.
-fn new_order(m: &[u8], cells: &[u64], o: Order) -> Answer
-    requires { ⌜ Fresh (now m) o × Sums (now cells) (openOrders (now m)) ⌝ }
+// 13 to 24 of a NEW. Its order would join at place `p`.
+fn new_order(m: &[u8], cells: &[u64], o: Order, p: usize) -> Answer
+    requires { ⌜ Fresh (now m) o × Sums (now cells) (openOrders (now m)) × (p ≡ rank (o .id) (openOrders (now m))) ⌝ }
     ensures { λ r. ⌜ numberOf r ≡ firstNo (newRest (now (m .entry)) o) ⌝ }
 {
-    match find_order(m, o.id) {
-        Found::At(p) => Answer::DuplicateOrder,
+    match found_before(m, p, o.id) {
+        Found::At(q) => Answer::DuplicateOrder,
         Found::Nothing => match admitted(m, o) {
             Answer::Accepted => new_within(m, cells, o),
             no => no,
@@ -60,31 +63,33 @@ pub fn judge_new(
     instrument: u64,
     id: u64,
     quantity: i64,
-) -> Answer
+) -> Verdict
     requires { ⌜ Held (now m) × Sums (now cells) (openOrders (now m)) ⌝ }
-    ensures { λ r. ⌜ numberOf r ≡ judged (now (m .entry)) (New side account instrument id quantity) ⌝ }
+    ensures answer { λ r. ⌜ numberOf (r .answer) ≡ judged (now (m .entry)) (New side account instrument id quantity) ⌝ }
+    ensures place { λ r. ⌜ (judged (now (m .entry)) (New side account instrument id quantity) ≡ 0 → NamedAt (New side account instrument id quantity) (openOrders (now (m .entry))) (r .place)) ⌝ }
 {
     if !account_known(m, account) {
-        return Answer::UnknownAccount;
+        return plain(Answer::UnknownAccount);
     }
     if !instrument_known(m, instrument) {
-        return Answer::UnknownItem;
+        return plain(Answer::UnknownItem);
     }
     if !is_quantity(quantity) {
-        return Answer::FigureOutOfRange;
+        return plain(Answer::FigureOutOfRange);
     }
-    new_order(
-        m,
-        cells,
-        Order {
-            id,
-            account,
-            instrument,
-            side,
-            total: quantity as u64,
-            filled: 0,
-        },
-    )
+    let o = Order {
+        id,
+        account,
+        instrument,
+        side,
+        total: quantity as u64,
+        filled: 0,
+    };
+    let p = place(m, id);
+    Verdict {
+        answer: new_order(m, cells, o, p),
+        place: p,
+    }
 }
 
 // 14 to 24 of a REPLACE that raises order `o` to `total`.

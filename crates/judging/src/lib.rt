@@ -21,13 +21,14 @@ use crate::settings::judge_limit;
 use book::Answer;
 use book::Event;
 
-// An answer and, where an accepted event names an open order, that order's place.
+// An answer and, where an accepted event names an open order, that order's place; for an accepted NEW the place where its order
+// joins.
 pub struct Verdict {
     pub answer: Answer,
     pub place: usize,
 }
 
-// A verdict that names no open order: a refusal, or one on an event that names none.
+// A verdict that names no place: a refusal, or one on an event that names no order.
 pub fn plain(answer: Answer) -> Verdict
     ensures { λ r. ⌜ r .answer ≡ answer ⌝ }
 {
@@ -54,7 +55,7 @@ pub fn judge(m: &[u8], cells: &[u64], e: Event) -> Verdict
             instrument,
             id,
             quantity,
-        } => plain(judge_new(m, cells, side, account, instrument, id, quantity)),
+        } => judge_new(m, cells, side, account, instrument, id, quantity),
         Event::Replace { id, total } => judge_replace(m, cells, id, total),
         Event::Cancel { id } => judge_cancel(m, id),
         Event::Fill { id, quantity } => judge_fill(m, id, quantity),

@@ -6,6 +6,7 @@ ghost use Rattle.ledger.specs.Orders.{placeFrom, remaining};
 ghost use Rattle.book.specs.declared.Event.the-variants.{Cancel, Fill};
 ghost use Rattle.book.specs.Answers.{numberOf};
 ghost use Rattle.layout.specs.View.{openOrders};
+ghost use Rattle.layout.specs.Stores.{rank};
 ghost use Rattle.layout.specs.Judged.{judged, NamedAt};
 ghost use Rattle.soundness.specs.Held.{Held};
 use crate::Verdict;
@@ -13,20 +14,33 @@ use crate::plain;
 use crate::ranges::is_quantity;
 use book::Answer;
 use layout::orders::load_order;
-use layout::table::COUNT;
+use layout::orders::place;
 use layout::table::ORDERS;
 use ledger::find::Found;
-use ledger::find::find;
 use ledger::order::Order;
-use words::part;
 use words::word;
+
+// The place of the open order with that id: just before `p`, the place of the first larger id.
+pub fn found_before(m: &[u8], p: usize, id: u64) -> Found
+    requires { ⌜ Held (now m) × (p ≡ rank id (openOrders (now m))) ⌝ }
+    ensures { λ r. ⌜ r ≡ placeFrom 0 id (openOrders (now (m .entry))) ⌝ }
+{
+    if p == 0 {
+        return Found::Nothing;
+    }
+    if word(m, ORDERS + (p - 1) * 8) == id {
+        Found::At(p - 1)
+    } else {
+        Found::Nothing
+    }
+}
 
 // The place of the open order with that id.
 pub fn find_order(m: &[u8], id: u64) -> Found
     requires { ⌜ Held (now m) ⌝ }
     ensures { λ r. ⌜ r ≡ placeFrom 0 id (openOrders (now (m .entry))) ⌝ }
 {
-    find(part(m, ORDERS, 2048), word(m, COUNT) as usize, id)
+    found_before(m, place(m, id), id)
 }
 
 // CANCEL: question 11.

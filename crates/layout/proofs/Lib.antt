@@ -3,6 +3,7 @@ pub mod GuardedTables
 pub mod Blank
 pub mod OrderRecords
 pub mod Stored
+pub mod Apart
 pub mod Shifting
 pub mod Ranking
 pub mod Figures

@@ -1,7 +1,7 @@
 -- A record of the order region: what it says, what a store there changes, and what it leaves.
 use Prim.Native.Nat.{ℕ, zero, suc, _+_, _*_, _^_, _≤_, _<_}
 use mathlib.Core.Path.{_≡_, refl, _∙_, sym, ap}
-use mathlib.Core.List.{List}
+use mathlib.Core.List.{List, [], _∷_}
 use native.Mathlib.Omega.{arith}
 use lib.ListN.{length, getD}
 use Rattle.words.specs.Bytes.{Bytes}
@@ -14,7 +14,7 @@ use Rattle.ledger.specs.declared.order.Side.{Side}
 use Rattle.ledger.specs.declared.order.Side.the-variants.{Buy, Sell}
 use Rattle.ledger.specs.Records.{sideOf, numberOf, orderAt, ordersFrom}
 use Rattle.layout.specs.Layout.{ordersWord}
-use Rattle.layout.specs.Stores.{orderWord, orderIn, ordersIn, fields, putOrder, SmallOrder, SmallOrders}
+use Rattle.layout.specs.Stores.{orderWord, orderIn, ordersIn, fields, putOrder, Sided, SmallOrder, SmallOrders}
 
 -- ---- the words of a record
 pub made : (id account instrument : ℕ) (side : Side) (total filled : ℕ) → Order
@@ -63,6 +63,16 @@ side-back Buy = refl
 side-back Sell = refl
 
 -- ---- a stored record
+-- the stores of six words, one by one
+pub put-six : (m : List ℕ) (k a b c d e f : ℕ) → putWords m k (a ∷ b ∷ c ∷ d ∷ e ∷ f ∷ []) ≡ putWord (putWord (putWord (putWord (putWord (putWord m k a) (k + 1) b) (k + 2) c) (k + 3) d) (k + 4) e) (k + 5) f
+unfolding putWords
+put-six m k a b c d e f =
+    let e2 : k + 1 + 1 ≡ k + 2 = omega arith in
+    let e3 : k + 2 + 1 ≡ k + 3 = omega arith in
+    let e4 : k + 3 + 1 ≡ k + 4 = omega arith in
+    let e5 : k + 4 + 1 ≡ k + 5 = omega arith in
+    rw (e2, e3, e4, e5)
+
 module _ (m : List ℕ) (p : ℕ) (o : Order) where
   pub length-order : length (putOrder m p o) ≡ length m
   unfolding putOrder
@@ -78,16 +88,9 @@ module _ (m : List ℕ) (p : ℕ) (o : Order) where
   word-order-other j outside =
       word-puts-other m (orderWord p) (fields o) j (λ i h e. outside (omega arith) (omega arith))
 
-  -- the stores, one by one
   pub put-order-is : putOrder m p o ≡ putWord (putWord (putWord (putWord (putWord (putWord m (orderWord p) (o .id)) (orderWord p + 1) (o .account)) (orderWord p + 2) (o .instrument)) (orderWord p + 3) (numberOf (o .side))) (orderWord p + 4) (o .total)) (orderWord p + 5) (o .filled)
-  unfolding putOrder fields putWords
-  put-order-is =
-      let k : ℕ = orderWord p in
-      let e2 : k + 1 + 1 ≡ k + 2 = omega arith in
-      let e3 : k + 2 + 1 ≡ k + 3 = omega arith in
-      let e4 : k + 3 + 1 ≡ k + 4 = omega arith in
-      let e5 : k + 4 + 1 ≡ k + 5 = omega arith in
-      rw (e2, e3, e4, e5)
+  unfolding putOrder fields
+  put-order-is = put-six m (orderWord p) (o .id) (o .account) (o .instrument) (numberOf (o .side)) (o .total) (o .filled)
 
   small-fields : SmallOrder o → AreWords (fields o)
   unfolding fields numberOf
@@ -114,17 +117,26 @@ module _ (m : List ℕ) (p : ℕ) (o : Order) where
       order-words (putWords m k (fields o)) p h
       ∙ rw (first, word 1 (omega arith), word 2 (omega arith), word 3 (omega arith), word 4 (omega arith), word 5 (omega arith), side-back (o .side))
 
--- a record stored where it stands changes nothing
-pub order-stands : (m : List ℕ) (p : ℕ) → p < 256 → Bytes m → numberOf (sideOf (wordAt m (orderWord p + 3))) ≡ wordAt m (orderWord p + 3) → putOrder m p (orderIn m p) ≡ m
-unfolding putOrder fields wordsAt made
-order-stands m p h bytes side =
+-- ---- the words of a record, stored again
+fields-in : (m : List ℕ) (p : ℕ) → p < 256 → Sided m p → fields (orderIn m p) ≡ wordsAt m (orderWord p) 6
+unfolding fields wordsAt made
+fields-in m p h side =
     let k : ℕ = orderWord p in
     let e2 : k + 1 + 1 ≡ k + 2 = omega arith in
     let e3 : k + 2 + 1 ≡ k + 3 = omega arith in
     let e4 : k + 3 + 1 ≡ k + 4 = omega arith in
     let e5 : k + 4 + 1 ≡ k + 5 = omega arith in
-    let words : fields (orderIn m p) ≡ wordsAt m k 6 = rw (order-words m p h, side, e2, e3, e4, e5) in
-    ap (putWords m k) words ∙ puts-back m k 6 bytes
+    rw (order-words m p h, side, e2, e3, e4, e5)
+
+-- where they stand they change nothing
+pub order-stands : (m : List ℕ) (p : ℕ) → p < 256 → Bytes m → Sided m p → putOrder m p (orderIn m p) ≡ m
+unfolding putOrder
+order-stands m p h bytes side = ap (putWords m (orderWord p)) (fields-in m p h side) ∙ puts-back m (orderWord p) 6 bytes
+
+-- elsewhere they are the order there
+pub order-copied : (m : List ℕ) (p q a b c d e f : ℕ) → p < 256 → Sided m p → a ≡ wordAt m (orderWord p) → b ≡ wordAt m (orderWord p + 1) → c ≡ wordAt m (orderWord p + 2) → d ≡ wordAt m (orderWord p + 3) → e ≡ wordAt m (orderWord p + 4) → f ≡ wordAt m (orderWord p + 5) → putWords m (orderWord q) (a ∷ b ∷ c ∷ d ∷ e ∷ f ∷ []) ≡ putOrder m q (orderIn m p)
+unfolding putOrder fields made
+order-copied m p q a b c d e f h side ea eb ec ed ee ef = rw (order-words m p h, side, ea, eb, ec, ed, ee, ef)
 
 -- the figures of a record are words
 pub small-record : (m : List ℕ) (p : ℕ) → p < 256 → Bytes m → SmallOrder (orderIn m p)

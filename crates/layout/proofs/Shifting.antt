@@ -1,6 +1,8 @@
--- Records shifted up and down: what a turn of each shift leaves to be stored, and that the whole is `storeOrders` of the book's list.
+-- Records shifted up and down: what the turns of each shift have moved or leave to be moved, and that the whole is `storeOrders`
+-- of the book's list.
 use Prim.Native.Nat.{ℕ, zero, suc, _+_, _-_, _≤_, _<_}
 use mathlib.Core.Path.{_≡_, refl, _∙_, sym, ap}
+use mathlib.Core.Logic.{_≢_}
 use mathlib.Core.Bool.{Bool, true, false, cond}
 use mathlib.Core.List.{List, [], _∷_}
 use native.Mathlib.Omega.{arith}
@@ -10,39 +12,56 @@ use Rattle.words.specs.Bytes.{Bytes}
 use Rattle.words.specs.Words.{wordAt, putWord}
 use Rattle.words.proofs.Memory.{put-back}
 use Rattle.ledger.specs.declared.order.Order.{Order}
-use Rattle.ledger.specs.Records.{sideOf, numberOf, ordersFrom}
+use Rattle.ledger.specs.Records.{ordersFrom}
 use Rattle.book.specs.OpenOrders.{insert}
 use Rattle.layout.specs.Layout.{countWord}
 use Rattle.layout.specs.View.{openOrders}
-use Rattle.layout.specs.Stores.{orderWord, orderIn, ordersIn, putOrder, putOrders, storeOrders, Records, rank, without}
-use Rattle.layout.proofs.OrderRecords.{same-records, bytes-order, word-order-other, order-stands}
-use Rattle.layout.proofs.Stored.{length-orders-in}
+use Rattle.layout.specs.Stores.{orderWord, orderIn, ordersIn, putOrder, putOrders, storeOrders, Sided, Records, rank, without}
+use Rattle.layout.proofs.OrderRecords.{same-record, same-records, bytes-order, word-order-other, order-stands}
+use Rattle.layout.proofs.Stored.{length-orders-in, word-orders-other}
+use Rattle.layout.proofs.Apart.{past-orders}
 
 -- ---- a turn of each shift
--- the record carried and those from i on are still to be stored
-pub rising : List ℕ → ℕ → ℕ → Order → List ℕ
-rising m i n o = putOrders m i (o ∷ ordersIn m i (n - i))
-
-pub rising-is : (m : List ℕ) (i n : ℕ) (o : Order) → rising m i n o ≡ putOrders m i (o ∷ ordersIn m i (n - i))
-unfolding rising
-rising-is m i n o = refl
-
--- a store at i leaves the records behind it
+-- a store at i leaves the records behind it, and the side in any other
 behind : (m : List ℕ) (i n : ℕ) (o : Order) (p : ℕ) → i < p → p + n ≤ 256 → ordersIn (putOrder m i o) p n ≡ ordersIn m p n
 behind m i n o p above h =
     same-records (putOrder m i o) m n p h (λ j low high. word-order-other m i o j (λ a b. omega arith))
 
-pub rising-turn : (m next : List ℕ) (i n : ℕ) (o x : Order) → i < n → n < 256 → x ≡ orderIn m i → next ≡ putOrder m i o → rising next (i + 1) n x ≡ rising m i n o
-unfolding rising putOrders ordersFrom
-rising-turn m next i n o x h few read stored =
-    let e : n - i ≡ suc (n - (i + 1)) = omega arith in
-    rw (read, stored, e, behind m i (n - (i + 1)) o (i + 1) (omega arith) (omega arith))
+pub sided-other : (m next : List ℕ) (i q : ℕ) (o : Order) → next ≡ putOrder m i o → q ≢ i → Sided m q → Sided next q
+sided-other m next i q o stored other side =
+    rw (stored, word-order-other m i o (orderWord q + 3) (λ a b. other (omega arith))) side
 
-pub rising-end : (m : List ℕ) (i n : ℕ) (o : Order) → i ≡ n → rising m i n o ≡ putOrder m n o
-unfolding rising putOrders ordersFrom
-rising-end m i n o e =
-    let z : n - n ≡ 0 = omega arith in
-    rw (e, z)
+-- the records from i on stand one place higher
+pub raised : List ℕ → ℕ → ℕ → List ℕ
+raised m i n = putOrders m (i + 1) (ordersIn m i (n - i))
+
+pub raised-start : (m : List ℕ) (n : ℕ) → m ≡ raised m n n
+unfolding raised putOrders ordersFrom
+raised-start m n = let z : n - n ≡ 0 = omega arith in rw z
+
+-- a word of a record up to i is as it was
+raised-word : (m : List ℕ) (i n j : ℕ) → j < orderWord (i + 1) → wordAt (raised m i n) j ≡ wordAt m j
+unfolding raised
+raised-word m i n j h = word-orders-other (ordersIn m i (n - i)) m (i + 1) j (λ low high. omega arith)
+
+pub raised-sided : (m l : List ℕ) (i n q : ℕ) → l ≡ raised m i n → q ≤ i → Sided m q → Sided l q
+raised-sided m l i n q is h side = rw (is, raised-word m i n (orderWord q + 3) (omega arith)) side
+
+pub raised-turn : (m l next : List ℕ) (i n : ℕ) → 1 ≤ i → i ≤ n → n < 256 → l ≡ raised m i n → next ≡ putOrder l i (orderIn l (i - 1)) → next ≡ raised m (i - 1) n
+unfolding raised putOrders ordersFrom
+raised-turn m l next i n low h few is stored =
+    let x : Order = orderIn m (i - 1) in
+    let os : List Order = ordersIn m i (n - i) in
+    let e : n - (i - 1) ≡ suc (n - i) = omega arith in
+    let f : i - 1 + 1 ≡ i = omega arith in
+    let read : orderIn (putOrders m (i + 1) os) (i - 1) ≡ x =
+    same-record (putOrders m (i + 1) os) m (i - 1) (omega arith) (λ j a b. raised-word m i n j (omega arith)) in
+    stored ∙ rw (is, read, e, f) (past-orders os m i (i + 1) x (omega arith))
+
+pub raised-put : (m l next : List ℕ) (i p n : ℕ) (o : Order) → i ≡ p → l ≡ raised m i n → next ≡ putOrder l p o → next ≡ putOrders m p (o ∷ ordersIn m p (n - p))
+unfolding raised putOrders
+raised-put m l next i p n o e is stored =
+    stored ∙ rw (is, e) (past-orders (ordersIn m p (n - p)) m p (p + 1) o (omega arith))
 
 -- the records from i on are still to be stored, each one place lower
 pub falling : List ℕ → ℕ → ℕ → List ℕ
@@ -52,25 +71,26 @@ pub falling-is : (m : List ℕ) (p n : ℕ) → falling m (p + 1) n ≡ putOrder
 unfolding falling
 falling-is m p n = let e : p + 1 - 1 ≡ p = omega arith in rw e
 
-pub falling-turn : (m next : List ℕ) (i n : ℕ) (x : Order) → 1 ≤ i → i < n → n ≤ 256 → x ≡ orderIn m i → next ≡ putOrder m (i - 1) x → falling next (i + 1) n ≡ falling m i n
+pub falling-turn : (m next : List ℕ) (i n : ℕ) → 1 ≤ i → i < n → n ≤ 256 → next ≡ putOrder m (i - 1) (orderIn m i) → falling next (i + 1) n ≡ falling m i n
 unfolding falling putOrders ordersFrom
-falling-turn m next i n x low h few read stored =
+falling-turn m next i n low h few stored =
     let e : n - i ≡ suc (n - (i + 1)) = omega arith in
     let f : i + 1 - 1 ≡ i = omega arith in
     let g : i ≡ i - 1 + 1 = omega arith in
     let rest : List Order = ordersIn m (i + 1) (n - (i + 1)) in
     let here : putOrders m (i - 1) (ordersIn m i (n - i)) ≡ putOrders (putOrder m (i - 1) (orderIn m i)) (i - 1 + 1) rest = rw e in
-    rw (stored, read, f, behind m (i - 1) (n - (i + 1)) (orderIn m i) (i + 1) (omega arith) (omega arith))
+    rw (stored, f, behind m (i - 1) (n - (i + 1)) (orderIn m i) (i + 1) (omega arith) (omega arith))
     (ap (λ q. putOrders (putOrder m (i - 1) (orderIn m i)) q rest) g ∙ sym here)
 
 pub falling-end : (m : List ℕ) (i n : ℕ) → n ≤ i → falling m i n ≡ m
 unfolding falling putOrders ordersFrom
 falling-end m i n h = let e : n - i ≡ 0 = omega arith in rw e
 
--- ---- records that stand are not stored again
-abbrev Sided : List ℕ → ℕ → Type 0
-Sided m p = numberOf (sideOf (wordAt m (orderWord p + 3))) ≡ wordAt m (orderWord p + 3)
+-- o at place p, and the records from there on behind it
+abbrev opened : List ℕ → ℕ → ℕ → Order → List ℕ
+opened m p n o = putOrders m p (o ∷ ordersIn m p (n - p))
 
+-- ---- records that stand are not stored again
 module _ (m : List ℕ) (bytes : Bytes m) where
   skip : (p : ℕ) (os : List Order) → p < 256 → Sided m p → putOrders m p (orderIn m p ∷ os) ≡ putOrders m (p + 1) os
   unfolding putOrders
@@ -84,15 +104,15 @@ module _ (m : List ℕ) (bytes : Bytes m) where
       ∙ stand n (p + 1) (omega arith) (λ q low high. sides q (omega arith) (omega arith))
 
   -- an order that joins: the records before its place stand
-  joins : (o : Order) (n p : ℕ) → p + n ≤ 256 → ((q : ℕ) → p ≤ q → q < p + n → Sided m q) → putOrders m p (insert o (ordersIn m p n)) ≡ rising m (p + rank (o .id) (ordersIn m p n)) (p + n) o
-  unfolding insert rank rising ordersFrom
+  joins : (o : Order) (n p : ℕ) → p + n ≤ 256 → ((q : ℕ) → p ≤ q → q < p + n → Sided m q) → putOrders m p (insert o (ordersIn m p n)) ≡ opened m (p + rank (o .id) (ordersIn m p n)) (p + n) o
+  unfolding insert rank ordersFrom
   joins o zero p h sides =
       let e : p + 0 ≡ p = omega arith in
       let f : p - p ≡ 0 = omega arith in
       rw (e, f)
   joins o (suc n) p h sides = by (ltb (o .id) (orderIn m p .id)) (joins o n (p + 1) (omega arith) (λ q low high. sides q (omega arith) (omega arith)))
     where
-      by : (t : Bool) → putOrders m (p + 1) (insert o (ordersIn m (p + 1) n)) ≡ rising m (p + 1 + rank (o .id) (ordersIn m (p + 1) n)) (p + 1 + n) o → putOrders m p (cond t (o ∷ orderIn m p ∷ ordersIn m (p + 1) n) (orderIn m p ∷ insert o (ordersIn m (p + 1) n))) ≡ rising m (p + cond t 0 (suc (rank (o .id) (ordersIn m (p + 1) n)))) (p + suc n) o
+      by : (t : Bool) → putOrders m (p + 1) (insert o (ordersIn m (p + 1) n)) ≡ opened m (p + 1 + rank (o .id) (ordersIn m (p + 1) n)) (p + 1 + n) o → putOrders m p (cond t (o ∷ orderIn m p ∷ ordersIn m (p + 1) n) (orderIn m p ∷ insert o (ordersIn m (p + 1) n))) ≡ opened m (p + cond t 0 (suc (rank (o .id) (ordersIn m (p + 1) n)))) (p + suc n) o
       by true later =
           let e : p + 0 ≡ p = omega arith in
           let f : p + suc n - p ≡ suc n = omega arith in
@@ -148,7 +168,7 @@ length-without p [] h = absurd (omega arith)
 length-without zero (o ∷ os) h = omega arith
 length-without (suc p) (o ∷ os) h = omega (arith, length-without p os (omega arith))
 
-pub rank-within : (id : ℕ) (os : List Order) → rank id os ≤ length os
+rank-within : (id : ℕ) (os : List Order) → rank id os ≤ length os
 unfolding rank
 rank-within id [] = omega arith
 rank-within id (o ∷ os) = by (ltb id (o .id)) (rank-within id os)
@@ -157,8 +177,9 @@ rank-within id (o ∷ os) = by (ltb id (o .id)) (rank-within id os)
     by true h = omega arith
     by false h = omega arith
 
-pub rank-count : (m : List ℕ) (n id p : ℕ) → p ≡ rank id (ordersIn m 0 n) → p ≤ n
-rank-count m n id p e = omega (arith, rank-within id (ordersIn m 0 n), length-orders-in m n 0)
+pub rank-open : (m : List ℕ) (id : ℕ) → rank id (openOrders m) ≤ wordAt m countWord
+unfolding openOrders
+rank-open m id = omega (arith, rank-within id (openOrders m), length-orders-in m (wordAt m countWord) 0)
 
 -- ---- the whole memories
 module _ (m : List ℕ) (bytes : Bytes m) (records : Records m) where
@@ -168,7 +189,7 @@ module _ (m : List ℕ) (bytes : Bytes m) (records : Records m) where
   all-sides : (q : ℕ) → 0 ≤ q → q < 0 + count → Sided m q
   all-sides q low high = records .sides q (omega arith)
 
-  pub joined : (o : Order) → putWord (rising m (rank (o .id) (openOrders m)) count o) countWord (count + 1) ≡ storeOrders m (insert o (openOrders m))
+  joined : (o : Order) → putWord (opened m (rank (o .id) (openOrders m)) count o) countWord (count + 1) ≡ storeOrders m (insert o (openOrders m))
   unfolding storeOrders openOrders
   joined o =
       let os : List Order = ordersIn m 0 count in
@@ -177,12 +198,11 @@ module _ (m : List ℕ) (bytes : Bytes m) (records : Records m) where
       let long : length (insert o os) ≡ count + 1 = length-insert o os ∙ ap (λ n. n + 1) (length-orders-in m count 0) in
       rw (long, joins m bytes o count 0 (omega (arith, records .count)) all-sides, z, z2)
 
-  pub joined-by : (o : Order) (n p : ℕ) (up after : List ℕ) → n ≡ count → p ≡ rank (o .id) (ordersIn m 0 n) → up ≡ putOrders m p (o ∷ ordersIn m p (n - p)) → after ≡ putWord up countWord (n + 1) → after ≡ storeOrders m (insert o (openOrders m))
-  unfolding openOrders rising
+  pub joined-by : (o : Order) (n p : ℕ) (up after : List ℕ) → n ≡ count → p ≡ rank (o .id) (openOrders m) → up ≡ putOrders m p (o ∷ ordersIn m p (n - p)) → after ≡ putWord up countWord (n + 1) → after ≡ storeOrders m (insert o (openOrders m))
   joined-by o n p up after en ep eu ea =
       ea ∙ ap (λ l. putWord l countWord (n + 1)) eu ∙ rw (ep, en) (joined o)
 
-  pub left : (p : ℕ) → p < count → putWord (falling m (p + 1) count) countWord (count - 1) ≡ storeOrders m (without p (openOrders m))
+  left : (p : ℕ) → p < count → putWord (falling m (p + 1) count) countWord (count - 1) ≡ storeOrders m (without p (openOrders m))
   unfolding storeOrders openOrders
   left p h =
       let os : List Order = ordersIn m 0 count in

@@ -1,4 +1,4 @@
--- The table of questions asked of what a memory shows, and where the order stands that a REPLACE, CANCEL or FILL names.
+-- The table of questions asked of what a memory shows, and where the order stands that an event names.
 use Prim.Native.Nat.{ℕ}
 use mathlib.Core.Path.{_≡_}
 use mathlib.Core.List.{List}
@@ -10,17 +10,18 @@ use Rattle.book.specs.declared.Event.the-variants.{Limit, Balance, Block, New, 
 use Rattle.book.specs.Market.{derivatives}
 use Rattle.book.specs.Table.{answer}
 use Rattle.layout.specs.View.{rosterOf, bookOf, tradingOf}
+use Rattle.layout.specs.Stores.{rank}
 
 -- the table's first no, of the desk's view
 unfoldable pub judged : List ℕ → Event → ℕ
 judged m e = answer derivatives (rosterOf m) (bookOf m) (tradingOf m) e
 
--- the order that the event names stands at place p of the open orders
+-- the order that the event names stands at place p of the open orders; that of a NEW joins there
 abbrev pub NamedAt : Event → List Order → ℕ → Type 0
 NamedAt (Limit a l) os p = Unit
 NamedAt (Balance a i z) os p = Unit
 NamedAt (Block what z) os p = Unit
-NamedAt (New s a i id n) os p = Unit
+NamedAt (New s a i id n) os p = p ≡ rank id os
 NamedAt (Replace id n) os p = placeFrom 0 id os ≡ At p
 NamedAt (Cancel id) os p = placeFrom 0 id os ≡ At p
 NamedAt (Fill id n) os p = placeFrom 0 id os ≡ At p

@@ -50,11 +50,15 @@ abbrev pub SmallOrders : List Order → Type 0
 SmallOrders [] = Unit
 SmallOrders (o ∷ os) = SmallOrder o × SmallOrders os
 
+-- the side in record p is 1 or 2
+abbrev pub Sided : List ℕ → ℕ → Type 0
+Sided m p = numberOf (sideOf (wordAt m (orderWord p + 3))) ≡ wordAt m (orderWord p + 3)
+
 -- the records of a memory that is long enough: at most 256, each with a side of 1 or 2
 pub record Records (m : List ℕ) : Type 0 where
   pub long : 65536 ≤ length m
   pub count : wordAt m countWord ≤ 256
-  pub sides : (p : ℕ) → p < wordAt m countWord → numberOf (sideOf (wordAt m (orderWord p + 3))) ≡ wordAt m (orderWord p + 3)
+  pub sides : (p : ℕ) → p < wordAt m countWord → Sided m p
 
 -- the place of the first order with a larger id, else behind the last
 unfoldable pub rank : ℕ → List Order → ℕ

@@ -1,13 +1,14 @@
 // The order records of a desk: eight words each, ascending by id, and their count.
 ghost use mathlib.Core.Path.{_≡_};
-ghost use mathlib.Core.List.{_∷_};
+ghost use mathlib.Core.List.{[], _∷_};
 ghost use Prim.Native.Nat.{_+_, _*_, _-_, _≤_, _<_};
 ghost use lib.ListN.{length, set};
-ghost use Rattle.words.specs.Words.{wordAt};
+ghost use Rattle.words.specs.Words.{wordAt, putWords};
 ghost use Rattle.book.specs.OpenOrders.{insert};
+ghost use Rattle.book.specs.Sound.{Ascending};
 ghost use Rattle.layout.specs.Layout.{memoryBytes, countWord};
 ghost use Rattle.layout.specs.View.{openOrders};
-ghost use Rattle.layout.specs.Stores.{orderIn, ordersIn, putOrder, putOrders, storeOrders, Records, rank, without};
+ghost use Rattle.layout.specs.Stores.{orderWord, orderIn, ordersIn, putOrder, putOrders, storeOrders, Sided, Records, rank, without};
 use crate::table::COUNT;
 use crate::table::ORDERS;
 use ledger::order::Order;
@@ -25,68 +26,112 @@ pub fn load_order(m: &[u8], p: usize) -> Order
     load(part(m, ORDERS, 2048), p)
 }
 
-// Makes `o` the order in record `p`. The two spare words of the record are left alone.
+// Stores the words of record `p`. Its two spare words are left alone.
+fn put_record(
+    m: &mut [u8],
+    p: usize,
+    id: u64,
+    account: u64,
+    instrument: u64,
+    side: u64,
+    total: u64,
+    filled: u64,
+)
+    requires { ⌜ (memoryBytes ≤ length (now m)) × (p < 256) ⌝ }
+    ensures { λ r. ⌜ now (m .exit) ≡ putWords (now (m .entry)) (orderWord p) (id ∷ account ∷ instrument ∷ side ∷ total ∷ filled ∷ []) ⌝ }
+{
+    let k = ORDERS + p * 8;
+    set_word(m, k, id);
+    set_word(m, k + 1, account);
+    set_word(m, k + 2, instrument);
+    set_word(m, k + 3, side);
+    set_word(m, k + 4, total);
+    set_word(m, k + 5, filled);
+}
+
+// Makes `o` the order in record `p`.
 pub fn put_order(m: &mut [u8], p: usize, o: Order)
     requires { ⌜ (memoryBytes ≤ length (now m)) × (p < 256) ⌝ }
     ensures { λ r. ⌜ now (m .exit) ≡ putOrder (now (m .entry)) p o ⌝ }
 {
-    let k = ORDERS + p * 8;
     let side = o.side;
-    set_word(m, k, o.id);
-    set_word(m, k + 1, o.account);
-    set_word(m, k + 2, o.instrument);
-    set_word(m, k + 3, number_of(side));
-    set_word(m, k + 4, o.total);
-    set_word(m, k + 5, o.filled);
+    put_record(
+        m,
+        p,
+        o.id,
+        o.account,
+        o.instrument,
+        number_of(side),
+        o.total,
+        o.filled,
+    );
 }
 
-// The place of the first of the `n` orders with a larger id, else `n`.
-fn place(m: &[u8], n: usize, id: u64) -> usize
-    requires { ⌜ (memoryBytes ≤ length (now m)) × (n ≤ 256) ⌝ }
-    ensures { λ r. ⌜ r ≡ rank id (ordersIn (now (m .entry)) 0 n) ⌝ }
+// Copies the order in record `from` to record `to`, word for word.
+fn move_record(m: &mut [u8], from: usize, to: usize)
+    requires { ⌜ (memoryBytes ≤ length (now m)) × (from < 256) × (to < 256) × Sided (now m) from ⌝ }
+    ensures { λ r. ⌜ now (m .exit) ≡ putOrder (now (m .entry)) to (orderIn (now (m .entry)) from) ⌝ }
+{
+    let k = ORDERS + from * 8;
+    let id = word(m, k);
+    let account = word(m, k + 1);
+    let instrument = word(m, k + 2);
+    let side = word(m, k + 3);
+    let total = word(m, k + 4);
+    let filled = word(m, k + 5);
+    put_record(m, to, id, account, instrument, side, total, filled);
+}
+
+// The place of the first open order with a larger id, else behind the last: a search by halves.
+pub fn place(m: &[u8], id: u64) -> usize
+    requires { ⌜ (memoryBytes ≤ length (now m)) × (wordAt (now m) countWord ≤ 256) × Ascending 0 (openOrders (now m)) ⌝ }
+    ensures { λ r. ⌜ r ≡ rank id (openOrders (now (m .entry))) ⌝ }
 {
     let mut p = 0;
-    while p < n {
-        if id < word(m, ORDERS + p * 8) {
-            return p;
+    let mut left = word(m, COUNT) as usize;
+    loop {
+        if left == 0 {
+            break p;
         }
-        p += 1;
+        let half = left / 2;
+        if word(m, ORDERS + (p + half) * 8) <= id {
+            p += half + 1;
+            left -= half + 1;
+        } else {
+            left = half;
+        }
     }
-    p
 }
 
-// Moves the orders from place `p` to `n` one place up, and puts `o` at place `p`.
+// Moves the orders from place `p` to `n` one place up, the last one first, and puts `o` at place `p`.
 fn open_up(m: &mut [u8], p: usize, n: usize, o: Order)
-    requires { ⌜ (memoryBytes ≤ length (now m)) × (p ≤ n) × (n < 256) ⌝ }
+    requires { ⌜ Records (now m) × (n ≡ wordAt (now m) countWord) × (p ≤ n) × (n < 256) ⌝ }
     ensures { λ r. ⌜ now (m .exit) ≡ putOrders (now (m .entry)) p (o ∷ ordersIn (now (m .entry)) p (n - p)) ⌝ }
 {
-    let mut carry = o;
-    for i in p..n {
-        let next = load_order(m, i);
-        put_order(m, i, carry);
-        carry = next;
+    let mut i = n;
+    while p < i {
+        move_record(m, i - 1, i);
+        i -= 1;
     }
-    put_order(m, n, carry);
+    put_order(m, p, o);
 }
 
 // Moves the orders behind place `p` to `n` one place down.
 fn close_up(m: &mut [u8], p: usize, n: usize)
-    requires { ⌜ (memoryBytes ≤ length (now m)) × (p < n) × (n ≤ 256) ⌝ }
+    requires { ⌜ Records (now m) × (n ≡ wordAt (now m) countWord) × (p < n) ⌝ }
     ensures { λ r. ⌜ now (m .exit) ≡ putOrders (now (m .entry)) p (ordersIn (now (m .entry)) (p + 1) (n - (p + 1))) ⌝ }
 {
     for i in p + 1..n {
-        let next = load_order(m, i);
-        put_order(m, i - 1, next);
+        move_record(m, i, i - 1);
     }
 }
 
-// The order `o` joins, before the first larger id.
-pub fn insert_order(m: &mut [u8], o: Order)
-    requires { ⌜ Records (now m) × (wordAt (now m) countWord < 256) ⌝ }
+// The order `o` joins at place `p`, before the first larger id.
+pub fn insert_order(m: &mut [u8], p: usize, o: Order)
+    requires { ⌜ Records (now m) × (wordAt (now m) countWord < 256) × (p ≡ rank (o .id) (openOrders (now m))) ⌝ }
     ensures { λ r. ⌜ now (m .exit) ≡ storeOrders (now (m .entry)) (insert o (openOrders (now (m .entry)))) ⌝ }
 {
     let n = word(m, COUNT) as usize;
-    let p = place(m, n, o.id);
     open_up(m, p, n, o);
     set_word(m, COUNT, (n + 1) as u64);
 }

@@ -27,7 +27,7 @@ use Rattle.layout.specs.Stores.{orderIn, storeOrders, Records}
 use Rattle.layout.specs.FieldStores.{storeBalance, storeMark, blockAccount, blockInstrument, blockGroup, storeOwn, storeDefault, storeOfGroup}
 use Rattle.soundness.specs.Held.{Held}
 
--- an accepted event at a sound desk; the order that it names stands at place p
+-- an accepted event at a sound desk; the order that it names stands, or joins, at place p
 pub record Ready (m : List ℕ) (e : Event) (p : ℕ) : Type 0 where
   pub held : Held m
   pub accepted : judged m e ≡ 0

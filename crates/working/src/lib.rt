@@ -26,7 +26,7 @@ pub fn nothing() -> Moved
     Moved { bought: 0, sold: 0 }
 }
 
-// Works an event of any kind; `place` is that of the open order it names.
+// Works an event of any kind; `place` is that of the open order it names, for a NEW where its order joins.
 pub fn work(m: &mut [u8], e: Event, place: usize) -> Moved
     requires { ⌜ Ready (now m) e place ⌝ }
     ensures memory { λ r. ⌜ now (m .exit) ≡ worked (now (m .entry)) e ⌝ }
@@ -56,7 +56,7 @@ pub fn work(m: &mut [u8], e: Event, place: usize) -> Moved
             id,
             quantity,
         } => {
-            work_new(m, side, account, instrument, id, quantity);
+            work_new(m, side, account, instrument, id, quantity, place);
             nothing()
         }
         Event::Replace { id, total } => {

@@ -1,4 +1,4 @@
-// Working NEW, REPLACE, CANCEL and FILL. `place` is that of the order with the event's id.
+// Working NEW, REPLACE, CANCEL and FILL. `place` is that of the order with the event's id, for a NEW where it joins.
 ghost use mathlib.Core.Path.{_≡_};
 ghost use Prim.Native.Nat.{_≤_};
 ghost use lib.IntN.{pos, natAbs, _+ℤ_};
@@ -23,12 +23,21 @@ use ledger::order::Side;
 use words::signed_word;
 
 // NEW: an order joins, with filled 0, and its account is marked as trading.
-pub fn work_new(m: &mut [u8], side: Side, account: u64, instrument: u64, id: u64, quantity: i64)
-    requires { ⌜ Ready (now m) (New side account instrument id quantity) 0 ⌝ }
+pub fn work_new(
+    m: &mut [u8],
+    side: Side,
+    account: u64,
+    instrument: u64,
+    id: u64,
+    quantity: i64,
+    place: usize,
+)
+    requires { ⌜ Ready (now m) (New side account instrument id quantity) place ⌝ }
     ensures { λ r. ⌜ now (m .exit) ≡ worked (now (m .entry)) (New side account instrument id quantity) ⌝ }
 {
     insert_order(
         m,
+        place,
         Order {
             id,
             account,

@@ -27,9 +27,9 @@ returns-3 c =
 
 returns-4 : tie.Need-returns-4
 returns-4 c =
-    let e = c .before .before .before .e4 .given in
-    let again = toZ-ofZ w64 (e .0 .1 .1 .1 .1 .0) (record { sfits = c .before .before .known-told4 .given .1 .1 .1 .1 .0 .1 }) in
-    says-plain _ _ _ (e .1) _ _ (c .plain4 .ensures) (rw again at (c .before .judge-new .ensures)) (λ p. tt)
+    let e = c .before .before .e4 .given in
+    let again = toZ-ofZ w64 (e .0 .1 .1 .1 .1 .0) (record { sfits = c .before .known-told4 .given .1 .1 .1 .1 .0 .1 }) in
+    says-same _ _ _ (e .1) _ (rw again at (c .judge-new .ensures))
 
 returns-5 : tie.Need-returns-5
 returns-5 c =
@@ -50,7 +50,7 @@ returns-7 c =
 
 returns-8 : tie.Need-returns-8
 unfolding numberOf
-returns-8 c = says-plain _ _ _ (c .before .enum-told .given .1) _ _ (c .plain5 .ensures) (sym (junk-answer _)) (λ p. tt)
+returns-8 c = says-plain _ _ _ (c .before .enum-told .given .1) _ _ (c .plain4 .ensures) (sym (junk-answer _)) (λ p. tt)
 
 pub judge-spec : {M : Type 1} → statement M
 judge-spec =
@@ -66,7 +66,6 @@ judge-spec =
     (λ c κs. search needs)
     (λ c κs. search needs)
     (λ c. search needs)
-    (λ c κs. search needs)
     (λ c κs. search needs)
     (λ c. search needs)
     (λ c κs. search needs)

@@ -27,7 +27,7 @@ work-new-requires : tie.Need-work-new-requires
 work-new-requires c κs =
     let told = c .before in
     let f = told .before .e4 .given .0 in
-    placeless (handed (New (f .0) (f .1 .0) (f .1 .1 .0) (f .1 .1 .1 .0)) (told .before .e4 .given .1) (record { sfits = told .known-told4 .given .1 .1 .1 .1 .0 .1 })) tt (c .before .before .before .before .before .pre)
+    ready-as (handed (New (f .0) (f .1 .0) (f .1 .1 .0) (f .1 .1 .1 .0)) (told .before .e4 .given .1) (record { sfits = told .known-told4 .given .1 .1 .1 .1 .0 .1 })) (c .before .before .before .before .before .pre)
 
 work-replace-requires : tie.Need-work-replace-requires
 work-replace-requires c κs =

@@ -1,8 +1,10 @@
 use mathlib.Core.Path.{_≡_, refl, sym, _∙_}
 use mathlib.Core.Bool.{true, false}
+use native.Mathlib.Omega.{arith}
 use borrow.Author.Needs.{needs}
 use mir.Syntax.{w64}
 use mir.ValLaws.{toZ-ofZ}
+use Rattle.book.specs.declared.Answer.the-variants.{UnknownAccount, UnknownItem, FigureOutOfRange}
 use Rattle.book.specs.Answers.{numberOf}
 use Rattle.book.specs.Books.{newOrder}
 use Rattle.book.specs.Decoding.{between}
@@ -10,8 +12,11 @@ use Rattle.book.specs.Table.{isQuantity}
 use Rattle.book.proofs.Tables.{between-numbered, quantity-numbered}
 use Rattle.layout.specs.View.{rosterOf}
 use Rattle.soundness.proofs.Asked.{said-no, said-yes}
+use Rattle.soundness.proofs.SoundDesk.{held-count}
 use Rattle.judging.proofs.Said.{said, quantity-cast}
+use Rattle.judging.proofs.Verdicts.{refused}
 use Rattle.judging.proofs.ByKind.{new-answer}
+use Rattle.judging.proofs.Places.{held-ids}
 use Rattle.judging.proofs.entries.judge_new.Statement.{statement}
 use Rattle.judging.proofs.entries.judge_new.Tie as tie
 
@@ -28,57 +33,77 @@ whole c =
 
 returns : tie.Need-returns
 unfolding numberOf
-returns c = sym (new-answer _ _ _ _ _ _ false _ _ (said-no _ _ (c .before .account-known .ensures) (c .if1 .taken)) refl refl)
+returns c =
+    let asked = c .before in
+    refused UnknownAccount (c .plain .ensures) (new-answer _ _ _ _ _ _ false _ _ (said-no _ _ (asked .before .account-known .ensures) (asked .if1 .taken)) refl refl) (omega arith)
 
 returns-2 : tie.Need-returns-2
 unfolding numberOf
-returns-2 c = sym (new-answer _ _ _ _ _ _ true false _ (known (c .before .before)) (said-no _ _ (c .before .instrument-known .ensures) (c .if2 .taken)) refl)
+returns-2 c =
+    let asked = c .before in
+    refused UnknownItem (c .plain2 .ensures) (new-answer _ _ _ _ _ _ true false _ (known (asked .before .before)) (said-no _ _ (asked .before .instrument-known .ensures) (asked .if2 .taken)) refl) (omega arith)
 
 returns-3 : tie.Need-returns-3
 unfolding numberOf
 returns-3 c =
-    let two = c .before .before in
+    let asked = c .before in
+    let two = asked .before .before in
     let s = two .before .before .before .before .before .before in
-    sym (new-answer _ _ _ _ _ _ true true false (known (two .before .before)) (listed two) (said-no _ _ (said isQuantity (s .fits .quantity) (c .before .is-quantity .ensures)) (c .if3 .taken)))
+    refused FigureOutOfRange (c .plain3 .ensures)
+    (new-answer _ _ _ _ _ _ true true false (known (two .before .before)) (listed two) (said-no _ _ (said isQuantity (s .fits .quantity) (asked .before .is-quantity .ensures)) (asked .if3 .taken)))
+    (omega arith)
 
-cast-t10 : tie.Need-cast-t10
-cast-t10 c = quantity-cast _ (c .before .before .before .before .before .before .before .before .fits .quantity) (whole c)
+cast-t15 : tie.Need-cast-t15
+cast-t15 c = quantity-cast _ (c .before .before .before .before .before .before .before .before .fits .quantity) (whole c)
+
+place-requires : tie.Need-place-requires
+place-requires c κs =
+    let held = c .before .before .before .before .before .before .before .before .pre .0 in
+    (held .long, held-count _ held, held-ids _ held)
 
 new-order-requires : tie.Need-new-order-requires
 new-order-requires c κs =
-    let two = c .before .before in
+    let three = c .before in
+    let two = three .before .before in
     let one = two .before .before in
     let s = one .before .before .before .before in
     let a = s .args in
     let r = rosterOf (a .m .now) in (
       record {
         on = record { held = s .pre .0; account = between-numbered (r .accounts) (a .account) (known one); instrument = between-numbered (r .instruments) (a .instrument) (listed two) };
-        small = rw (toZ-ofZ w64 (a .quantity) (s .fits .quantity)) (quantity-numbered (a .quantity) (whole c) .1);
+        small = rw (toZ-ofZ w64 (a .quantity) (s .fits .quantity)) (quantity-numbered (a .quantity) (whole three) .1);
         unfilled = refl;
       },
       s .pre .1,
+      c .place .ensures,
     )
 
 returns-4 : tie.Need-returns-4
 unfolding newOrder
 returns-4 c =
-    let three = c .before in
+    let three = c .before .before in
     let two = three .before .before in
     let one = two .before .before in
-    let s = one .before .before .before .before in
-    rw (toZ-ofZ w64 (s .args .quantity) (s .fits .quantity)) at (c .new-order .ensures)
-    ∙ sym (new-answer _ _ _ _ _ _ true true true (known one) (listed two) (whole three))
+    let s = one .before .before .before .before in (
+      rw (toZ-ofZ w64 (s .args .quantity) (s .fits .quantity)) at (c .new-order .ensures)
+          ∙ sym (new-answer _ _ _ _ _ _ true true true (known one) (listed two) (whole three)),
+      λ z. c .before .place .ensures,
+    )
 
 pub judge-new-spec : {M : Type 1} → statement M
 judge-new-spec =
     tie.close
     (tie.spec
     (λ c κs. search needs)
+    (λ c κs. search needs)
     returns
+    (λ c κs. search needs)
     (λ c κs. search needs)
     returns-2
     (λ c κs. search needs)
+    (λ c κs. search needs)
     returns-3
-    cast-t10
+    cast-t15
+    place-requires
     new-order-requires
     returns-4)

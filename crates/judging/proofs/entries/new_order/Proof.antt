@@ -12,7 +12,7 @@ use Rattle.judging.proofs.entries.new_order.Statement.{statement}
 use Rattle.judging.proofs.entries.new_order.Tie as tie
 
 free : (c : tie.After-enum-told) → let a = c .before .before .before .before .before .args in find (a .o .id) (openOrders (a .m .now)) ≡ none
-free c = no-order _ _ (sym (c .before .before .find-order .ensures) ∙ c .enum-told .given .1)
+free c = no-order _ _ (sym (c .before .before .found-before .ensures) ∙ c .enum-told .given .1)
 
 new-within-requires : tie.Need-new-within-requires
 new-within-requires c κs =
@@ -25,7 +25,7 @@ returns : tie.Need-returns
 unfolding newRest firstNo numberOf
 returns c =
     let s = c .before .before .before .before .before .before in
-    rw (found-order (s .args .m .now) (s .args .o .id) _ (sym (c .before .before .before .find-order .ensures) ∙ c .before .p .given .1))
+    rw (found-order (s .args .m .now) (s .args .o .id) _ (sym (c .before .before .before .found-before .ensures) ∙ c .before .q .given .1))
 
 returns-2 : tie.Need-returns-2
 unfolding newRest firstNo
@@ -44,7 +44,7 @@ pub new-order-spec : {M : Type 1} → statement M
 new-order-spec =
     tie.close
     (tie.spec
-    (λ c κs. search needs)
+    (λ c κs. let pre = c .before .before .pre in (pre .0 .on .held, pre .2))
     (λ c. search needs)
     (λ c. search needs)
     (λ c κs. search needs)

@@ -1,32 +1,40 @@
-use Prim.Native.Nat.{_+_, _-_, _≤_}
-use mathlib.Core.Path.{_≡_, _∙_, sym}
+use Prim.Native.Nat.{_+_, _≤_}
 use native.Mathlib.Omega.{arith}
-use Rattle.layout.specs.Stores.{ordersIn, rank}
-use Rattle.layout.proofs.Ranking.{rank-start, rank-here, rank-on, rank-end}
+use Rattle.words.specs.Words.{wordAt}
+use Rattle.layout.specs.Layout.{countWord}
+use Rattle.layout.specs.View.{openOrders}
+use Rattle.layout.specs.Stores.{rank}
+use Rattle.layout.proofs.Shifting.{rank-open}
+use Rattle.layout.proofs.Ranking.{at-larger, at-other}
 use Rattle.layout.proofs.orders.place.Statement.{statement}
 use Rattle.layout.proofs.orders.place.Tie as tie
 
--- the place is p more than the place among the orders from p on
+-- the place is p, or one of the next `left`
 abbrev Inv-loop : tie.InvT-loop
-Inv-loop m n id p₀ p = (p ≤ n) × (rank id (ordersIn m 0 n) ≡ p + rank id (ordersIn m p (n - p)))
+Inv-loop m id p₀ left₀ p left =
+    (p + left ≤ wordAt m countWord) × (p ≤ rank id (openOrders m)) × (rank id (openOrders m) ≤ p + left)
 
 abbrev μ-loop : tie.MeasureT-loop
-μ-loop m n id p₀ p = n - p
+μ-loop m id p₀ left₀ p left = left
 
-returns : tie.Need-returns Inv-loop μ-loop
-returns c =
-    let at = c .before .before .before in
-    sym (at .loop .inv .1 ∙ rank-here _ _ _ (at .loop .p) _ (omega arith) (omega arith) (c .before .word .ensures) (c .if1 .taken))
+loop-holds : tie.Need-loop-holds Inv-loop μ-loop
+loop-holds c =
+    let start = c .before .before in
+    omega (arith, rank-open (start .args .m .now) (start .args .id), c .word .ensures)
 
 loop-again : tie.Need-loop-again Inv-loop μ-loop
 loop-again c =
     let at = c .before .before .before in
-    (omega arith, at .loop .inv .1 ∙ rank-on _ _ _ (at .loop .p) _ (omega arith) (omega arith) (c .before .word .ensures) (c .if1 .left))
+    let pre = at .before .before .before .pre in
+    let more = at-other _ _ (pre .1) _ _ (omega arith) (c .before .word2 .ensures) (pre .2) (c .if2 .taken) in
+    omega arith
 
-returns-2 : tie.Need-returns-2 Inv-loop μ-loop
-returns-2 c =
-    let at = c .before in
-    sym (at .loop .inv .1 ∙ rank-end _ _ _ (at .loop .p) (omega arith))
+loop-again-2 : tie.Need-loop-again-2 Inv-loop μ-loop
+loop-again-2 c =
+    let at = c .before .before .before in
+    let pre = at .before .before .before .pre in
+    let less = at-larger _ _ (pre .1) _ _ (omega arith) (c .before .word2 .ensures) (c .if2 .left) in
+    omega arith
 
 pub place-spec : {M : Type 1} → statement M
 place-spec =
@@ -34,12 +42,18 @@ place-spec =
     (tie.spec
     Inv-loop
     μ-loop
-    (λ c. (omega arith, rank-start _ _ _))
+    (λ c κs. omega arith)
+    loop-holds
+    (λ c. omega arith)
     (λ c. omega arith)
     (λ c. omega arith)
     (λ c κs. omega arith)
-    returns
+    (λ c. omega arith)
+    (λ c. omega arith)
+    (λ c. omega arith)
     (λ c. omega arith)
     (λ c. omega arith)
     loop-again
-    returns-2)
+    (λ c. omega arith)
+    loop-again-2
+    (λ c. omega arith))

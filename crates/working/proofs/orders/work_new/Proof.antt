@@ -6,15 +6,15 @@ use Rattle.working.proofs.Changing.{joined}
 use Rattle.working.proofs.orders.work_new.Statement.{statement}
 use Rattle.working.proofs.orders.work_new.Tie as tie
 
-cast-t10 : tie.Need-cast-t10
-cast-t10 c =
+cast-t11 : tie.Need-cast-t11
+cast-t11 c =
     let start = c .before .before in
     cast-fits _ (start .fits .quantity) (told _ (start .pre .held) _ (start .pre .accepted) .2 .0)
 
 insert-order-requires : tie.Need-insert-order-requires
 insert-order-requires c κs =
     let ready = c .before .before .pre in
-    (records _ (ready .held), told _ (ready .held) _ (ready .accepted) .3)
+    (records _ (ready .held), told _ (ready .held) _ (ready .accepted) .3, ready .named)
 
 set-mark-requires : tie.Need-set-mark-requires
 set-mark-requires c κs = let r = room (c .before .before .before .before .before .before .pre) in omega arith
@@ -26,4 +26,4 @@ returns c =
     joined _ _ _ _ _ _ _ _ (start .fits .quantity) (put .insert-order .ensures) (c .before .before .set-mark .ensures)
 
 pub work-new-spec : {M : Type 1} → statement M
-work-new-spec = tie.close (tie.spec cast-t10 insert-order-requires set-mark-requires (λ c. search needs) returns)
+work-new-spec = tie.close (tie.spec cast-t11 insert-order-requires set-mark-requires (λ c. search needs) returns)
