@@ -1,8 +1,9 @@
 pub mod Every
+mod Joining
 pub mod Asked
 pub mod RosterLaws
 pub mod Records
-mod Gathering
+pub mod Gathering
 mod Places
 mod Whole
 pub mod Questions

@@ -1,4 +1,5 @@
 // Question 5: is the lent memory long enough, and does it hold a sound desk?
+pub mod bits;
 pub mod lines;
 pub mod orders;
 pub mod ranges;
@@ -6,15 +7,20 @@ pub mod roster;
 pub mod sums;
 
 ghost use mathlib.Core.Path.{_≡_};
+ghost use mathlib.Core.Bool.{true};
+ghost use Rattle.layout.specs.View.{openOrders};
 ghost use Rattle.soundness.specs.Soundness.{soundDesk};
+ghost use Rattle.soundness.specs.Cells.{Empty, Gathered};
 use layout::table::COUNT;
 use layout::table::KIND;
 use layout::table::MEMORY_BYTES;
 use words::word;
 
-// Does the memory hold a sound desk? One pass over each region.
-pub fn is_sound(m: &[u8]) -> bool
-    ensures { λ r. ⌜ r ≡ soundDesk (now (m .entry)) ⌝ }
+// Question 5, and where it is answered yes, B and V of all accounts and instruments in the cells. One pass over each region.
+pub fn is_sound_with_sums(m: &[u8], cells: &mut [u64; 1057]) -> bool
+    requires { ⌜ Empty (now cells) ⌝ }
+    ensures sound { λ r. ⌜ r ≡ soundDesk (now (m .entry)) ⌝ }
+    ensures cells { λ r. ⌜ (r ≡ true → Gathered (now (cells .exit)) (openOrders (now (m .entry)))) ⌝ }
 {
     if m.len() < MEMORY_BYTES {
         return false;
@@ -31,5 +37,13 @@ pub fn is_sound(m: &[u8]) -> bool
     if !lines::lines_are_sound(m) {
         return false;
     }
-    sums::orders_and_positions(m)
+    sums::orders_and_positions(m, cells)
+}
+
+// Does the memory hold a sound desk?
+pub fn is_sound(m: &[u8]) -> bool
+    ensures { λ r. ⌜ r ≡ soundDesk (now (m .entry)) ⌝ }
+{
+    let mut cells = [0u64; 1057];
+    is_sound_with_sums(m, &mut cells)
 }

@@ -1,13 +1,14 @@
 // The positions that a memory holds: S + B and −S + V of each account and instrument, by the gathered cells.
 ghost use mathlib.Core.Path.{_≡_};
-ghost use mathlib.Core.Bool.{_&&_};
+ghost use mathlib.Core.Bool.{true, _&&_};
 ghost use Prim.Native.Nat.{_≤_};
 ghost use Rattle.words.specs.Words.{wordAt};
 ghost use Rattle.ledger.specs.Roster.{Numbered};
 ghost use Rattle.layout.specs.Layout.{countWord};
 ghost use Rattle.layout.specs.View.{rosterOf, openOrders};
 ghost use Rattle.soundness.specs.Soundness.{ascend, ordersSound, placeSound, accountSound, positionsSound};
-ghost use Rattle.soundness.specs.Cells.{Readable, Gathered};
+ghost use Rattle.soundness.specs.Cells.{Readable, Empty, Gathered};
+use crate::bits::joined_sizes;
 use crate::orders::gather;
 use crate::roster::accounts;
 use crate::roster::instruments;
@@ -28,12 +29,16 @@ fn place_is_sound(m: &[u8], cells: &[u64; 1057], a: usize, i: usize) -> bool
     v - 1000000000 <= s
 }
 
-// Of account `a` and each instrument.
+// Of account `a` and each instrument: all balances at once, and where that does not tell, one by one. A balance of at most 744,000,000
+// either way is sound, whatever the orders: B and V are at most 256,000,000.
 fn account_is_sound(m: &[u8], cells: &[u64; 1057], a: usize) -> bool
     requires { ⌜ Readable (now m) × Gathered (now cells) (openOrders (now m)) × Numbered (rosterOf (now m) .accounts) a ⌝ }
     ensures { λ r. ⌜ r ≡ accountSound (now (m .entry)) a ⌝ }
 {
     let n = instruments(m) as usize;
+    if joined_sizes(m, BALANCES + a * 32 + 1, n) <= 743999999 {
+        return true;
+    }
     for j in 0..n {
         if !place_is_sound(m, cells, a, j + 1) {
             return false;
@@ -56,14 +61,13 @@ fn positions_are_sound(m: &[u8], cells: &[u64; 1057]) -> bool
     true
 }
 
-// The orders in one pass, then the positions in another.
-pub fn orders_and_positions(m: &[u8]) -> bool
-    requires { ⌜ Readable (now m) × (wordAt (now m) countWord ≤ 256) ⌝ }
-    ensures { λ r. ⌜ r ≡ (ascend 0 (openOrders (now (m .entry))) && ordersSound (now (m .entry)) && positionsSound (now (m .entry))) ⌝ }
+// The orders in one pass, which gathers, then the positions in another.
+pub fn orders_and_positions(m: &[u8], cells: &mut [u64; 1057]) -> bool
+    requires { ⌜ Readable (now m) × (wordAt (now m) countWord ≤ 256) × Empty (now cells) ⌝ }
+    ensures { λ r. ⌜ (r ≡ (ascend 0 (openOrders (now (m .entry))) && ordersSound (now (m .entry)) && positionsSound (now (m .entry)))) × (r ≡ true → Gathered (now (cells .exit)) (openOrders (now (m .entry)))) ⌝ }
 {
-    let mut cells = [0u64; 1057];
-    if !gather(m, &mut cells) {
+    if !gather(m, cells) {
         return false;
     }
-    positions_are_sound(m, &cells)
+    positions_are_sound(m, cells)
 }
