@@ -1,11 +1,13 @@
 -- The cells in which B and V of all accounts are gathered, order by order.
-use Prim.Native.Nat.{ℕ, zero, suc, _+_, _*_, _≤_, _<_}
+use Prim.Native.Nat.{ℕ, zero, suc, _+_, _*_, _-_, _≤_, _<_}
 use mathlib.Core.Path.{_≡_, refl, _∙_, sym, ap}
 use mathlib.Core.Logic.{_≢_}
-use mathlib.Core.Bool.{Bool, true, false, _&&_}
+use mathlib.Core.Bool.{Bool, true, false, _&&_, cond}
 use mathlib.Core.List.{List}
 use native.Mathlib.Decide.{ℕ-discrete}
 use native.Mathlib.Omega.{arith}
+use borrow.Author.Tests.{eq-eqb, ne-eqb}
+use lib.Dec.{eqb}
 use lib.ListN.{length, getD, set, replicate, length-set, length-replicate}
 use lib.Seq.{getD-set-same, getD-set-other}
 use lib.IntN.{pos, _+ℤ_, +ℤ-idl}
@@ -17,7 +19,7 @@ use Rattle.ledger.specs.declared.order.Side.the-variants.{Buy, Sell}
 use Rattle.ledger.specs.Orders.{remaining}
 use Rattle.ledger.specs.Roster.{Roster, Numbered}
 use Rattle.ledger.specs.Positions.{sameSide}
-use Rattle.ledger.specs.Records.{orderAt, ordersFrom}
+use Rattle.ledger.specs.Records.{sideOf, orderAt, ordersFrom}
 use Rattle.ledger.specs.Derivatives.{counted}
 use Rattle.positions.proofs.Counting.{counted-other-account, counted-other-instrument, counted-other-side, counted-own, left, counted-more, counted-all}
 use Rattle.layout.specs.Layout.{countWord, ordersWord}
@@ -29,6 +31,19 @@ use Rattle.soundness.proofs.Records.{order-out, remaining-small, checke
 pub cell-inside : (s : Side) (a i : ℕ) → a ≤ 16 → i ≤ 32 → cell s a i < 1057
 cell-inside Buy a i h l = omega arith
 cell-inside Sell a i h l = omega arith
+
+-- the cell of a side by its number
+pub cell-number : (x a i : ℕ) → Numbered 2 x → (x - 1) * 512 + a * 32 + i ≡ cell (sideOf x) a i
+unfolding sideOf
+cell-number x a i h = by (ℕ-discrete x 1)
+  where
+    by : Dec (x ≡ 1) → (x - 1) * 512 + a * 32 + i ≡ cell (cond (eqb x 1) Buy Sell) a i
+    by (yes buy) = rw (eq-eqb x 1 buy) (omega arith)
+    by (no sell) = rw (ne-eqb x 1 sell) (omega (arith, sell))
+
+pub side-read : (s : List ℕ) (p x : ℕ) (o : Order) → o ≡ orderAt s p → x ≡ wordAt s (p * 8 + 3) → o .side ≡ sideOf x
+unfolding orderAt
+side-read s p x o here named = rw (here, named)
 
 same-itself : (s : Side) → sameSide s s ≡ true
 same-itself Buy = refl

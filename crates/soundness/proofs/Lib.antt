@@ -1,4 +1,5 @@
 pub mod Every
+mod Joining
 pub mod Asked
 pub mod RosterLaws
 pub mod Records

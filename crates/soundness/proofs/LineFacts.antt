@@ -1,5 +1,5 @@
 -- The lines' condition as facts, and back: the figures of every line on the roster are in range, and so those that are set.
-use Prim.Native.Nat.{ℕ, _+_, _*_}
+use Prim.Native.Nat.{ℕ, _+_, _*_, _≤_, _<_}
 use mathlib.Core.Path.{_≡_, refl}
 use mathlib.Core.Bool.{Bool, true, false, _&&_, cond}
 use mathlib.Core.List.{List}
@@ -7,6 +7,7 @@ use mathlib.Core.Option.{none, some}
 use native.Mathlib.Omega.{arith}
 use lib.Dec.{leb}
 use borrow.Author.Tests.{leb-true, le-leb}
+use Rattle.words.specs.Words.{wordAt}
 use Rattle.ledger.specs.Roster.{Numbered}
 use Rattle.limits.specs.Lines.{Line, GroupLine}
 use Rattle.limits.proofs.Answers.{both-true}
@@ -49,6 +50,44 @@ group-line-out l e =
 pub group-line-in : (l : GroupLine) → GroupLineFits 1000000000 l → groupLineInRange l ≡ true
 unfolding groupLineInRange
 group-line-in l f = rw (le-leb (l .lcc) 1000000000 (f .lcc)) (le-leb (l .lvc) 1000000000 (f .lvc))
+
+-- ---- the n words from word k on are in range
+abbrev pub Within : List ℕ → ℕ → ℕ → Type 0
+Within m k n = (p : ℕ) → k ≤ p → p < k + n → wordAt m p ≤ 1000000000
+
+-- a row of n lines in `size` such words
+module _ (m : List ℕ) (row n size : ℕ) where
+  row-within : n * 4 ≤ size → Within m (row + 4) size → every n (λ j. lineInRange (lineAt m (row + j * 4))) ≡ true
+  row-within part all =
+      every-in (λ j. lineInRange (lineAt m (row + j * 4))) n (λ j h. line-in (lineAt m (row + j * 4)) (fits j h))
+    where
+      fits : (j : ℕ) → Numbered n j → LineFits 1000000000 (lineAt m (row + j * 4))
+      fits j h =
+          record {
+            tci = all (row + j * 4) (omega arith) (omega arith);
+            tvi = all (row + j * 4 + 1) (omega arith) (omega arith);
+            lci = all (row + j * 4 + 2) (omega arith) (omega arith);
+            lvi = all (row + j * 4 + 3) (omega arith) (omega arith);
+          }
+
+  group-row-within : n * 2 ≤ size → Within m (row + 2) size → every n (λ j. groupLineInRange (groupLineAt m (row + j * 2))) ≡ true
+  group-row-within part all =
+      every-in (λ j. groupLineInRange (groupLineAt m (row + j * 2))) n (λ j h. group-line-in (groupLineAt m (row + j * 2)) (fits j h))
+    where
+      fits : (j : ℕ) → Numbered n j → GroupLineFits 1000000000 (groupLineAt m (row + j * 2))
+      fits j h =
+          record {
+            lcc = all (row + j * 2) (omega arith) (omega arith);
+            lvc = all (row + j * 2 + 1) (omega arith) (omega arith);
+          }
+
+-- the three rows of an account, in x, y and z words
+module _ (m : List ℕ) (a x y z : ℕ) (own : Within m (ownRow a + 4) x) (default : Within m (defaultRow a + 4) y) (group : Within m (groupRow a + 2) z) where
+  pub rows-within : rosterOf m .instruments * 4 ≤ x → rosterOf m .contracts * 4 ≤ y → rosterOf m .groups * 2 ≤ z → accountLinesSound m a ≡ true
+  unfolding accountLinesSound
+  rows-within i c g =
+      let r = rosterOf m in
+      rw (row-within m (ownRow a) (r .instruments) x i own, row-within m (defaultRow a) (r .contracts) y c default) (group-row-within m (groupRow a) (r .groups) z g group)
 
 -- ---- all lines of the roster
 module _ (m : List ℕ) where

@@ -1,28 +1,31 @@
 -- S + B and −S + V of an account and instrument by the gathered cells, as the code asks them of a balance that may be any word.
-use Prim.Native.Nat.{ℕ, _+_, _≤_}
-use mathlib.Core.Path.{_≡_, refl, _∙_}
+use Prim.Native.Nat.{ℕ, _+_, _≤_, _<_}
+use mathlib.Core.Path.{_≡_, refl, sym, _∙_}
 use mathlib.Core.Bool.{true, false}
 use mathlib.Core.List.{List}
 use native.Mathlib.Omega.{arith}
 use lib.ListN.{getD}
-use lib.IntN.{ℤ, pos, negℤ, _+ℤ_, _-ℤ_}
+use lib.IntN.{ℤ, pos, negℤ, natAbs, _+ℤ_, _-ℤ_}
 use lib.Signed.{leZ, ltZ}
 use mir.Syntax.{w64}
 use mir.Val.{SFits, toZ, ofZ}
 use mir.ValLaws.{toZ-pos, toZ-ofZ}
 use Rattle.integers.specs.Magnitude.{sized, magnitude-difference}
-use Rattle.integers.specs.Parts.{signed, sum-parts, difference-parts, negation-parts}
+use Rattle.integers.specs.Parts.{signed, sum-parts, difference-parts, negation-parts, magnitude-parts}
 use Rattle.words.specs.Words.{signedAt}
 use Rattle.ledger.specs.declared.order.Side.the-variants.{Buy, Sell}
 use Rattle.ledger.specs.Roster.{Numbered}
 use Rattle.ledger.specs.Positions.{Way, long, short, toward, sideTo, ofInstrument}
 use Rattle.ledger.specs.Derivatives.{one}
+use Rattle.limits.proofs.Answers.{and-true}
 use Rattle.book.specs.Market.{derivatives}
 use Rattle.layout.specs.Layout.{balanceRow}
+use Rattle.layout.specs.Rosters.{every}
 use Rattle.layout.specs.View.{rosterOf, balancesOf, openOrders}
 use Rattle.soundness.specs.Soundness.{positionSound, placeSound}
 use Rattle.soundness.specs.Cells.{Readable, cell, Gathered}
 use Rattle.soundness.proofs.Asked.{same-test, numbered-between}
+use Rattle.soundness.proofs.Every.{every-in}
 
 -- ---- the machine's numbers: what a cell holds as a signed number, and the two differences
 module _ (x : ℕ) (h : x ≤ 256000000) where
@@ -68,6 +71,11 @@ short-same s v =
     (λ e. omega (signed, difference-parts (pos v) (pos 1000000000), sum-parts (negℤ s) (pos v), negation-parts s))
     (λ e. omega (signed, difference-parts (pos v) (pos 1000000000), sum-parts (negℤ s) (pos v), negation-parts s))
 
+-- beside any s of size 744,000,000 or less
+small-within : (w : Way) (s : ℤ) (x : ℕ) → natAbs s ≤ 744000000 → x ≤ 256000000 → leZ (toward w s +ℤ pos x) (pos 1000000000) ≡ true
+small-within long s x h l = omega (signed, magnitude-parts s, sum-parts s (pos x))
+small-within short s x h l = omega (signed, magnitude-parts s, negation-parts s, sum-parts (negℤ s) (pos x))
+
 module _ (m cells : List ℕ) (a i : ℕ) (readable : Readable m) (gathered : Gathered cells (openOrders m)) (h : Numbered (rosterOf m .accounts) a) (l : Numbered (rosterOf m .instruments) i) where
   position-cell : (w : Way) → positionSound m a i w ≡ leZ (toward w (signedAt m (balanceRow a + i)) +ℤ pos (getD cells (cell (sideTo w) a i) 0)) (pos 1000000000)
   unfolding positionSound ofInstrument
@@ -84,3 +92,16 @@ module _ (m cells : List ℕ) (a i : ℕ) (readable : Readable m) (gathered : Ga
     unfolding placeSound
     place-within e =
         rw (position-cell long, position-cell short, ← read, long-same s (getD cells (cell Buy a i) 0) e) (short-same s (getD cells (cell Sell a i) 0))
+
+  -- where it is small, whatever the cells hold
+  pub place-small : natAbs (signedAt m (balanceRow a + i)) ≤ 744000000 → placeSound m a i ≡ true
+  unfolding placeSound
+  place-small small =
+      let s = signedAt m (balanceRow a + i) in
+      let within : (w : Way) → leZ (toward w s +ℤ pos (getD cells (cell (sideTo w) a i) 0)) (pos 1000000000) ≡ true = λ w. small-within w s (getD cells (cell (sideTo w) a i) 0) small (gathered .small (cell (sideTo w) a i)) in
+      and-true (positionSound m a i long) (positionSound m a i short) (position-cell long ∙ within long) (position-cell short ∙ within short)
+
+-- ---- the row of account a, of which no balance is larger than r and 1
+pub row-small : (m cells : List ℕ) (a n r : ℕ) → Readable m → Gathered cells (openOrders m) → Numbered (rosterOf m .accounts) a → n ≡ rosterOf m .instruments → r ≤ 743999999 → ((p : ℕ) → balanceRow a + 1 ≤ p → p < balanceRow a + 1 + n → natAbs (signedAt m p) ≤ r + 1) → true ≡ every (rosterOf m .instruments) (placeSound m a)
+row-small m cells a n r readable gathered h e small all =
+    sym (every-in (placeSound m a) (rosterOf m .instruments) (λ i l. place-small m cells a i readable gathered h l (omega (arith, all (balanceRow a + i) (omega arith) (omega arith)))))

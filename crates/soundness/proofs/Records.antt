@@ -5,7 +5,7 @@ use mathlib.Core.Bool.{Bool, true, false, _&&_}
 use mathlib.Core.List.{List}
 use native.Mathlib.Omega.{arith}
 use lib.Dec.{leb, ltb}
-use borrow.Author.Tests.{leb-true, le-leb, lt-ltb, le-ltb}
+use borrow.Author.Tests.{leb-true, le-leb, lt-leb, lt-ltb, le-ltb}
 use Rattle.words.specs.Words.{wordAt}
 use Rattle.ledger.specs.declared.order.Order.{Order}
 use Rattle.ledger.specs.Orders.{remaining}
@@ -57,6 +57,16 @@ module _ (r : Roster) (trading : ℕ → Bool) (side : ℕ) (o : Order) where
   pub remaining-small : Fit r trading side o → remaining o ≤ 1000000
   unfolding remaining
   remaining-small f = omega (arith, f .total .1)
+
+-- whether something remains
+module _ (o : Order) where
+  pub nothing-left : o .total ≤ o .filled → leb 1 (remaining o) ≡ false
+  unfolding remaining
+  nothing-left h = lt-leb 1 (remaining o) (omega arith)
+
+  pub something-left : o .filled < o .total → leb 1 (remaining o) ≡ true
+  unfolding remaining
+  something-left h = le-leb 1 (remaining o) (omega arith)
 
 -- ---- the n records of s
 module _ (r : Roster) (trading : ℕ → Bool) (s : List ℕ) (n : ℕ) where

@@ -1,4 +1,5 @@
 // Question 5: is the lent memory long enough, and does it hold a sound desk?
+pub mod bits;
 pub mod lines;
 pub mod orders;
 pub mod ranges;

@@ -1,11 +1,13 @@
 // The lines that a memory holds: is every figure in range, whether its line is set or not?
 ghost use mathlib.Core.Path.{_≡_};
+ghost use mathlib.Core.Bool.{true};
 ghost use Prim.Native.Nat.{_+_, _*_, _≤_};
 ghost use lib.ListN.{length};
 ghost use Rattle.layout.specs.Rosters.{every};
 ghost use Rattle.layout.specs.View.{lineAt, groupLineAt};
 ghost use Rattle.soundness.specs.Soundness.{lineInRange, groupLineInRange, accountLinesSound, linesSound};
 ghost use Rattle.soundness.specs.Cells.{Readable};
+use crate::bits::all_in_range;
 use crate::roster::accounts;
 use crate::roster::contracts;
 use crate::roster::groups;
@@ -71,11 +73,29 @@ fn group_row_in_range(m: &[u8], row: usize, n: usize) -> bool
     true
 }
 
-// The lines of account `a`.
+// Is every figure of account `a` in range, as far as the bits of its rows tell? Whole rows, on the roster or not: the compiler then
+// knows their length.
+fn rows_are_in_range(m: &[u8], a: usize) -> bool
+    requires { ⌜ Readable (now m) × (a ≤ 16) ⌝ }
+    ensures { λ r. ⌜ (r ≡ true → accountLinesSound (now (m .entry)) a ≡ true) ⌝ }
+{
+    if !all_in_range(m, OWN_LINES + a * 128 + 4, 128) {
+        return false;
+    }
+    if !all_in_range(m, DEFAULT_LINES + a * 32 + 4, 32) {
+        return false;
+    }
+    all_in_range(m, GROUP_LINES + a * 8 + 2, 8)
+}
+
+// The lines of account `a`: all at once, and where that does not tell, one by one.
 fn account_lines_are_sound(m: &[u8], a: usize) -> bool
     requires { ⌜ Readable (now m) × (a ≤ 16) ⌝ }
     ensures { λ r. ⌜ r ≡ accountLinesSound (now (m .entry)) a ⌝ }
 {
+    if rows_are_in_range(m, a) {
+        return true;
+    }
     if !row_in_range(m, OWN_LINES + a * 128, instruments(m) as usize) {
         return false;
     }

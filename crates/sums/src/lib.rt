@@ -5,14 +5,14 @@ ghost use lib.Signed.{_≤ℤ_};
 ghost use Rattle.book.specs.declared.Event.the-variants.{Replace, Cancel, Fill};
 ghost use Rattle.book.specs.Books.{newOrder};
 ghost use Rattle.layout.specs.View.{openOrders};
-ghost use Rattle.soundness.specs.Cells.{Sums, cell};
+ghost use Rattle.soundness.specs.Cells.{Sums};
 ghost use Rattle.working.specs.Working.{Ready, worked};
 ghost use Rattle.sums.specs.Shifted.{Shifted};
 use book::Event;
 use layout::orders::load_order;
 use ledger::order::Order;
 use ledger::order::Side;
-use soundness::orders::cell;
+use positions::cell;
 
 // What counts of one order goes from `before` contracts to `after`.
 pub struct Shift {
@@ -134,6 +134,6 @@ pub fn keep(cells: &mut [u64], m: &[u8], e: Event, place: usize)
     let s = shift_of(m, e, place);
     let o = s.order;
     let side = o.side;
-    let j = cell(side, o.account, o.instrument);
+    let j = o.account as usize * 32 + cell(side, o.instrument);
     cells[j] = cells[j] + s.after - s.before;
 }

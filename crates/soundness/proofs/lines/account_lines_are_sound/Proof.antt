@@ -1,5 +1,5 @@
 use Prim.Native.Nat.{_+_, _*_}
-use mathlib.Core.Path.{_≡_, _∙_}
+use mathlib.Core.Path.{_≡_, _∙_, sym}
 use borrow.Author.Needs.{needs}
 use Rattle.layout.specs.Layout.{ownRow, defaultRow, groupRow}
 use Rattle.layout.specs.Rosters.{every}
@@ -10,40 +10,40 @@ use Rattle.soundness.proofs.lines.account_lines_are_sound.Statement.{st
 use Rattle.soundness.proofs.lines.account_lines_are_sound.Tie as tie
 
 -- what each call says of the account's rows
-own : (c : tie.After-row-in-range) → let a = c .before .before .before .args in c .row-in-range .result ≡ every (rosterOf (a .m .now) .instruments) (λ i. lineInRange (lineAt (a .m .now) (ownRow (a .a) + i * 4)))
+own : (c : tie.After-row-in-range) → let a = c .before .before .before .before .before .args in c .row-in-range .result ≡ every (rosterOf (a .m .now) .instruments) (λ i. lineInRange (lineAt (a .m .now) (ownRow (a .a) + i * 4)))
 own c = c .row-in-range .ensures ∙ rw (c .before .instruments .ensures)
 
-default : (c : tie.After-row-in-range2) → let a = c .before .before .before .before .before .before .args in c .row-in-range2 .result ≡ every (rosterOf (a .m .now) .contracts) (λ i. lineInRange (lineAt (a .m .now) (defaultRow (a .a) + i * 4)))
+default : (c : tie.After-row-in-range2) → let a = c .before .before .before .before .before .before .before .before .args in c .row-in-range2 .result ≡ every (rosterOf (a .m .now) .contracts) (λ i. lineInRange (lineAt (a .m .now) (defaultRow (a .a) + i * 4)))
 default c = c .row-in-range2 .ensures ∙ rw (c .before .contracts .ensures)
 
-of-group : (c : tie.After-group-row-in-range) → let a = c .before .before .before .before .before .before .before .before .before .args in c .group-row-in-range .result ≡ every (rosterOf (a .m .now) .groups) (λ i. groupLineInRange (groupLineAt (a .m .now) (groupRow (a .a) + i * 2)))
+of-group : (c : tie.After-group-row-in-range) → let a = c .before .before .before .before .before .before .before .before .before .before .before .args in c .group-row-in-range .result ≡ every (rosterOf (a .m .now) .groups) (λ i. groupLineInRange (groupLineAt (a .m .now) (groupRow (a .a) + i * 2)))
 of-group c = c .group-row-in-range .ensures ∙ rw (c .before .groups .ensures)
 
 returns : tie.Need-returns
-unfolding accountLinesSound
-returns c = rw (said-no _ _ (own (c .before)) (c .if1 .taken))
+returns c = sym (c .before .rows-are-in-range .ensures (c .if1 .taken))
 
 returns-2 : tie.Need-returns-2
 unfolding accountLinesSound
-returns-2 c =
-    let one = c .before .before .before in
-    rw (said-yes _ _ (own (one .before)) (one .if1 .left), said-no _ _ (default (c .before)) (c .if2 .taken))
+returns-2 c = rw (said-no _ _ (own (c .before)) (c .if2 .taken))
 
 returns-3 : tie.Need-returns-3
 unfolding accountLinesSound
 returns-3 c =
+    let one = c .before .before .before in
+    rw (said-yes _ _ (own (one .before)) (one .if2 .left), said-no _ _ (default (c .before)) (c .if3 .taken))
+
+returns-4 : tie.Need-returns-4
+unfolding accountLinesSound
+returns-4 c =
     let two = c .before .before in
     let one = two .before .before .before in
     of-group c
-    ∙ rw (said-yes _ _ (own (one .before)) (one .if1 .left), said-yes _ _ (default (two .before)) (two .if2 .left))
+    ∙ rw (said-yes _ _ (own (one .before)) (one .if2 .left), said-yes _ _ (default (two .before)) (two .if3 .left))
 
 pub account-lines-are-sound-spec : {M : Type 1} → statement M
 account-lines-are-sound-spec =
     tie.close
     (tie.spec
-    (λ c. search needs)
-    (λ c. search needs)
-    (λ c κs. search needs)
     (λ c κs. search needs)
     returns
     (λ c. search needs)
@@ -55,4 +55,9 @@ account-lines-are-sound-spec =
     (λ c. search needs)
     (λ c κs. search needs)
     (λ c κs. search needs)
-    returns-3)
+    returns-3
+    (λ c. search needs)
+    (λ c. search needs)
+    (λ c κs. search needs)
+    (λ c κs. search needs)
+    returns-4)

@@ -1,32 +1,42 @@
 use Prim.Native.Nat.{_<_}
+use mathlib.Core.Path.{_≡_, _∙_, sym}
 use native.Mathlib.Omega.{arith}
 use borrow.Author.Needs.{needs}
+use Rattle.ledger.specs.Orders.{remaining}
 use Rattle.soundness.specs.Cells.{cell, added}
 use Rattle.soundness.proofs.Gathering.{cell-inside}
 use Rattle.soundness.proofs.orders.add_to.Statement.{statement}
 use Rattle.soundness.proofs.orders.add_to.Tie as tie
 
-inside : (c : tie.After-remaining) → c .before .cell .result < 1057
+own : (c : tie.After-cell) → let o = c .before .args .o in c .cell .result ≡ cell (o .side) (o .account) (o .instrument)
+own c = c .cell .ensures ∙ rw (c .before .pre .2)
+
+inside : (c : tie.After-struct-known) → c .before .cell .result < 1057
 inside c =
     let s = c .before .before in
-    rw (c .before .cell .ensures) (cell-inside (s .args .o .side) (s .args .o .account) (s .args .o .instrument) (s .pre .1) (s .pre .2))
+    let o = s .args .o in
+    rw (own (c .before)) (cell-inside (o .side) (o .account) (o .instrument) (s .pre .3) (s .pre .4))
+
+sub-cells : tie.Need-sub-cells
+unfolding remaining
+sub-cells c = omega (arith, c .before .before .pre .5)
 
 add-cells : tie.Need-add-cells
+unfolding remaining
 add-cells c =
     let s = c .before .before .before in
-    let j = c .before .before .cell .result in
-    omega (arith, s .pre .4 j, s .pre .3, c .before .remaining .ensures)
+    omega (arith, s .pre .7 (c .before .before .cell .result), s .pre .6)
 
 returns : tie.Need-returns
-unfolding added
-returns c = rw (c .before .before .cell .ensures, c .before .remaining .ensures)
+unfolding added remaining
+returns c = rw (own (c .before .before))
 
 pub add-to-spec : {M : Type 1} → statement M
 add-to-spec =
     tie.close
     (tie.spec
     (λ c κs. search needs)
-    (λ c κs. search needs)
+    sub-cells
     (λ c. omega (arith, inside c))
     (λ c. inside c)
     add-cells

@@ -9,7 +9,7 @@ use Rattle.layout.specs.View.{rosterOf, tradingOf}
 use Rattle.soundness.specs.Soundness.{orderSound}
 use Rattle.soundness.proofs.Asked.{said-no, said-yes}
 use Rattle.soundness.proofs.Records.{order-out, remaining-small}
-use Rattle.soundness.proofs.Gathering.{Passed, passed-none, passed-all, passed-id, passed-order, passed-more, of-memory, gathered-memory, records-long}
+use Rattle.soundness.proofs.Gathering.{side-read, Passed, passed-none, passed-all, passed-id, passed-order, passed-more, of-memory, gathered-memory, records-long}
 use Rattle.soundness.proofs.orders.gather.Statement.{statement}
 use Rattle.soundness.proofs.orders.gather.Tie as tie
 
@@ -47,11 +47,13 @@ returns-2 c =
 
 add-to-requires : tie.Need-add-to-requires Inv-loop μ-loop
 add-to-requires c κs =
-    let at = c .before .before .before .before .before .before .before .before in
+    let word = c .before .before .before in
+    let load = word .before .before .before in
+    let at = load .before .before in
     let s = at .before .before .before .before in
     let past = at .loop .inv .2 in
     let fit = order-out _ _ _ _ (sound (c .before)) in
-    (past .size, omega (arith, fit .account .1, s .pre .0 .accounts), omega (arith, fit .instrument .1, s .pre .0 .instruments), remaining-small _ _ _ _ fit, λ j. omega (arith, past .small j, at .loop .inv .0, s .pre .1, past .upto))
+    (past .size, fit .side-named, side-read _ (at .loop .p) _ _ (load .load .ensures) (word .word2 .ensures), omega (arith, fit .account .1, s .pre .0 .accounts), omega (arith, fit .instrument .1, s .pre .0 .instruments), fit .remains, remaining-small _ _ _ _ fit, λ j. omega (arith, past .small j, at .loop .inv .0, s .pre .1, past .upto))
 
 loop-again : tie.Need-loop-again Inv-loop μ-loop
 loop-again c =

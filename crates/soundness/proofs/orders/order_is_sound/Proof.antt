@@ -1,16 +1,15 @@
 use Prim.Native.Nat.{_≤_}
 use mathlib.Core.Path.{_≡_, _∙_}
-use mathlib.Core.Bool.{true, false}
+use mathlib.Core.Bool.{true}
 use native.Mathlib.Omega.{arith}
 use borrow.Author.Needs.{needs}
-use borrow.Author.Tests.{le-leb, lt-leb}
-use lib.Dec.{leb}
-use Rattle.ledger.specs.Orders.{remaining}
 use Rattle.book.specs.Decoding.{between}
 use Rattle.book.proofs.Tables.{between-numbered}
 use Rattle.layout.specs.View.{rosterOf, tradingOf}
 use Rattle.soundness.specs.Soundness.{orderSound}
-use Rattle.soundness.proofs.Asked.{said-no, said-yes}
+use Rattle.soundness.proofs.Asked.{said-no, said-yes, numbered-between, above-range}
+use Rattle.soundness.proofs.Every.{and-false}
+use Rattle.soundness.proofs.Records.{nothing-left, something-left}
 use Rattle.soundness.proofs.orders.order_is_sound.Statement.{statement}
 use Rattle.soundness.proofs.orders.order_is_sound.Tie as tie
 
@@ -57,18 +56,16 @@ returns-4 c =
     let three = c .before .before in
     let two = three .before .before in
     let one = two .before .before .before in
-    rw (on-roster one, listed two, said-yes _ _ (three .before .between3 .ensures) (three .if3 .left), said-no _ _ (c .before .between4 .ensures) (c .if4 .taken))
+    rw (on-roster one, listed two, said-yes _ _ (three .before .between3 .ensures) (three .if3 .left), above-range 1 1000000 (one .before .before .before .before .args .o .total) (omega (arith, c .if4 .taken)))
 
 returns-5 : tie.Need-returns-5
 unfolding orderSound
 returns-5 c =
-    let four = c .before .before in
-    let three = four .before .before in
+    let three = c .before .before .before .before in
     let two = three .before .before in
     let one = two .before .before .before in
     let o = one .before .before .before .before .args .o in
-    let none : leb 1 (remaining o) ≡ false = lt-leb 1 (remaining o) (omega (arith, c .before .remaining .ensures)) in
-    rw (on-roster one, listed two, said-yes _ _ (three .before .between3 .ensures) (three .if3 .left), said-yes _ _ (four .before .between4 .ensures) (four .if4 .left), none)
+    rw (on-roster one, listed two, said-yes _ _ (three .before .between3 .ensures) (three .if3 .left), nothing-left o (omega (arith, c .if5 .taken)), and-false (between 1 1000000 (o .total)))
 
 returns-6 : tie.Need-returns-6
 unfolding orderSound tradingOf
@@ -79,8 +76,7 @@ returns-6 c =
     let two = three .before .before in
     let one = two .before .before .before in
     let o = one .before .before .before .before .args .o in
-    let some : leb 1 (remaining o) ≡ true = le-leb 1 (remaining o) (omega (arith, five .before .remaining .ensures)) in
-    rw (on-roster one, listed two, said-yes _ _ (three .before .between3 .ensures) (three .if3 .left), said-yes _ _ (four .before .between4 .ensures) (four .if4 .left), some, c .word .ensures)
+    rw (on-roster one, listed two, said-yes _ _ (three .before .between3 .ensures) (three .if3 .left), numbered-between 1000000 (o .total) (omega (arith, five .if5 .left), omega (arith, four .if4 .left)), something-left o (omega (arith, five .if5 .left)), c .word .ensures)
 
 pub order-is-sound-spec : {M : Type 1} → statement M
 order-is-sound-spec =
@@ -94,9 +90,7 @@ order-is-sound-spec =
     returns-2
     (λ c κs. search needs)
     returns-3
-    (λ c κs. search needs)
     returns-4
-    (λ c κs. search needs)
     returns-5
     (λ c. omega (arith, numbered c))
     (λ c κs. omega (arith, numbered c))

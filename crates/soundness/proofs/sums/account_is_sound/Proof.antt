@@ -3,10 +3,12 @@ use mathlib.Core.Path.{_≡_}
 use mathlib.Core.Bool.{true}
 use native.Mathlib.Omega.{arith}
 use borrow.Author.Needs.{needs}
+use lib.ListN.{length}
 use Rattle.layout.specs.Rosters.{every}
 use Rattle.layout.specs.View.{rosterOf}
 use Rattle.soundness.specs.Soundness.{placeSound, accountSound}
 use Rattle.soundness.proofs.Every.{every-none, every-no, every-on, every-all}
+use Rattle.soundness.proofs.Places.{row-small}
 use Rattle.soundness.proofs.sums.account_is_sound.Statement.{statement}
 use Rattle.soundness.proofs.sums.account_is_sound.Tie as tie
 
@@ -16,25 +18,38 @@ Inv-loop m cells a n j₀ j = (n ≡ rosterOf m .instruments) × (j ≤ n) × (e
 abbrev μ-loop : tie.MeasureT-loop
 μ-loop m cells a n j₀ j = n - j
 
+-- the row of balances is there
+inside : (c : tie.After-instruments Inv-loop μ-loop) → let s = c .before .before in (s .args .a ≤ 16) × (c .instruments .result ≤ 32) × (65536 ≤ length (s .args .m .now))
+inside c =
+    let s = c .before .before in
+    (omega (arith, s .pre .2, s .pre .0 .accounts), omega (arith, c .instruments .ensures, s .pre .0 .instruments), s .pre .0 .long)
+
 place-is-sound-requires : tie.Need-place-is-sound-requires Inv-loop μ-loop
 place-is-sound-requires c κs =
-    let s = c .before .before .before .before in
+    let s = c .before .before .before .before .before .before in
     (s .pre .0, s .pre .1, s .pre .2, (omega arith, omega arith))
 
 returns : tie.Need-returns Inv-loop μ-loop
 unfolding accountSound
 returns c =
+    let at = c .before .before in
+    let s = at .before .before in
+    row-small _ _ _ (at .instruments .result) (c .before .joined-sizes .result) (s .pre .0) (s .pre .1) (s .pre .2) (at .instruments .ensures) (omega (arith, c .if1 .taken)) (c .before .joined-sizes .ensures)
+
+returns-2 : tie.Need-returns-2 Inv-loop μ-loop
+unfolding accountSound
+returns-2 c =
     let at = c .before .before .before in
-    every-no _ _ (at .loop .j) _ (omega arith) (c .before .place-is-sound .ensures) (c .if1 .taken)
+    every-no _ _ (at .loop .j) _ (omega arith) (c .before .place-is-sound .ensures) (c .if2 .taken)
 
 loop-again : tie.Need-loop-again Inv-loop μ-loop
 loop-again c =
     let at = c .before .before .before in
-    (at .loop .inv .0, omega arith, every-on _ (at .loop .j) _ (at .loop .inv .2) (c .before .place-is-sound .ensures) (c .if1 .left))
+    (at .loop .inv .0, omega arith, every-on _ (at .loop .j) _ (at .loop .inv .2) (c .before .place-is-sound .ensures) (c .if2 .left))
 
-returns-2 : tie.Need-returns-2 Inv-loop μ-loop
+returns-3 : tie.Need-returns-3 Inv-loop μ-loop
 unfolding accountSound
-returns-2 c = every-all _ _ (c .before .loop .j) (omega arith) (omega arith) (c .before .loop .inv .2)
+returns-3 c = every-all _ _ (c .before .loop .j) (omega arith) (omega arith) (c .before .loop .inv .2)
 
 pub account-is-sound-spec : {M : Type 1} → statement M
 account-is-sound-spec =
@@ -43,11 +58,16 @@ account-is-sound-spec =
     Inv-loop
     μ-loop
     (λ c κs. search needs)
-    (λ c. (c .instruments .ensures, omega arith, every-none _))
+    (λ c. omega (arith, inside c))
+    (λ c. omega (arith, inside c))
+    (λ c. omega (arith, inside c))
+    (λ c κs. omega (arith, inside c))
+    returns
+    (λ c. (c .before .before .instruments .ensures, omega arith, every-none _))
     (λ c. omega arith)
     place-is-sound-requires
-    returns
+    returns-2
     (λ c. omega arith)
     (λ c. omega arith)
     loop-again
-    returns-2)
+    returns-3)
