@@ -82,24 +82,31 @@ fn move_record(m: &mut [u8], from: usize, to: usize)
     put_record(m, to, id, account, instrument, side, total, filled);
 }
 
-// The place of the first open order with a larger id, else behind the last: a search by halves.
+// The place of the first open order with a larger id, else behind the last: the search goes sixteen records at a step, then one
+// by one.
 pub fn place(m: &[u8], id: u64) -> usize
     requires { ⌜ (memoryBytes ≤ length (now m)) × (wordAt (now m) countWord ≤ 256) × Ascending 0 (openOrders (now m)) ⌝ }
     ensures { λ r. ⌜ r ≡ rank id (openOrders (now (m .entry))) ⌝ }
 {
-    let mut p = 0;
-    let mut left = word(m, COUNT) as usize;
+    let n = word(m, COUNT) as usize;
+    let mut q = 0;
+    let mut p = loop {
+        if n < q + 16 {
+            break q;
+        }
+        if id < word(m, ORDERS + (q + 15) * 8) {
+            break q;
+        }
+        q += 16;
+    };
     loop {
-        if left == 0 {
+        if p == n {
             break p;
         }
-        let half = left / 2;
-        if word(m, ORDERS + (p + half) * 8) <= id {
-            p += half + 1;
-            left -= half + 1;
-        } else {
-            left = half;
+        if id < word(m, ORDERS + p * 8) {
+            break p;
         }
+        p += 1;
     }
 }
 
