@@ -23,7 +23,7 @@ extern "C" {
  * (8 each); little-endian. */
 #define DESK_EVENT 48
 
-/* The answers: 0, or the number of the first question that is answered no. */
+/* The answers: 0, or the number of the first question that is answered no; behind it document 01's own term, where it has one. */
 enum desk_answer {
     DESK_ACCEPTED = 0,
     /* an opening */
@@ -34,17 +34,17 @@ enum desk_answer {
     /* an event; the readers answer 5, 7 and 8 */
     DESK_NO_SOUND_DESK = 5,
     DESK_NO_EVENT = 6,
-    DESK_UNKNOWN_ACCOUNT = 7,
-    DESK_UNKNOWN_ITEM = 8,
-    DESK_FIGURE_OUT_OF_RANGE = 9,
+    DESK_UNKNOWN_ACCOUNT = 7, /* UNKNOWN MARKET PARTICIPANT */
+    DESK_UNKNOWN_ITEM = 8, /* UNKNOWN INSTRUMENT */
+    DESK_FIGURE_OUT_OF_RANGE = 9, /* INVALID QUANTITY */
     DESK_ALREADY_TRADING = 10,
-    DESK_ORDER_NOT_FOUND = 11,
+    DESK_ORDER_NOT_FOUND = 11, /* ORDER NOT FOUND */
     DESK_QUANTITY_OUT_OF_RANGE = 12,
-    DESK_DUPLICATE_ORDER = 13,
+    DESK_DUPLICATE_ORDER = 13, /* DUPLICATE ORDER */
     DESK_ACCOUNT_BLOCKED = 14,
     DESK_INSTRUMENT_BLOCKED = 15,
     DESK_GROUP_BLOCKED = 16,
-    DESK_NO_LIMITS_CONFIGURED = 17,
+    DESK_NO_LIMITS_CONFIGURED = 17, /* NO LIMITS CONFIGURED */
     DESK_NO_PLACE_FREE = 18,
     DESK_BUY_TOO_LARGE = 19,
     DESK_SELL_TOO_LARGE = 20,

@@ -128,7 +128,7 @@ demand-2 =
 
 -- ---- demand 3
 pub demand-3 : Demand3
-demand-3 m s bytes are zero =
+demand-3 m s bytes zero =
     let r = rosterFrom s in
     let start = afterOpening m s in
     let shown = shown-opened m s bytes zero in

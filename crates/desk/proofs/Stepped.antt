@@ -20,7 +20,7 @@ use Rattle.layout.specs.Judged.{judged}
 use Rattle.soundness.specs.Soundness.{soundDesk}
 use Rattle.soundness.proofs.SoundDesk.{sound-out}
 use Rattle.working.specs.Working.{worked, moved}
-use Rattle.desk.specs.Step.{eventQuestions, answerTo, after, stepped, movedBy}
+use Rattle.desk.specs.Step.{eventQuestions, answerTo, after, stepped, movedIn}
 use Rattle.desk.proofs.Gate.{answer-held, after-refused}
 
 -- ---- a judged event, with answer a
@@ -34,8 +34,8 @@ module _ (m : List ℕ) (e : Event) (a : Answer) (told : numberOf a ≡ judged m
   unfolding stepped
   stepped-worked accepts = rw (eq-eqb (judged m e) 0 (is-zero accepts))
 
-  pub moves : a ≡ Accepted → (s : Side) → moved m e s ≡ movedBy m e s
-  unfolding movedBy
+  pub moves : a ≡ Accepted → (s : Side) → moved m e s ≡ movedIn m e s
+  unfolding movedIn
   moves accepts s = rw (eq-eqb (judged m e) 0 (is-zero accepts))
 
   -- or refused
@@ -47,8 +47,8 @@ module _ (m : List ℕ) (e : Event) (a : Answer) (told : numberOf a ≡ judged m
     unfolding stepped
     stepped-same = rw (ne-eqb (judged m e) 0 not-accepted)
 
-    pub moves-nothing : (s : Side) → 0 ≡ movedBy m e s
-    unfolding movedBy
+    pub moves-nothing : (s : Side) → 0 ≡ movedIn m e s
+    unfolding movedIn
     moves-nothing s = rw (ne-eqb (judged m e) 0 not-accepted)
 
 -- ---- the event entry point

@@ -119,4 +119,4 @@ pub record Demand3From (m s : List ℕ) : Type 0 where
   pub never-5 : (events : List RawEvent) (e : RawEvent) → answerTo (memoryAfter gate (afterOpening m s) events) (e .bytes) ≢ 5
 
 abbrev pub Demand3 : Type 0
-Demand3 = (m s : List ℕ) → Bytes m → Bytes s → openingAnswer m s ≡ 0 → Demand3From m s
+Demand3 = (m s : List ℕ) → Bytes m → openingAnswer m s ≡ 0 → Demand3From m s

@@ -30,5 +30,5 @@ after m e = cond (eqb (answerTo m e) 0) (worked m (decode e)) m
 unfoldable pub stepped : List ℕ → Event → List ℕ
 stepped m e = cond (eqb (judged m e) 0) (worked m e) m
 
-unfoldable pub movedBy : List ℕ → Event → Side → ℕ
-movedBy m e s = cond (eqb (judged m e) 0) (moved m e s) 0
+unfoldable pub movedIn : List ℕ → Event → Side → ℕ
+movedIn m e s = cond (eqb (judged m e) 0) (moved m e s) 0

@@ -6,7 +6,7 @@ ghost use Rattle.layout.specs.View.{openOrders};
 ghost use Rattle.layout.specs.Judged.{judged};
 ghost use Rattle.soundness.specs.Cells.{Sums};
 ghost use Rattle.soundness.specs.Held.{Held};
-ghost use Rattle.desk.specs.Step.{stepped, movedBy};
+ghost use Rattle.desk.specs.Step.{stepped, movedIn};
 use book::Answer;
 use book::Event;
 use judging::judge;
@@ -26,7 +26,7 @@ pub fn step(m: &mut [u8], cells: &mut [u64], e: Event) -> Outcome
     requires { ⌜ Held (now m) × Sums (now cells) (openOrders (now m)) ⌝ }
     ensures answer { λ r. ⌜ numberOf (r .answer) ≡ judged (now (m .entry)) e ⌝ }
     ensures memory { λ r. ⌜ now (m .exit) ≡ stepped (now (m .entry)) e ⌝ }
-    ensures moved { λ r. ⌜ (r .moved .bought ≡ movedBy (now (m .entry)) e Buy) × (r .moved .sold ≡ movedBy (now (m .entry)) e Sell) ⌝ }
+    ensures moved { λ r. ⌜ (r .moved .bought ≡ movedIn (now (m .entry)) e Buy) × (r .moved .sold ≡ movedIn (now (m .entry)) e Sell) ⌝ }
     ensures sums { λ r. ⌜ Sums (now (cells .exit)) (openOrders (now (m .exit))) ⌝ }
 {
     let verdict = judge(m, cells, e);
