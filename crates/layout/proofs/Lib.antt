@@ -17,4 +17,3 @@ pub mod ViewLines
 pub mod ViewLimits
 pub mod ViewOrders
 pub mod Regions
-pub mod Sides

@@ -7,24 +7,23 @@ use lib.Dec.{ltb}
 use lib.ListN.{length}
 use Rattle.words.specs.Words.{wordAt, putWord, putWords, partOf}
 use Rattle.ledger.specs.declared.order.Order.{Order}
-use Rattle.ledger.specs.Records.{sideOf, numberOf, orderAt, ordersFrom}
+use Rattle.ledger.specs.Records.{packed, Packable, orderAt, ordersFrom}
 use Rattle.layout.specs.Layout.{countWord, ordersWord}
 
 -- the first word of record p
 abbrev pub orderWord : ℕ → ℕ
-orderWord p = ordersWord + p * 8
+orderWord p = ordersWord + p * 4
 
 -- the order in record p, and those in the n records from record p on
 abbrev pub orderIn : List ℕ → ℕ → Order
-orderIn m p = orderAt (partOf m ordersWord 2048) p
+orderIn m p = orderAt (partOf m ordersWord 1024) p
 
 abbrev pub ordersIn : List ℕ → ℕ → ℕ → List Order
-ordersIn m p n = ordersFrom (partOf m ordersWord 2048) p n
+ordersIn m p n = ordersFrom (partOf m ordersWord 1024) p n
 
--- the words of a record: the two spare ones behind them are left alone
+-- the words of a record
 unfoldable pub fields : Order → List ℕ
-fields o =
-    o .id ∷ o .account ∷ o .instrument ∷ numberOf (o .side) ∷ o .total ∷ o .filled ∷ []
+fields o = o .id ∷ packed (o .side) (o .account) (o .instrument) ∷ o .total ∷ o .filled ∷ []
 
 unfoldable pub putOrder : List ℕ → ℕ → Order → List ℕ
 putOrder m p o = putWords m (orderWord p) (fields o)
@@ -38,11 +37,10 @@ putOrders m p (o ∷ os) = putOrders (putOrder m p o) (p + 1) os
 unfoldable pub storeOrders : List ℕ → List Order → List ℕ
 storeOrders m os = putWord (putOrders m 0 os) countWord (length os)
 
--- every figure is a word's
+-- a record can hold it
 pub record SmallOrder (o : Order) : Type 0 where
   pub id : o .id < 2 ^ 64
-  pub account : o .account < 2 ^ 64
-  pub instrument : o .instrument < 2 ^ 64
+  pub packable : Packable (o .account) (o .instrument)
   pub total : o .total < 2 ^ 64
   pub filled : o .filled < 2 ^ 64
 
@@ -50,15 +48,10 @@ abbrev pub SmallOrders : List Order → Type 0
 SmallOrders [] = Unit
 SmallOrders (o ∷ os) = SmallOrder o × SmallOrders os
 
--- the side in record p is 1 or 2
-abbrev pub Sided : List ℕ → ℕ → Type 0
-Sided m p = numberOf (sideOf (wordAt m (orderWord p + 3))) ≡ wordAt m (orderWord p + 3)
-
--- the records of a memory that is long enough: at most 256, each with a side of 1 or 2
+-- a memory that is long enough, with at most 256 records
 pub record Records (m : List ℕ) : Type 0 where
   pub long : 65536 ≤ length m
   pub count : wordAt m countWord ≤ 256
-  pub sides : (p : ℕ) → p < wordAt m countWord → Sided m p
 
 -- the place of the first order with a larger id, else behind the last
 unfoldable pub rank : ℕ → List Order → ℕ

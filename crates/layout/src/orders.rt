@@ -1,85 +1,45 @@
-// The order records of a desk: eight words each, ascending by id, and their count.
+// The order records of a desk: four words each, ascending by id, and their count.
 ghost use mathlib.Core.Path.{_≡_};
-ghost use mathlib.Core.List.{[], _∷_};
-ghost use Prim.Native.Nat.{_+_, _*_, _-_, _≤_, _<_};
+ghost use mathlib.Core.List.{_∷_};
+ghost use Prim.Native.Nat.{_+_, _-_, _≤_, _<_};
 ghost use lib.ListN.{length, set};
-ghost use Rattle.words.specs.Words.{wordAt, putWords};
+ghost use Rattle.words.specs.Words.{wordAt};
+ghost use Rattle.ledger.specs.Records.{Packable};
 ghost use Rattle.book.specs.OpenOrders.{insert};
 ghost use Rattle.book.specs.Sound.{Ascending};
 ghost use Rattle.layout.specs.Layout.{memoryBytes, countWord};
 ghost use Rattle.layout.specs.View.{openOrders};
-ghost use Rattle.layout.specs.Stores.{orderWord, orderIn, ordersIn, putOrder, putOrders, storeOrders, Sided, Records, rank, without};
+ghost use Rattle.layout.specs.Stores.{orderIn, ordersIn, putOrder, putOrders, storeOrders, Records, rank, without};
 use crate::table::COUNT;
 use crate::table::ORDERS;
 use ledger::order::Order;
 use ledger::records::load;
-use ledger::records::number_of;
+use ledger::records::pack;
 use words::part;
 use words::set_word;
 use words::word;
+use words::words_down;
+use words::words_up;
 
 // The order in record `p`.
 pub fn load_order(m: &[u8], p: usize) -> Order
     requires { ⌜ (memoryBytes ≤ length (now m)) × (p < 256) ⌝ }
     ensures { λ r. ⌜ r ≡ orderIn (now (m .entry)) p ⌝ }
 {
-    load(part(m, ORDERS, 2048), p)
-}
-
-// Stores the words of record `p`. Its two spare words are left alone.
-fn put_record(
-    m: &mut [u8],
-    p: usize,
-    id: u64,
-    account: u64,
-    instrument: u64,
-    side: u64,
-    total: u64,
-    filled: u64,
-)
-    requires { ⌜ (memoryBytes ≤ length (now m)) × (p < 256) ⌝ }
-    ensures { λ r. ⌜ now (m .exit) ≡ putWords (now (m .entry)) (orderWord p) (id ∷ account ∷ instrument ∷ side ∷ total ∷ filled ∷ []) ⌝ }
-{
-    let k = ORDERS + p * 8;
-    set_word(m, k, id);
-    set_word(m, k + 1, account);
-    set_word(m, k + 2, instrument);
-    set_word(m, k + 3, side);
-    set_word(m, k + 4, total);
-    set_word(m, k + 5, filled);
+    load(part(m, ORDERS, 1024), p)
 }
 
 // Makes `o` the order in record `p`.
 pub fn put_order(m: &mut [u8], p: usize, o: Order)
-    requires { ⌜ (memoryBytes ≤ length (now m)) × (p < 256) ⌝ }
+    requires { ⌜ (memoryBytes ≤ length (now m)) × (p < 256) × Packable (o .account) (o .instrument) ⌝ }
     ensures { λ r. ⌜ now (m .exit) ≡ putOrder (now (m .entry)) p o ⌝ }
 {
+    let k = ORDERS + p * 4;
     let side = o.side;
-    put_record(
-        m,
-        p,
-        o.id,
-        o.account,
-        o.instrument,
-        number_of(side),
-        o.total,
-        o.filled,
-    );
-}
-
-// Copies the order in record `from` to record `to`, word for word.
-fn move_record(m: &mut [u8], from: usize, to: usize)
-    requires { ⌜ (memoryBytes ≤ length (now m)) × (from < 256) × (to < 256) × Sided (now m) from ⌝ }
-    ensures { λ r. ⌜ now (m .exit) ≡ putOrder (now (m .entry)) to (orderIn (now (m .entry)) from) ⌝ }
-{
-    let k = ORDERS + from * 8;
-    let id = word(m, k);
-    let account = word(m, k + 1);
-    let instrument = word(m, k + 2);
-    let side = word(m, k + 3);
-    let total = word(m, k + 4);
-    let filled = word(m, k + 5);
-    put_record(m, to, id, account, instrument, side, total, filled);
+    set_word(m, k, o.id);
+    set_word(m, k + 1, pack(side, o.account, o.instrument));
+    set_word(m, k + 2, o.total);
+    set_word(m, k + 3, o.filled);
 }
 
 // The place of the first open order with a larger id, else behind the last: the search goes sixteen records at a step, then one
@@ -94,7 +54,7 @@ pub fn place(m: &[u8], id: u64) -> usize
         if n < q + 16 {
             break q;
         }
-        if id < word(m, ORDERS + (q + 15) * 8) {
+        if id < word(m, ORDERS + (q + 15) * 4) {
             break q;
         }
         q += 16;
@@ -103,23 +63,19 @@ pub fn place(m: &[u8], id: u64) -> usize
         if p == n {
             break p;
         }
-        if id < word(m, ORDERS + p * 8) {
+        if id < word(m, ORDERS + p * 4) {
             break p;
         }
         p += 1;
     }
 }
 
-// Moves the orders from place `p` to `n` one place up, the last one first, and puts `o` at place `p`.
+// Moves the orders from place `p` to `n` one place up, and puts `o` at place `p`.
 fn open_up(m: &mut [u8], p: usize, n: usize, o: Order)
-    requires { ⌜ Records (now m) × (n ≡ wordAt (now m) countWord) × (p ≤ n) × (n < 256) ⌝ }
+    requires { ⌜ Records (now m) × (n ≡ wordAt (now m) countWord) × (p ≤ n) × (n < 256) × Packable (o .account) (o .instrument) ⌝ }
     ensures { λ r. ⌜ now (m .exit) ≡ putOrders (now (m .entry)) p (o ∷ ordersIn (now (m .entry)) p (n - p)) ⌝ }
 {
-    let mut i = n;
-    while p < i {
-        move_record(m, i - 1, i);
-        i -= 1;
-    }
+    words_up(m, ORDERS + p * 4, 4, (n - p) * 4);
     put_order(m, p, o);
 }
 
@@ -128,14 +84,12 @@ fn close_up(m: &mut [u8], p: usize, n: usize)
     requires { ⌜ Records (now m) × (n ≡ wordAt (now m) countWord) × (p < n) ⌝ }
     ensures { λ r. ⌜ now (m .exit) ≡ putOrders (now (m .entry)) p (ordersIn (now (m .entry)) (p + 1) (n - (p + 1))) ⌝ }
 {
-    for i in p + 1..n {
-        move_record(m, i, i - 1);
-    }
+    words_down(m, ORDERS + p * 4, 4, (n - (p + 1)) * 4);
 }
 
 // The order `o` joins at place `p`, before the first larger id.
 pub fn insert_order(m: &mut [u8], p: usize, o: Order)
-    requires { ⌜ Records (now m) × (wordAt (now m) countWord < 256) × (p ≡ rank (o .id) (openOrders (now m))) ⌝ }
+    requires { ⌜ Records (now m) × (wordAt (now m) countWord < 256) × (p ≡ rank (o .id) (openOrders (now m))) × Packable (o .account) (o .instrument) ⌝ }
     ensures { λ r. ⌜ now (m .exit) ≡ storeOrders (now (m .entry)) (insert o (openOrders (now (m .entry)))) ⌝ }
 {
     let n = word(m, COUNT) as usize;
@@ -155,7 +109,7 @@ pub fn remove_order(m: &mut [u8], p: usize)
 
 // The order at place `p` becomes `o`.
 pub fn replace_order(m: &mut [u8], p: usize, o: Order)
-    requires { ⌜ Records (now m) × (p < wordAt (now m) countWord) ⌝ }
+    requires { ⌜ Records (now m) × (p < wordAt (now m) countWord) × Packable (o .account) (o .instrument) ⌝ }
     ensures { λ r. ⌜ now (m .exit) ≡ storeOrders (now (m .entry)) (set (openOrders (now (m .entry))) p o) ⌝ }
 {
     put_order(m, p, o);

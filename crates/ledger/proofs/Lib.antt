@@ -15,3 +15,4 @@ pub mod Events
 pub mod Sizes
 pub mod Formulas
 pub mod Examples
+pub mod Packing

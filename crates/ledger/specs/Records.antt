@@ -1,5 +1,5 @@
--- Orders as flat records in lent bytes, eight words each, of which six have a meaning, balances, and a roster of 76 words.
-use Prim.Native.Nat.{ℕ, zero, suc, _+_, _*_}
+-- Orders as flat records in lent bytes, four words each; balances; and a roster of 76 words.
+use Prim.Native.Nat.{ℕ, zero, suc, _+_, _*_, _-_, _/_, _%_, _^_}
 use mathlib.Core.Bool.{cond}
 use mathlib.Core.List.{List, [], _∷_}
 use lib.Dec.{eqb}
@@ -8,7 +8,7 @@ use Rattle.words.specs.Words.{wordAt, signedAt}
 use Rattle.ledger.specs.declared.order.Order.{Order}
 use Rattle.ledger.specs.declared.order.Side.{Side}
 use Rattle.ledger.specs.declared.order.Side.the-variants.{Buy, Sell}
-use Rattle.ledger.specs.Roster.{Roster}
+use Rattle.ledger.specs.Roster.{Roster, Numbered}
 
 -- the side that a number stands for: 1 buy, 2 sell
 unfoldable pub sideOf : ℕ → Side
@@ -18,16 +18,35 @@ unfoldable pub numberOf : Side → ℕ
 numberOf Buy = 1
 numberOf Sell = 2
 
--- the order in record p
+-- side, account and instrument as one number: 64 for each account before this one, 32 for a sell, 1 for each instrument before
+-- this one. Every number is one of some side, account and instrument.
+unfoldable pub packed : Side → ℕ → ℕ → ℕ
+packed Buy a i = (a - 1) * 64 + (i - 1)
+packed Sell a i = (a - 1) * 64 + 32 + (i - 1)
+
+-- those that a word of 64 bits can hold
+abbrev pub Packable : ℕ → ℕ → Type 0
+Packable a i = Numbered (2 ^ 58) a × Numbered 32 i
+
+unfoldable pub packedSide : ℕ → Side
+packedSide w = cond (eqb (w / 32 % 2) 0) Buy Sell
+
+abbrev pub packedAccount : ℕ → ℕ
+packedAccount w = w / 64 + 1
+
+abbrev pub packedInstrument : ℕ → ℕ
+packedInstrument w = w % 32 + 1
+
+-- the order in record p: its id; side, account and instrument packed; total; filled
 unfoldable pub orderAt : List ℕ → ℕ → Order
 orderAt m p =
     record {
-      id = wordAt m (p * 8);
-      account = wordAt m (p * 8 + 1);
-      instrument = wordAt m (p * 8 + 2);
-      side = sideOf (wordAt m (p * 8 + 3));
-      total = wordAt m (p * 8 + 4);
-      filled = wordAt m (p * 8 + 5);
+      id = wordAt m (p * 4);
+      account = packedAccount (wordAt m (p * 4 + 1));
+      instrument = packedInstrument (wordAt m (p * 4 + 1));
+      side = packedSide (wordAt m (p * 4 + 1));
+      total = wordAt m (p * 4 + 2);
+      filled = wordAt m (p * 4 + 3);
     }
 
 -- the orders in the n records from record p on

@@ -1,8 +1,8 @@
-// Orders in flat records: record p is words 8 p to 8 p + 7 of the lent bytes.
+// Orders in flat records: record p is words 4 p to 4 p + 3 of the lent bytes.
 ghost use mathlib.Core.Path.{_≡_};
 ghost use Prim.Native.Nat.{_+_, _*_, _≤_};
 ghost use lib.ListN.{length};
-ghost use Rattle.ledger.specs.Records.{sideOf, numberOf, orderAt};
+ghost use Rattle.ledger.specs.Records.{sideOf, numberOf, packed, Packable, packedSide, orderAt};
 use crate::order::Order;
 use crate::order::Side;
 use words::word;
@@ -24,18 +24,37 @@ pub fn number_of(side: Side) -> u64
     }
 }
 
+// Side, account and instrument as one number.
+pub fn pack(side: Side, account: u64, instrument: u64) -> u64
+    requires { ⌜ Packable account instrument ⌝ }
+    ensures { λ r. ⌜ r ≡ packed side account instrument ⌝ }
+{
+    match side {
+        Side::Buy => (account - 1) * 64 + (instrument - 1),
+        Side::Sell => (account - 1) * 64 + 32 + (instrument - 1),
+    }
+}
+
+// The side in a packed number.
+fn packed_side(w: u64) -> Side
+    ensures { λ r. ⌜ r ≡ packedSide w ⌝ }
+{
+    if w / 32 % 2 == 0 { Side::Buy } else { Side::Sell }
+}
+
 // The order in record `p`.
 pub fn load(orders: &[u8], p: usize) -> Order
-    requires { ⌜ p * 64 + 64 ≤ length (now orders) ⌝ }
+    requires { ⌜ p * 32 + 32 ≤ length (now orders) ⌝ }
     ensures { λ r. ⌜ r ≡ orderAt (now (orders .entry)) p ⌝ }
 {
-    let k = p * 8;
+    let k = p * 4;
+    let packed = word(orders, k + 1);
     Order {
         id: word(orders, k),
-        account: word(orders, k + 1),
-        instrument: word(orders, k + 2),
-        side: side_of(word(orders, k + 3)),
-        total: word(orders, k + 4),
-        filled: word(orders, k + 5),
+        account: packed / 64 + 1,
+        instrument: packed % 32 + 1,
+        side: packed_side(packed),
+        total: word(orders, k + 2),
+        filled: word(orders, k + 3),
     }
 }

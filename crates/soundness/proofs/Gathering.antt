@@ -2,12 +2,10 @@
 use Prim.Native.Nat.{ℕ, zero, suc, _+_, _*_, _-_, _≤_, _<_}
 use mathlib.Core.Path.{_≡_, refl, _∙_, sym, ap}
 use mathlib.Core.Logic.{_≢_}
-use mathlib.Core.Bool.{Bool, true, false, _&&_, cond}
+use mathlib.Core.Bool.{Bool, true, false, _&&_}
 use mathlib.Core.List.{List}
 use native.Mathlib.Decide.{ℕ-discrete}
 use native.Mathlib.Omega.{arith}
-use borrow.Author.Tests.{eq-eqb, ne-eqb}
-use lib.Dec.{eqb}
 use lib.ListN.{length, getD, set, replicate, length-set, length-replicate}
 use lib.Seq.{getD-set-same, getD-set-other}
 use lib.IntN.{pos, _+ℤ_, +ℤ-idl}
@@ -19,7 +17,7 @@ use Rattle.ledger.specs.declared.order.Side.the-variants.{Buy, Sell}
 use Rattle.ledger.specs.Orders.{remaining}
 use Rattle.ledger.specs.Roster.{Roster, Numbered}
 use Rattle.ledger.specs.Positions.{sameSide}
-use Rattle.ledger.specs.Records.{sideOf, orderAt, ordersFrom}
+use Rattle.ledger.specs.Records.{orderAt, ordersFrom}
 use Rattle.ledger.specs.Derivatives.{counted}
 use Rattle.positions.proofs.Counting.{counted-other-account, counted-other-instrument, counted-other-side, counted-own, left, counted-more, counted-all}
 use Rattle.layout.specs.Layout.{countWord, ordersWord}
@@ -31,19 +29,6 @@ use Rattle.soundness.proofs.Records.{order-out, remaining-small, checke
 pub cell-inside : (s : Side) (a i : ℕ) → a ≤ 16 → i ≤ 32 → cell s a i < 1057
 cell-inside Buy a i h l = omega arith
 cell-inside Sell a i h l = omega arith
-
--- the cell of a side by its number
-pub cell-number : (x a i : ℕ) → Numbered 2 x → (x - 1) * 512 + a * 32 + i ≡ cell (sideOf x) a i
-unfolding sideOf
-cell-number x a i h = by (ℕ-discrete x 1)
-  where
-    by : Dec (x ≡ 1) → (x - 1) * 512 + a * 32 + i ≡ cell (cond (eqb x 1) Buy Sell) a i
-    by (yes buy) = rw (eq-eqb x 1 buy) (omega arith)
-    by (no sell) = rw (ne-eqb x 1 sell) (omega (arith, sell))
-
-pub side-read : (s : List ℕ) (p x : ℕ) (o : Order) → o ≡ orderAt s p → x ≡ wordAt s (p * 8 + 3) → o .side ≡ sideOf x
-unfolding orderAt
-side-read s p x o here named = rw (here, named)
 
 same-itself : (s : Side) → sameSide s s ≡ true
 same-itself Buy = refl
@@ -153,28 +138,28 @@ module _ (r : Roster) (trading : ℕ → Bool) (s : List ℕ) (n : ℕ) (cells :
       },
     )
 
-    module _ (o : Order) (x : ℕ) (h : p < n) (here : o ≡ orderAt s p) (named : x ≡ wordAt s (p * 8 + 3)) where
+    module _ (o : Order) (h : p < n) (here : o ≡ orderAt s p) where
       pub passed-id : o .id ≤ last → false ≡ (ascend 0 (ordersFrom s 0 n) && recordsSound r trading s 0 n)
-      passed-id below = whole false (checked-id r trading s n last p x o h here named below)
+      passed-id below = whole false (checked-id r trading s n last p o h here below)
 
-      pub passed-order : orderSound r trading x o ≡ false → false ≡ (ascend 0 (ordersFrom s 0 n) && recordsSound r trading s 0 n)
-      passed-order refused = whole false (checked-order r trading s n last p x o h here named refused)
+      pub passed-order : orderSound r trading o ≡ false → false ≡ (ascend 0 (ordersFrom s 0 n) && recordsSound r trading s 0 n)
+      passed-order refused = whole false (checked-order r trading s n last p o h here refused)
 
-      pub passed-more : r .accounts ≤ 16 → r .instruments ≤ 32 → last < o .id → orderSound r trading x o ≡ true → (cells′ : List ℕ) → cells′ ≡ added cells o → Passed r trading s n cells′ (o .id) (p + 1)
+      pub passed-more : r .accounts ≤ 16 → r .instruments ≤ 32 → last < o .id → orderSound r trading o ≡ true → (cells′ : List ℕ) → cells′ ≡ added cells o → Passed r trading s n cells′ (o .id) (p + 1)
       passed-more few narrow above sound cells′ e =
-          let fit = order-out r trading x o sound in
+          let fit = order-out r trading o sound in
           let account : Numbered 16 (o .account) = (fit .account .0, omega (arith, fit .account .1)) in
           let instrument : Numbered 32 (o .instrument) = (fit .instrument .0, omega (arith, fit .instrument .1)) in
           record {
             upto = omega arith;
-            same = past .same ∙ checked-on r trading s n last p x o h here named above sound;
+            same = past .same ∙ checked-on r trading s n last p o h here above sound;
             size = rw e (added-length cells o (past .size) account instrument);
-            small = λ j. rw e (omega (arith, added-small cells o (past .size) account instrument (p * 1000000) (past .small) (remaining-small r trading x o fit) j));
+            small = λ j. rw e (omega (arith, added-small cells o (past .size) account instrument (p * 1000000) (past .small) (remaining-small r trading o fit) j));
             sums = λ v a i k l. rw (e, added-at cells o (past .size) account instrument v a i k l) (counted-more s n v a i (getD cells (cell v a i) 0) p (counted o v a i) o h here refl (past .sums v a i k l));
           }
 
 -- ---- of a memory: s is its part with the records, n its count
-module _ (m s : List ℕ) (n : ℕ) (count : n ≡ wordAt m countWord) (records : s ≡ partOf m ordersWord 2048) where
+module _ (m s : List ℕ) (n : ℕ) (count : n ≡ wordAt m countWord) (records : s ≡ partOf m ordersWord 1024) where
   pub of-memory : (t : Bool) → t ≡ (ascend 0 (ordersFrom s 0 n) && recordsSound (rosterOf m) (tradingOf m) s 0 n) → t ≡ (ascend 0 (openOrders m) && ordersSound m)
   unfolding openOrders ordersSound
   of-memory t e = rw (← count, ← records) e
@@ -183,5 +168,5 @@ module _ (m s : List ℕ) (n : ℕ) (count : n ≡ wordAt m countWord) (records 
   unfolding openOrders
   gathered-memory cells g = rw (← count, ← records) g
 
-  pub records-long : 65536 ≤ length m → length s ≡ 16384
-  records-long h = ap length records ∙ length-part m ordersWord 2048 (omega arith)
+  pub records-long : 65536 ≤ length m → length s ≡ 8192
+  records-long h = ap length records ∙ length-part m ordersWord 1024 (omega arith)

@@ -1,5 +1,5 @@
 -- The orders' conditions as facts of the list of open orders, and back.
-use Prim.Native.Nat.{ℕ, zero, suc, _+_, _*_, _≤_, _<_}
+use Prim.Native.Nat.{ℕ, zero, suc, _+_, _≤_, _<_}
 use mathlib.Core.Path.{_≡_, refl, ap}
 use mathlib.Core.Logic.{⊎-elim}
 use mathlib.Core.Bool.{Bool, true}
@@ -9,7 +9,6 @@ use native.Mathlib.Omega.{arith}
 use lib.Dec.{ltb}
 use lib.ListN.{length}
 use borrow.Author.Tests.{ltb-true, lt-ltb}
-use Rattle.words.specs.Words.{wordAt}
 use Rattle.ledger.specs.declared.order.Order.{Order}
 use Rattle.ledger.specs.Roster.{Roster}
 use Rattle.ledger.specs.Records.{orderAt, ordersFrom}
@@ -55,21 +54,21 @@ module _ (s : List ℕ) where
 
   -- ---- what is asked of each
   module _ (r : Roster) (trading : ℕ → Bool) where
-    pub records-out : (p n : ℕ) → recordsSound r trading s p n ≡ true → (q : ℕ) → p ≤ q → q < p + n → Fit r trading (wordAt s (q * 8 + 3)) (orderAt s q)
+    pub records-out : (p n : ℕ) → recordsSound r trading s p n ≡ true → (q : ℕ) → p ≤ q → q < p + n → Fit r trading (orderAt s q)
     unfolding recordsSound
     records-out p zero e q h l = absurd (omega arith)
     records-out p (suc n) e q h l =
-        let both = both-true (orderSound r trading (wordAt s (p * 8 + 3)) (orderAt s p)) (recordsSound r trading s (p + 1) n) e in
-        by (ℕ-discrete q p) (order-out r trading (wordAt s (p * 8 + 3)) (orderAt s p) (both .0)) (λ k. records-out (p + 1) n (both .1) q k (omega arith))
+        let both = both-true (orderSound r trading (orderAt s p)) (recordsSound r trading s (p + 1) n) e in
+        by (ℕ-discrete q p) (order-out r trading (orderAt s p) (both .0)) (λ k. records-out (p + 1) n (both .1) q k (omega arith))
       where
-        by : Dec (q ≡ p) → Fit r trading (wordAt s (p * 8 + 3)) (orderAt s p) → (p + 1 ≤ q → Fit r trading (wordAt s (q * 8 + 3)) (orderAt s q)) → Fit r trading (wordAt s (q * 8 + 3)) (orderAt s q)
+        by : Dec (q ≡ p) → Fit r trading (orderAt s p) → (p + 1 ≤ q → Fit r trading (orderAt s q)) → Fit r trading (orderAt s q)
         by (yes same) here later = rw same here
         by (no apart) here later = later (omega (arith, apart))
 
-    pub records-in : (p n : ℕ) → ((q : ℕ) → p ≤ q → q < p + n → Fit r trading (wordAt s (q * 8 + 3)) (orderAt s q)) → recordsSound r trading s p n ≡ true
+    pub records-in : (p n : ℕ) → ((q : ℕ) → p ≤ q → q < p + n → Fit r trading (orderAt s q)) → recordsSound r trading s p n ≡ true
     unfolding recordsSound
     records-in p zero h = refl
     records-in p (suc n) h =
-        and-true (orderSound r trading (wordAt s (p * 8 + 3)) (orderAt s p)) (recordsSound r trading s (p + 1) n)
-        (order-in r trading (wordAt s (p * 8 + 3)) (orderAt s p) (h p (omega arith) (omega arith)))
+        and-true (orderSound r trading (orderAt s p)) (recordsSound r trading s (p + 1) n)
+        (order-in r trading (orderAt s p) (h p (omega arith) (omega arith)))
         (records-in (p + 1) n (λ q a b. h q (omega arith) (omega arith)))

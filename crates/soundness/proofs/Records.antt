@@ -1,12 +1,11 @@
 -- The order records: what is asked of each, and of those from record p on.
-use Prim.Native.Nat.{ℕ, suc, _+_, _*_, _-_, _≤_, _<_}
+use Prim.Native.Nat.{ℕ, suc, _+_, _-_, _≤_, _<_}
 use mathlib.Core.Path.{_≡_, _∙_}
 use mathlib.Core.Bool.{Bool, true, false, _&&_}
 use mathlib.Core.List.{List}
 use native.Mathlib.Omega.{arith}
 use lib.Dec.{leb, ltb}
 use borrow.Author.Tests.{leb-true, le-leb, lt-leb, lt-ltb, le-ltb}
-use Rattle.words.specs.Words.{wordAt}
 use Rattle.ledger.specs.declared.order.Order.{Order}
 use Rattle.ledger.specs.Orders.{remaining}
 use Rattle.ledger.specs.Roster.{Roster, Numbered}
@@ -19,42 +18,38 @@ use Rattle.soundness.proofs.Asked.{numbered-between}
 use Rattle.soundness.proofs.Every.{and-false}
 
 -- ---- one order
-pub record Fit (r : Roster) (trading : ℕ → Bool) (side : ℕ) (o : Order) : Type 0 where
+pub record Fit (r : Roster) (trading : ℕ → Bool) (o : Order) : Type 0 where
   pub account : Numbered (r .accounts) (o .account)
   pub instrument : Numbered (r .instruments) (o .instrument)
-  pub side-named : Numbered 2 side
   pub total : Numbered 1000000 (o .total)
   pub remains : 1 ≤ remaining o
   pub marked : trading (o .account) ≡ true
 
-module _ (r : Roster) (trading : ℕ → Bool) (side : ℕ) (o : Order) where
-  pub order-out : orderSound r trading side o ≡ true → Fit r trading side o
+module _ (r : Roster) (trading : ℕ → Bool) (o : Order) where
+  pub order-out : orderSound r trading o ≡ true → Fit r trading o
   unfolding orderSound
   order-out e =
       let a = between 1 (r .accounts) (o .account) in
       let i = between 1 (r .instruments) (o .instrument) in
-      let s = between 1 2 side in
       let t = between 1 1000000 (o .total) in
-      let h5 = both-true (a && i && s && t && leb 1 (remaining o)) (trading (o .account)) e in
-      let h4 = both-true (a && i && s && t) (leb 1 (remaining o)) (h5 .0) in
-      let h3 = both-true (a && i && s) t (h4 .0) in
-      let h2 = both-true (a && i) s (h3 .0) in
+      let h4 = both-true (a && i && t && leb 1 (remaining o)) (trading (o .account)) e in
+      let h3 = both-true (a && i && t) (leb 1 (remaining o)) (h4 .0) in
+      let h2 = both-true (a && i) t (h3 .0) in
       let h1 = both-true a i (h2 .0) in
       record {
         account = between-numbered (r .accounts) (o .account) (h1 .0);
         instrument = between-numbered (r .instruments) (o .instrument) (h1 .1);
-        side-named = between-numbered 2 side (h2 .1);
-        total = between-numbered 1000000 (o .total) (h3 .1);
-        remains = leb-true 1 (remaining o) (h4 .1);
-        marked = h5 .1;
+        total = between-numbered 1000000 (o .total) (h2 .1);
+        remains = leb-true 1 (remaining o) (h3 .1);
+        marked = h4 .1;
       }
 
-  pub order-in : Fit r trading side o → orderSound r trading side o ≡ true
+  pub order-in : Fit r trading o → orderSound r trading o ≡ true
   unfolding orderSound
   order-in f =
-      rw (numbered-between (r .accounts) (o .account) (f .account), numbered-between (r .instruments) (o .instrument) (f .instrument), numbered-between 2 side (f .side-named), numbered-between 1000000 (o .total) (f .total), le-leb 1 (remaining o) (f .remains)) (f .marked)
+      rw (numbered-between (r .accounts) (o .account) (f .account), numbered-between (r .instruments) (o .instrument) (f .instrument), numbered-between 1000000 (o .total) (f .total), le-leb 1 (remaining o) (f .remains)) (f .marked)
 
-  pub remaining-small : Fit r trading side o → remaining o ≤ 1000000
+  pub remaining-small : Fit r trading o → remaining o ≤ 1000000
   unfolding remaining
   remaining-small f = omega (arith, f .total .1)
 
@@ -82,19 +77,19 @@ module _ (r : Roster) (trading : ℕ → Bool) (s : List ℕ) (n : ℕ) where
   unfolding checked ordersFrom ascend recordsSound
   checked-end last p h = let e : n - p ≡ 0 = omega arith in rw e
 
-  module _ (last p x : ℕ) (o : Order) (h : p < n) (here : o ≡ orderAt s p) (named : x ≡ wordAt s (p * 8 + 3)) where
-    turn : checked last p ≡ ((ltb last (o .id) && ascend (o .id) (ordersFrom s (p + 1) (n - (p + 1)))) && (orderSound r trading x o && recordsSound r trading s (p + 1) (n - (p + 1))))
+  module _ (last p : ℕ) (o : Order) (h : p < n) (here : o ≡ orderAt s p) where
+    turn : checked last p ≡ ((ltb last (o .id) && ascend (o .id) (ordersFrom s (p + 1) (n - (p + 1)))) && (orderSound r trading o && recordsSound r trading s (p + 1) (n - (p + 1))))
     unfolding checked ordersFrom ascend recordsSound
     turn =
         let e : n - p ≡ suc (n - (p + 1)) = omega arith in
-        rw (e, here, named)
+        rw (e, here)
 
     pub checked-id : o .id ≤ last → checked last p ≡ false
     checked-id below = turn ∙ rw (le-ltb last (o .id) below)
 
-    pub checked-order : orderSound r trading x o ≡ false → checked last p ≡ false
+    pub checked-order : orderSound r trading o ≡ false → checked last p ≡ false
     checked-order refused = turn ∙ rw refused (and-false (ltb last (o .id) && ascend (o .id) (ordersFrom s (p + 1) (n - (p + 1)))))
 
-    pub checked-on : last < o .id → orderSound r trading x o ≡ true → checked last p ≡ checked (o .id) (p + 1)
+    pub checked-on : last < o .id → orderSound r trading o ≡ true → checked last p ≡ checked (o .id) (p + 1)
     unfolding checked
     checked-on above passed = turn ∙ rw (lt-ltb last (o .id) above, passed)

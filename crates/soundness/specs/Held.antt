@@ -1,13 +1,13 @@
--- What a memory that passes question 5 is, as facts: it shows a sound book, and the words that no book shows are in range.
-use Prim.Native.Nat.{ℕ, _+_, _*_, _≤_, _<_}
+-- What a memory that passes question 5 is, as facts: it shows a sound book, and the figures of lines that are not set are in range too.
+use Prim.Native.Nat.{ℕ, _+_, _*_, _≤_}
 use mathlib.Core.Path.{_≡_}
 use mathlib.Core.List.{List}
 use lib.ListN.{length}
-use Rattle.words.specs.Words.{wordAt, partOf}
+use Rattle.words.specs.Words.{wordAt}
 use Rattle.ledger.specs.Roster.{Numbered}
 use Rattle.book.specs.Market.{derivatives}
 use Rattle.book.specs.Sound.{LineFits, GroupLineFits, Sound}
-use Rattle.layout.specs.Layout.{kindWord, countWord, ordersWord, ownRow, defaultRow, groupRow}
+use Rattle.layout.specs.Layout.{kindWord, ownRow, defaultRow, groupRow}
 use Rattle.layout.specs.View.{rosterOf, lineAt, groupLineAt, view}
 
 -- the figures of each line on the roster are in range, whether the line is set or not
@@ -19,7 +19,5 @@ pub record Figures (m : List ℕ) : Type 0 where
 pub record Held (m : List ℕ) : Type 0 where
   pub long : 65536 ≤ length m
   pub kind : wordAt m kindWord ≡ 1
-  -- the side in each open order's record is 1 or 2
-  pub sides : (p : ℕ) → p < wordAt m countWord → Numbered 2 (wordAt (partOf m ordersWord 2048) (p * 8 + 3))
   pub figures : Figures m
   pub book : Sound derivatives (rosterOf m) (view m .book) (view m .trading)

@@ -50,13 +50,12 @@ accountLinesSound m a =
 unfoldable pub linesSound : List ℕ → Bool
 linesSound m = every (rosterOf m .accounts) (accountLinesSound m)
 
--- an order is in range: account and instrument on the roster, side 1 or 2, total 1 to 1,000,000; its remaining is at least
--- 1, and its account is marked as trading
-unfoldable pub orderSound : Roster → (ℕ → Bool) → ℕ → Order → Bool
-orderSound r trading side o =
+-- an order is in range: account and instrument on the roster, total 1 to 1,000,000 (its side is one bit, and either value is a
+-- side); its remaining is at least 1, and its account is marked as trading
+unfoldable pub orderSound : Roster → (ℕ → Bool) → Order → Bool
+orderSound r trading o =
     between 1 (r .accounts) (o .account)
     && between 1 (r .instruments) (o .instrument)
-    && between 1 2 side
     && between 1 1000000 (o .total)
     && leb 1 (remaining o)
     && trading (o .account)
@@ -65,12 +64,12 @@ orderSound r trading side o =
 unfoldable pub recordsSound : Roster → (ℕ → Bool) → List ℕ → ℕ → ℕ → Bool
 recordsSound r trading m p zero = true
 recordsSound r trading m p (suc n) =
-    orderSound r trading (wordAt m (p * 8 + 3)) (orderAt m p) && recordsSound r trading m (p + 1) n
+    orderSound r trading (orderAt m p) && recordsSound r trading m (p + 1) n
 
 -- its orders are in range
 unfoldable pub ordersSound : List ℕ → Bool
 ordersSound m =
-    recordsSound (rosterOf m) (tradingOf m) (partOf m ordersWord 2048) 0 (wordAt m countWord)
+    recordsSound (rosterOf m) (tradingOf m) (partOf m ordersWord 1024) 0 (wordAt m countWord)
 
 -- S + B (long) and −S + V (short) are at most 1,000,000,000
 unfoldable pub positionSound : List ℕ → ℕ → ℕ → Way → Bool

@@ -5,8 +5,6 @@ ghost use Prim.Native.Nat.{ℕ, _+_, _≤_};
 ghost use lib.ListN.{length, getD};
 ghost use Rattle.words.specs.Words.{wordAt};
 ghost use Rattle.ledger.specs.Orders.{remaining};
-ghost use Rattle.ledger.specs.Records.{sideOf};
-ghost use Rattle.ledger.specs.Roster.{Numbered};
 ghost use Rattle.layout.specs.Layout.{countWord};
 ghost use Rattle.layout.specs.View.{rosterOf, tradingOf, openOrders};
 ghost use Rattle.soundness.specs.Soundness.{ascend, orderSound, ordersSound};
@@ -18,23 +16,20 @@ use layout::table::COUNT;
 use layout::table::MARKS;
 use layout::table::ORDERS;
 use ledger::order::Order;
+use ledger::order::Side;
 use ledger::records::load;
 use words::part;
 use words::word;
 
-// Is the order in range, with something remaining, and its account marked as trading? `side` is the number in its record. Where
-// something remains its total is not 0.
-fn order_is_sound(m: &[u8], side: u64, o: Order) -> bool
+// Is the order in range, with something remaining, and its account marked as trading? Where something remains its total is not 0.
+fn order_is_sound(m: &[u8], o: Order) -> bool
     requires { ⌜ Readable (now m) ⌝ }
-    ensures { λ r. ⌜ r ≡ orderSound (rosterOf (now (m .entry))) (tradingOf (now (m .entry))) side o ⌝ }
+    ensures { λ r. ⌜ r ≡ orderSound (rosterOf (now (m .entry))) (tradingOf (now (m .entry))) o ⌝ }
 {
     if !between(1, accounts(m), o.account) {
         return false;
     }
     if !between(1, instruments(m), o.instrument) {
-        return false;
-    }
-    if !between(1, 2, side) {
         return false;
     }
     if o.total > 1000000 {
@@ -46,19 +41,23 @@ fn order_is_sound(m: &[u8], side: u64, o: Order) -> bool
     word(m, MARKS + o.account as usize) != 0
 }
 
-// The cell of a side by its number, an account and an instrument.
-fn cell(side: u64, account: u64, instrument: u64) -> usize
-    requires { ⌜ Numbered 2 side × (account ≤ 16) × (instrument ≤ 32) ⌝ }
-    ensures { λ r. ⌜ r ≡ cell (sideOf side) account instrument ⌝ }
+// The cell of a side, an account and an instrument.
+fn cell(side: Side, account: u64, instrument: u64) -> usize
+    requires { ⌜ (account ≤ 16) × (instrument ≤ 32) ⌝ }
+    ensures { λ r. ⌜ r ≡ cell side account instrument ⌝ }
 {
-    (side as usize - 1) * 512 + account as usize * 32 + instrument as usize
+    match side {
+        Side::Buy => account as usize * 32 + instrument as usize,
+        Side::Sell => 512 + account as usize * 32 + instrument as usize,
+    }
 }
 
 // Adds what remains of the order to its cell.
-fn add_to(cells: &mut [u64; 1057], side: u64, o: Order)
-    requires { ⌜ (length (now cells) ≡ 1057) × Numbered 2 side × (o .side ≡ sideOf side) × (o .account ≤ 16) × (o .instrument ≤ 32) × (1 ≤ remaining o) × (remaining o ≤ 1000000) × ((j : ℕ) → getD (now cells) j 0 ≤ 1000000000) ⌝ }
+fn add_to(cells: &mut [u64; 1057], o: Order)
+    requires { ⌜ (length (now cells) ≡ 1057) × (o .account ≤ 16) × (o .instrument ≤ 32) × (1 ≤ remaining o) × (remaining o ≤ 1000000) × ((j : ℕ) → getD (now cells) j 0 ≤ 1000000000) ⌝ }
     ensures { λ r. ⌜ now (cells .exit) ≡ added (now (cells .entry)) o ⌝ }
 {
+    let side = o.side;
     let j = cell(side, o.account, o.instrument);
     cells[j] += o.total - o.filled;
 }
@@ -69,19 +68,18 @@ pub fn gather(m: &[u8], cells: &mut [u64; 1057]) -> bool
     ensures { λ r. ⌜ (r ≡ (ascend 0 (openOrders (now (m .entry))) && ordersSound (now (m .entry)))) × (r ≡ true → Gathered (now (cells .exit)) (openOrders (now (m .entry)))) ⌝ }
 {
     let n = word(m, COUNT) as usize;
-    let orders = part(m, ORDERS, 2048);
+    let orders = part(m, ORDERS, 1024);
     let mut last: u64 = 0;
     for p in 0..n {
         let o = load(orders, p);
         if o.id <= last {
             return false;
         }
-        let side = word(orders, p * 8 + 3);
-        if !order_is_sound(m, side, o) {
+        if !order_is_sound(m, o) {
             return false;
         }
         last = o.id;
-        add_to(cells, side, o);
+        add_to(cells, o);
     }
     true
 }

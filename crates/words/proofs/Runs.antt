@@ -61,3 +61,17 @@ puts-back m k zero bytes = refl
 puts-back m k (suc n) bytes =
     ap (λ (l : List ℕ). putWords l (k + 1) (wordsAt m (k + 1) n)) (put-back m k bytes)
     ∙ puts-back m (k + 1) n bytes
+
+-- a run of a + b words is stored as its first a and the b behind them
+pub puts-more : (l : List ℕ) (j : ℕ) (m : List ℕ) (k a b : ℕ) → putWords l j (wordsAt m k (a + b)) ≡ putWords (putWords l j (wordsAt m k a)) (j + a) (wordsAt m (k + a) b)
+unfolding wordsAt putWords
+puts-more l j m k zero b =
+    let e : j + 0 ≡ j = omega arith in
+    let f : k + 0 ≡ k = omega arith in
+    let z : 0 + b ≡ b = omega arith in
+    rw (e, f, z)
+puts-more l j m k (suc a) b =
+    let e : j + suc a ≡ j + 1 + a = omega arith in
+    let f : k + suc a ≡ k + 1 + a = omega arith in
+    let t : suc a + b ≡ suc (a + b) = omega arith in
+    rw (e, f, t) (puts-more (putWord l j (wordAt m k)) (j + 1) m (k + 1) a b)

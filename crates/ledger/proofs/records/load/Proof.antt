@@ -1,5 +1,5 @@
-use Rattle.ledger.specs.Records.{orderAt}
 use borrow.Author.Needs.{needs}
+use Rattle.ledger.specs.Records.{orderAt}
 use Rattle.ledger.proofs.records.load.Statement.{statement}
 use Rattle.ledger.proofs.records.load.Tie as tie
 
@@ -12,13 +12,11 @@ load-spec =
     tie.close
     (tie.spec
     (λ c. search needs)
-    (λ c κs. search needs)
     (λ c. search needs)
     (λ c κs. search needs)
-    (λ c. search needs)
     (λ c κs. search needs)
     (λ c. search needs)
-    (λ c κs. search needs)
+    (λ c. search needs)
     (λ c κs. search needs)
     (λ c. search needs)
     (λ c κs. search needs)
