@@ -8,7 +8,7 @@ open-up-requires : tie.Need-open-up-requires
 open-up-requires c κs =
     let read = c .before in
     let start = read .before .before .before in
-    (start .pre .0, read .word .ensures, omega (arith, rank-open (start .args .m .now) (start .args .o .id), start .pre .2, read .word .ensures), omega (arith, start .pre .1, read .word .ensures))
+    (start .pre .0, read .word .ensures, omega (arith, rank-open (start .args .m .now) (start .args .o .id), start .pre .2, read .word .ensures), omega (arith, start .pre .1, read .word .ensures), start .pre .3)
 
 returns : tie.Need-returns
 returns c =

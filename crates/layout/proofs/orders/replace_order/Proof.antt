@@ -7,8 +7,8 @@ use Rattle.layout.proofs.orders.replace_order.Tie as tie
 
 put-order-requires : tie.Need-put-order-requires
 put-order-requires c κs =
-    let records = c .before .before .pre .0 in
-    omega (arith, records .long, records .count)
+    let pre = c .before .before .pre in
+    (omega (arith, pre .0 .long), omega (arith, pre .0 .count), pre .2)
 
 returns : tie.Need-returns
 returns c =
