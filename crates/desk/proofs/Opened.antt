@@ -12,7 +12,6 @@ use Rattle.book.specs.Market.{derivatives}
 use Rattle.book.specs.Sound.{RosterFits, LineFits, GroupLineFits}
 use Rattle.book.specs.Kept.{begun}
 use Rattle.book.proofs.Plain.{sound-begun}
-use Rattle.layout.specs.Layout.{countWord}
 use Rattle.layout.specs.Rosters.{sizesFit, namesFit, weightsFit}
 use Rattle.layout.specs.View.{rosterOf, lineAt, groupLineAt, view}
 use Rattle.opening.specs.Questions.{rosterFrom, rosterLength, lengthsFit, openingQuestions, openingAnswer}
@@ -69,7 +68,6 @@ module _ (m s : List ℕ) (zero : openingAnswer m s ≡ 0) where
       (record {
         long = omega (arith, length-opened m s ok, ok .long);
         kind = kind-opened m s ok;
-        sides = λ p h. absurd (omega (arith, blank-opened m s ok countWord (omega arith) (omega arith)));
         figures = figures;
         book = rw (view-opened m s ok, roster-opened m s ok) (sound-begun derivatives (rosterFrom s) fits);
       })

@@ -1,18 +1,18 @@
 -- The cells of one account, of those of all.
 use Prim.Native.Nat.{ℕ, _+_, _*_, _≤_, _<_}
-use mathlib.Core.Path.{_≡_, refl, _∙_, sym, ap}
+use mathlib.Core.Path.{_≡_, refl, _∙_, ap}
 use mathlib.Core.List.{List}
 use native.Mathlib.Omega.{arith}
-use lib.ListN.{length, getD, length-take, length-drop, take, drop}
+use lib.ListN.{length, getD, length-take, length-drop, drop}
 use lib.Seq.{getD-take, getD-drop}
 use lib.IntN.{pos}
 use Rattle.ledger.specs.declared.order.Order.{Order}
 use Rattle.ledger.specs.declared.order.Side.{Side}
-use Rattle.ledger.specs.declared.order.Side.the-variants.{Buy, Sell}
 use Rattle.ledger.specs.Roster.{Numbered}
 use Rattle.positions.specs.Gathered.{cell, Gathered as OfAccount}
 use Rattle.positions.proofs.Gathering.{cell-inside}
 use Rattle.soundness.specs.Cells.{Sums, cell as cellOfAll}
+use Rattle.soundness.proofs.Gathering.{cell-place}
 use Rattle.entering.specs.Places.{cellsOf}
 
 module _ (cells : List ℕ) (a : ℕ) where
@@ -24,12 +24,8 @@ module _ (cells : List ℕ) (a : ℕ) where
   unfolding cellsOf
   at j h = getD-take 545 (drop (a * 32) cells) j 0 h ∙ getD-drop (a * 32) cells j 0
 
-  place : (s : Side) (i : ℕ) → a * 32 + cell s i ≡ cellOfAll s a i
-  place Buy i = refl
-  place Sell i = omega arith
-
   cell-of : (s : Side) (i : ℕ) → i ≤ 32 → getD (cellsOf cells a) (cell s i) 0 ≡ getD cells (cellOfAll s a i) 0
-  cell-of s i h = at (cell s i) (cell-inside s i h) ∙ ap (λ (j : ℕ). getD cells j 0) (place s i)
+  cell-of s i h = at (cell s i) (cell-inside s i h) ∙ ap (λ (j : ℕ). getD cells j 0) (cell-place s a i (cell s i) refl)
 
   pub gathered-of : (orders : List Order) → Sums cells orders → Numbered 16 a → OfAccount (cellsOf cells a) orders a
   gathered-of orders g on =

@@ -1,5 +1,5 @@
 -- The cells in which B and V of all accounts are gathered, order by order.
-use Prim.Native.Nat.{ℕ, zero, suc, _+_, _*_, _-_, _≤_, _<_}
+use Prim.Native.Nat.{ℕ, zero, suc, _+_, _*_, _≤_, _<_}
 use mathlib.Core.Path.{_≡_, refl, _∙_, sym, ap}
 use mathlib.Core.Logic.{_≢_}
 use mathlib.Core.Bool.{Bool, true, false, _&&_}
@@ -19,6 +19,7 @@ use Rattle.ledger.specs.Roster.{Roster, Numbered}
 use Rattle.ledger.specs.Positions.{sameSide}
 use Rattle.ledger.specs.Records.{orderAt, ordersFrom}
 use Rattle.ledger.specs.Derivatives.{counted}
+use Rattle.positions.specs.Gathered.{cell as cellOf}
 use Rattle.positions.proofs.Counting.{counted-other-account, counted-other-instrument, counted-other-side, counted-own, left, counted-more, counted-all}
 use Rattle.layout.specs.Layout.{countWord, ordersWord}
 use Rattle.layout.specs.View.{rosterOf, tradingOf, openOrders}
@@ -29,6 +30,11 @@ use Rattle.soundness.proofs.Records.{order-out, remaining-small, checke
 pub cell-inside : (s : Side) (a i : ℕ) → a ≤ 16 → i ≤ 32 → cell s a i < 1057
 cell-inside Buy a i h l = omega arith
 cell-inside Sell a i h l = omega arith
+
+-- an account's cells stand 32 behind those of the account before it
+pub cell-place : (s : Side) (a i j : ℕ) → j ≡ cellOf s i → a * 32 + j ≡ cell s a i
+cell-place Buy a i j e = omega arith
+cell-place Sell a i j e = omega arith
 
 same-itself : (s : Side) → sameSide s s ≡ true
 same-itself Buy = refl

@@ -1,10 +1,10 @@
 // Question 5: is the lent memory long enough, and does it hold a sound desk?
+pub mod balances;
 pub mod bits;
 pub mod lines;
 pub mod orders;
 pub mod ranges;
 pub mod roster;
-pub mod sums;
 
 ghost use mathlib.Core.Path.{_≡_};
 ghost use mathlib.Core.Bool.{true};
@@ -37,7 +37,7 @@ pub fn is_sound_with_sums(m: &[u8], cells: &mut [u64; 1057]) -> bool
     if !lines::lines_are_sound(m) {
         return false;
     }
-    sums::orders_and_positions(m, cells)
+    balances::orders_and_positions(m, cells)
 }
 
 // Does the memory hold a sound desk?

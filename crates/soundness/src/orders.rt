@@ -8,7 +8,7 @@ ghost use Rattle.ledger.specs.Orders.{remaining};
 ghost use Rattle.layout.specs.Layout.{countWord};
 ghost use Rattle.layout.specs.View.{rosterOf, tradingOf, openOrders};
 ghost use Rattle.soundness.specs.Soundness.{ascend, orderSound, ordersSound};
-ghost use Rattle.soundness.specs.Cells.{Readable, cell, added, Empty, Gathered};
+ghost use Rattle.soundness.specs.Cells.{Readable, added, Empty, Gathered};
 use crate::ranges::between;
 use crate::roster::accounts;
 use crate::roster::instruments;
@@ -16,8 +16,8 @@ use layout::table::COUNT;
 use layout::table::MARKS;
 use layout::table::ORDERS;
 use ledger::order::Order;
-use ledger::order::Side;
 use ledger::records::load;
+use positions::cell;
 use words::part;
 use words::word;
 
@@ -41,24 +41,13 @@ fn order_is_sound(m: &[u8], o: Order) -> bool
     word(m, MARKS + o.account as usize) != 0
 }
 
-// The cell of a side, an account and an instrument.
-fn cell(side: Side, account: u64, instrument: u64) -> usize
-    requires { ⌜ (account ≤ 16) × (instrument ≤ 32) ⌝ }
-    ensures { λ r. ⌜ r ≡ cell side account instrument ⌝ }
-{
-    match side {
-        Side::Buy => account as usize * 32 + instrument as usize,
-        Side::Sell => 512 + account as usize * 32 + instrument as usize,
-    }
-}
-
 // Adds what remains of the order to its cell.
 fn add_to(cells: &mut [u64; 1057], o: Order)
     requires { ⌜ (length (now cells) ≡ 1057) × (o .account ≤ 16) × (o .instrument ≤ 32) × (1 ≤ remaining o) × (remaining o ≤ 1000000) × ((j : ℕ) → getD (now cells) j 0 ≤ 1000000000) ⌝ }
     ensures { λ r. ⌜ now (cells .exit) ≡ added (now (cells .entry)) o ⌝ }
 {
     let side = o.side;
-    let j = cell(side, o.account, o.instrument);
+    let j = o.account as usize * 32 + cell(side, o.instrument);
     cells[j] += o.total - o.filled;
 }
 

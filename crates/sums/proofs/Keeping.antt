@@ -1,5 +1,5 @@
 -- The cells after a shift: the order's own cell moves with it, and no other.
-use Prim.Native.Nat.{ℕ, _+_, _*_, _-_, _≤_, _<_}
+use Prim.Native.Nat.{ℕ, _+_, _-_, _≤_, _<_}
 use mathlib.Core.Path.{_≡_, refl, _∙_, sym, ap}
 use mathlib.Core.Logic.{_≢_}
 use mathlib.Core.List.{List}
@@ -11,13 +11,11 @@ use lib.IntN.{ℤ, pos, natAbs, _+ℤ_}
 use Rattle.integers.specs.Parts.{signed, sum-parts}
 use Rattle.ledger.specs.declared.order.Order.{Order}
 use Rattle.ledger.specs.declared.order.Side.{Side}
-use Rattle.ledger.specs.declared.order.Side.the-variants.{Buy, Sell}
 use Rattle.ledger.specs.Roster.{Numbered}
 use Rattle.ledger.specs.Positions.{openOn}
 use Rattle.ledger.specs.Derivatives.{one}
 use Rattle.ledger.proofs.Amounts.{Stands, stands?, amount-here, amount-apart}
 use Rattle.ledger.proofs.Sums.{open-nonneg}
-use Rattle.positions.specs.Gathered.{cell as cellOf}
 use Rattle.limits.specs.Raised.{addedOn}
 use Rattle.soundness.specs.Cells.{Sums, cell}
 use Rattle.soundness.proofs.Gathering.{cell-inside, same-cell}
@@ -31,11 +29,6 @@ module _ (s : Side) (a i : ℕ) (o : Order) (n : ℕ) where
 
   added-apart : ¬ Stands s a i o → addedOn n o s a i ≡ pos 0
   added-apart apart = sym (same-amount n o s a i) ∙ amount-apart one s a i o n apart
-
--- an account's cells stand 32 behind those of the account before
-pub place : (s : Side) (a i j : ℕ) → j ≡ cellOf s i → a * 32 + j ≡ cell s a i
-place Buy a i j e = omega arith
-place Sell a i j e = omega arith
 
 module _ (cells : List ℕ) (orders orders′ : List Order) (held : Sums cells orders) (o : Order) (before after : ℕ) (shift : Shifted o before after orders orders′) where
   abbrev own : ℕ

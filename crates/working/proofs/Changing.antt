@@ -18,7 +18,7 @@ use Rattle.ledger.specs.declared.order.Order.{Order}
 use Rattle.ledger.specs.declared.order.Side.{Side}
 use Rattle.ledger.specs.declared.find.Found.the-variants.{At}
 use Rattle.ledger.specs.Orders.{remaining, filledBy, replacedTotal, placeFrom}
-use Rattle.ledger.specs.Records.{orderAt, ordersFrom}
+use Rattle.ledger.specs.Records.{Packable, orderAt, ordersFrom}
 use Rattle.ledger.proofs.Search.{found-place}
 use Rattle.book.specs.declared.Event.the-variants.{New, Replace, Cancel}
 use Rattle.book.specs.OpenOrders.{find, insert, change, kept}
@@ -28,6 +28,7 @@ use Rattle.layout.specs.Layout.{memoryBytes, countWord}
 use Rattle.layout.specs.View.{openOrders}
 use Rattle.layout.specs.Stores.{orderIn, storeOrders, Records, without}
 use Rattle.layout.specs.FieldStores.{storeMark}
+use Rattle.layout.proofs.OrderRecords.{small-record}
 use Rattle.layout.proofs.ViewOrders.{change-leaves, change-becomes}
 use Rattle.working.specs.Working.{Ready, Stands, worked}
 use Rattle.working.proofs.Told.{records}
@@ -63,6 +64,21 @@ pub loadable : (m : List ℕ) (id p : ℕ) → Records m → placeFrom 0 id (ope
 loadable m id p r found = let inside = named-inside m id p found in omega (arith, r .long, r .count)
 
 -- ---- NEW
+-- in place of the order found, one of its account and instrument can be stored
+module _ (m : List ℕ) (id p : ℕ) (o y : Order) (bytes : Bytes m) (rs : Records m) (found : placeFrom 0 id (openOrders m) ≡ At p) (loaded : o ≡ orderIn m p) where
+  storable : y .account ≡ o .account → y .instrument ≡ o .instrument → Records m × (p < wordAt m countWord) × Packable (y .account) (y .instrument)
+  storable a i =
+      let here = at-place m id p rs found in
+      (here .0, here .1, rw (a, i, loaded) (small-record m p (omega (arith, here .1, rs .count)) bytes .packable))
+
+  pub replaced-storable : (n : ℕ) → y ≡ replacedTotal o n → Records m × (p < wordAt m countWord) × Packable (y .account) (y .instrument)
+  unfolding replacedTotal
+  replaced-storable n made = storable (rw made) (rw made)
+
+  pub filled-storable : (n : ℕ) → y ≡ filledBy o n → Records m × (p < wordAt m countWord) × Packable (y .account) (y .instrument)
+  unfolding filledBy
+  filled-storable n made = storable (rw made) (rw made)
+
 pub joined : (m l x : List ℕ) (s : Side) (a i id : ℕ) (n : ℤ) → SFits w64 n → l ≡ storeOrders m (insert (record { id = id; account = a; instrument = i; side = s; total = natAbs (toZ w64 (ofZ w64 n)); filled = 0 }) (openOrders m)) → x ≡ storeMark l a → x ≡ worked m (New s a i id n)
 unfolding worked newOrder
 joined m l x s a i id n fits stored marked = marked ∙ rw (stored, toZ-ofZ w64 n fits)

@@ -34,7 +34,7 @@ use Rattle.layout.proofs.StoreWords.{SmallLine, SmallGroupLine}
 use Rattle.soundness.specs.Held.{Held}
 use Rattle.soundness.proofs.OrderFacts.{each-member}
 use Rattle.soundness.proofs.SoundDesk.{held-count}
-use Rattle.working.proofs.Told.{Found, sound, passed, told}
+use Rattle.working.proofs.Told.{Found, sound, packable, passed, told}
 
 -- ---- lines in range
 pub small-line : (x : Option Line) → ((l : Line) → x ≡ some l → LineFits 1000000000 l) → SmallLine x
@@ -86,7 +86,7 @@ module _ (m : List ℕ) (bytes : Bytes m) (held : Held m) where
   open-ids : (o : Order) → List·Memᴰ o (openOrders m) → o .id < 2 ^ 64
   unfolding openOrders
   open-ids =
-      each-member (partOf m ordersWord 2048) (λ o. o .id < 2 ^ 64) 0 (wordAt m countWord)
+      each-member (partOf m ordersWord 1024) (λ o. o .id < 2 ^ 64) 0 (wordAt m countWord)
       (λ q a b. small-record m q (omega (arith, held-count m held)) bytes .id)
 
   changed-ids : (id : ℕ) (f : Order → List Order) → ((o : Order) → Became o (f o)) → Found m id → (x : Order) → List·Memᴰ x (change id f (openOrders m)) → x .id < 2 ^ 64
@@ -114,4 +114,4 @@ module _ (m : List ℕ) (bytes : Bytes m) (held : Held m) where
       (λ x k.
       let f = fits-after derivatives (rosterOf m) (bookOf m) (tradingOf m) (sound m held) e (passed m e passes) x k in
       let r = sound m held .roster in
-      record { id = ids-after e sized passes x k; account = omega arith; instrument = omega arith; total = omega arith; filled = omega arith })
+      record { id = ids-after e sized passes x k; packable = packable m held (x .account) (x .instrument) (f .account) (f .instrument); total = omega arith; filled = omega arith })

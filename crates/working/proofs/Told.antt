@@ -1,6 +1,6 @@
 -- What an acceptance tells of the event, kind by kind: its numbers are on the roster, its figures in range, its order open.
-use Prim.Native.Nat.{ℕ, _+_, _*_, _≤_, _<_}
-use mathlib.Core.Path.{_≡_, _∙_, ap}
+use Prim.Native.Nat.{ℕ, _≤_, _<_}
+use mathlib.Core.Path.{_≡_}
 use mathlib.Core.Bool.{true}
 use mathlib.Core.List.{List}
 use mathlib.Core.Option.{some}
@@ -12,11 +12,11 @@ use lib.Signed.{_≤ℤ_}
 use borrow.Author.Tests.{leb-true, ltb-true}
 use Rattle.integers.specs.Parts.{signed}
 use Rattle.integers.specs.Magnitude.{within-in}
-use Rattle.words.specs.Words.{wordAt, partOf}
-use Rattle.words.proofs.Parts.{word-part}
+use Rattle.words.specs.Words.{wordAt}
 use Rattle.ledger.specs.declared.order.Order.{Order}
 use Rattle.ledger.specs.Orders.{remaining}
 use Rattle.ledger.specs.Roster.{Roster, Numbered}
+use Rattle.ledger.specs.Records.{Packable}
 use Rattle.limits.specs.Lines.{isSet}
 use Rattle.book.specs.declared.LimitLine.{LimitLine}
 use Rattle.book.specs.declared.LimitLine.the-variants.{Own, Default, OfGroup}
@@ -32,14 +32,12 @@ use Rattle.book.proofs.Accepted.{Passed, accepted}
 use Rattle.book.proofs.Cuts.{standing, standing-member}
 use Rattle.book.proofs.Tables.{between-numbered, betweenℤ-both, quantity-numbered}
 use Rattle.book.proofs.Within.{found-order, test-found}
-use Rattle.layout.specs.Layout.{countWord, ordersWord}
+use Rattle.layout.specs.Layout.{countWord}
 use Rattle.layout.specs.View.{rosterOf, openOrders, bookOf, tradingOf, view}
-use Rattle.layout.specs.Stores.{orderWord, Records}
+use Rattle.layout.specs.Stores.{Records}
 use Rattle.layout.specs.Judged.{judged}
 use Rattle.layout.proofs.SameFields as layout
-use Rattle.layout.proofs.Sides.{between-sided}
 use Rattle.soundness.specs.Held.{Held}
-use Rattle.soundness.proofs.Asked.{numbered-between}
 use Rattle.soundness.proofs.SoundDesk.{held-count, open-count}
 
 -- the item of a line is on the roster
@@ -75,10 +73,6 @@ Told m (Cancel id) = Found m id
 Told m (Fill id n) = (f : Found m id) × Quantity n × (natAbs n ≤ remaining (f .order))
 Told m Junk = Unit
 
--- the word of a record's side, in the records' part and in the whole
-pub side-word : (m : List ℕ) (p : ℕ) → p < 256 → wordAt (partOf m ordersWord 2048) (p * 8 + 3) ≡ wordAt m (orderWord p + 3)
-side-word m p h = word-part m ordersWord 2048 (p * 8 + 3) (omega arith) ∙ ap (wordAt m) (omega arith)
-
 -- ---- a sound desk
 module _ (m : List ℕ) (held : Held m) where
   pub sound : Sound derivatives (rosterOf m) (bookOf m) (tradingOf m)
@@ -96,12 +90,13 @@ module _ (m : List ℕ) (held : Held m) where
 
   -- its records can be worked on
   pub records : Records m
-  records =
-      record {
-        long = held .long;
-        count = held-count m held;
-        sides = λ p h. between-sided _ (rw (side-word m p (omega (arith, held-count m held))) at (numbered-between 2 _ (held .sides p h)));
-      }
+  records = record { long = held .long; count = held-count m held }
+
+  -- a record can hold an order of its accounts and instruments
+  pub packable : (a i : ℕ) → Numbered (rosterOf m .accounts) a → Numbered (rosterOf m .instruments) i → Packable a i
+  packable a i on-a on-i =
+      let sized = laid .sized in
+      ((on-a .0, omega arith), (on-i .0, omega arith))
 
 pub passed : (m : List ℕ) (e : Event) → judged m e ≡ 0 → Passed derivatives (rosterOf m) (bookOf m) (tradingOf m) e
 unfolding judged

@@ -5,13 +5,14 @@ use borrow.Author.Needs.{needs}
 use lib.ListN.{length, getD}
 use Rattle.soundness.specs.Cells.{cell}
 use Rattle.soundness.proofs.Bounded.{unfilled-small}
-use Rattle.sums.proofs.Keeping.{place, own-inside, own-small, enough, kept}
+use Rattle.soundness.proofs.Gathering.{cell-place}
+use Rattle.sums.proofs.Keeping.{own-inside, own-small, enough, kept}
 use Rattle.sums.proofs.keep.Statement.{statement}
 use Rattle.sums.proofs.keep.Tie as tie
 
 -- the cell of the order that shifts
 spot : (c : tie.After-cell) → let o = c .before .before .shift-of .result .order in o .account * 32 + c .cell .result ≡ cell (o .side) (o .account) (o .instrument)
-spot c = let o = c .before .before .shift-of .result .order in place (o .side) (o .account) (o .instrument) _ (c .cell .ensures)
+spot c = let o = c .before .before .shift-of .result .order in cell-place (o .side) (o .account) (o .instrument) _ (c .cell .ensures)
 
 inside : (c : tie.After-cell) → c .before .before .shift-of .result .order .account * 32 + c .cell .result < length (c .before .before .before .before .before .args .cells .now)
 inside c =

@@ -26,9 +26,9 @@ on-roster c = said-yes _ _ (account (c .before)) (c .if1 .left)
 listed : (c : tie.Else2) → let a = c .before .before .before .before .before .before .before .args in between 1 (rosterOf (a .m .now) .instruments) (a .o .instrument) ≡ true
 listed c = said-yes _ _ (instrument (c .before)) (c .if2 .left)
 
-numbered : (c : tie.Else5) → let s = c .before .before .before .before .before .before .before .before .before .before .before .before .before in s .args .o .account ≤ 16
+numbered : (c : tie.Else4) → let s = c .before .before .before .before .before .before .before .before .before .before .before in s .args .o .account ≤ 16
 numbered c =
-    let one = c .before .before .before .before .before .before .before .before .before in
+    let one = c .before .before .before .before .before .before .before in
     let s = one .before .before .before .before in
     let n = between-numbered (rosterOf (s .args .m .now) .accounts) (s .args .o .account) (on-roster one) in
     omega (arith, s .pre .accounts)
@@ -48,35 +48,25 @@ unfolding orderSound
 returns-3 c =
     let two = c .before .before in
     let one = two .before .before .before in
-    rw (on-roster one, listed two, said-no _ _ (c .before .between3 .ensures) (c .if3 .taken))
+    rw (on-roster one, listed two, above-range 1 1000000 (one .before .before .before .before .args .o .total) (omega (arith, c .if3 .taken)))
 
 returns-4 : tie.Need-returns-4
 unfolding orderSound
 returns-4 c =
-    let three = c .before .before in
-    let two = three .before .before in
-    let one = two .before .before .before in
-    rw (on-roster one, listed two, said-yes _ _ (three .before .between3 .ensures) (three .if3 .left), above-range 1 1000000 (one .before .before .before .before .args .o .total) (omega (arith, c .if4 .taken)))
-
-returns-5 : tie.Need-returns-5
-unfolding orderSound
-returns-5 c =
-    let three = c .before .before .before .before in
-    let two = three .before .before in
+    let two = c .before .before .before .before in
     let one = two .before .before .before in
     let o = one .before .before .before .before .args .o in
-    rw (on-roster one, listed two, said-yes _ _ (three .before .between3 .ensures) (three .if3 .left), nothing-left o (omega (arith, c .if5 .taken)), and-false (between 1 1000000 (o .total)))
+    rw (on-roster one, listed two, nothing-left o (omega (arith, c .if4 .taken)), and-false (between 1 1000000 (o .total)))
 
-returns-6 : tie.Need-returns-6
+returns-5 : tie.Need-returns-5
 unfolding orderSound tradingOf
-returns-6 c =
-    let five = c .before in
-    let four = five .before .before in
+returns-5 c =
+    let four = c .before in
     let three = four .before .before in
     let two = three .before .before in
     let one = two .before .before .before in
     let o = one .before .before .before .before .args .o in
-    rw (on-roster one, listed two, said-yes _ _ (three .before .between3 .ensures) (three .if3 .left), numbered-between 1000000 (o .total) (omega (arith, five .if5 .left), omega (arith, four .if4 .left)), something-left o (omega (arith, five .if5 .left)), c .word .ensures)
+    rw (on-roster one, listed two, numbered-between 1000000 (o .total) (omega (arith, four .if4 .left), omega (arith, three .if3 .left)), something-left o (omega (arith, four .if4 .left)), c .word .ensures)
 
 pub order-is-sound-spec : {M : Type 1} → statement M
 order-is-sound-spec =
@@ -88,10 +78,8 @@ order-is-sound-spec =
     (λ c κs. search needs)
     (λ c κs. search needs)
     returns-2
-    (λ c κs. search needs)
     returns-3
     returns-4
-    returns-5
     (λ c. omega (arith, numbered c))
     (λ c κs. omega (arith, numbered c))
-    returns-6)
+    returns-5)

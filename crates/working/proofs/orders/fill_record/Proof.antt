@@ -1,6 +1,6 @@
 use mathlib.Core.Path.{_∙_}
 use borrow.Author.Needs.{needs}
-use Rattle.working.proofs.Changing.{at-place, filled-leaves, filled-stays}
+use Rattle.working.proofs.Changing.{at-place, filled-storable, filled-leaves, filled-stays}
 use Rattle.working.proofs.orders.fill_record.Statement.{statement}
 use Rattle.working.proofs.orders.fill_record.Tie as tie
 
@@ -11,8 +11,10 @@ remove-order-requires c κs =
 
 replace-order-requires : tie.Need-replace-order-requires
 replace-order-requires c κs =
-    let stands = c .before .before .before .before .before .pre in
-    at-place _ _ _ (stands .records) (stands .found)
+    let made = c .before .before .before in
+    let known = made .before in
+    let stands = known .before .pre in
+    filled-storable _ _ _ _ _ (λ i. known .slice-known .given i .fits) (stands .records) (stands .found) (stands .loaded) _ (made .filled-by .ensures)
 
 returns : tie.Need-returns
 returns c =

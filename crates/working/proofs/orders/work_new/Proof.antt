@@ -1,6 +1,6 @@
 use native.Mathlib.Omega.{arith}
 use borrow.Author.Needs.{needs}
-use Rattle.working.proofs.Told.{records, told}
+use Rattle.working.proofs.Told.{records, packable, told}
 use Rattle.working.proofs.Rooms.{room, cast-fits}
 use Rattle.working.proofs.Changing.{joined}
 use Rattle.working.proofs.orders.work_new.Statement.{statement}
@@ -14,7 +14,8 @@ cast-t11 c =
 insert-order-requires : tie.Need-insert-order-requires
 insert-order-requires c κs =
     let ready = c .before .before .pre in
-    (records _ (ready .held), told _ (ready .held) _ (ready .accepted) .3, ready .named)
+    let t = told _ (ready .held) _ (ready .accepted) in
+    (records _ (ready .held), t .3, ready .named, packable _ (ready .held) _ _ (t .0) (t .1))
 
 set-mark-requires : tie.Need-set-mark-requires
 set-mark-requires c κs = let r = room (c .before .before .before .before .before .before .pre) in omega arith

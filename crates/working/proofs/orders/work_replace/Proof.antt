@@ -1,7 +1,7 @@
 use borrow.Author.Needs.{needs}
 use Rattle.working.proofs.Told.{records, told}
 use Rattle.working.proofs.Rooms.{cast-fits}
-use Rattle.working.proofs.Changing.{loadable, at-place, replaced}
+use Rattle.working.proofs.Changing.{loadable, replaced-storable, replaced}
 use Rattle.working.proofs.orders.work_replace.Statement.{statement}
 use Rattle.working.proofs.orders.work_replace.Tie as tie
 
@@ -17,8 +17,10 @@ cast-replaced-total c =
 
 replace-order-requires : tie.Need-replace-order-requires
 replace-order-requires c κs =
-    let ready = c .before .before .before .before .before .pre in
-    at-place _ _ _ (records _ (ready .held)) (ready .named)
+    let loaded = c .before .before in
+    let known = loaded .before .before in
+    let ready = known .before .pre in
+    replaced-storable _ _ _ _ _ (λ i. known .slice-known .given i .fits) (records _ (ready .held)) (ready .named) (loaded .load-order .ensures) _ (c .replaced-total .ensures)
 
 returns : tie.Need-returns
 returns c =

@@ -7,8 +7,8 @@ use Rattle.layout.specs.Rosters.{every}
 use Rattle.layout.specs.View.{rosterOf}
 use Rattle.soundness.specs.Soundness.{accountSound, positionsSound}
 use Rattle.soundness.proofs.Every.{every-none, every-no, every-on, every-all}
-use Rattle.soundness.proofs.sums.positions_are_sound.Statement.{statement}
-use Rattle.soundness.proofs.sums.positions_are_sound.Tie as tie
+use Rattle.soundness.proofs.balances.positions_are_sound.Statement.{statement}
+use Rattle.soundness.proofs.balances.positions_are_sound.Tie as tie
 
 abbrev Inv-loop : tie.InvT-loop
 Inv-loop m cells n j₀ j = (n ≡ rosterOf m .accounts) × (j ≤ n) × (every j (accountSound m) ≡ true)

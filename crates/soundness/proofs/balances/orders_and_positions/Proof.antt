@@ -3,8 +3,8 @@ use mathlib.Core.Bool.{false≢true}
 use borrow.Author.Needs.{needs}
 use borrow.Author.Tests.{not-false}
 use Rattle.soundness.proofs.Asked.{said-no, said-yes}
-use Rattle.soundness.proofs.sums.orders_and_positions.Statement.{statement}
-use Rattle.soundness.proofs.sums.orders_and_positions.Tie as tie
+use Rattle.soundness.proofs.balances.orders_and_positions.Statement.{statement}
+use Rattle.soundness.proofs.balances.orders_and_positions.Tie as tie
 
 returns : tie.Need-returns
 returns c = (rw (said-no _ _ (c .before .gather .ensures .0) (c .if1 .taken)), λ e. absurd (false≢true e))

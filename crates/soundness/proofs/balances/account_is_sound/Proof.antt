@@ -9,8 +9,8 @@ use Rattle.layout.specs.View.{rosterOf}
 use Rattle.soundness.specs.Soundness.{placeSound, accountSound}
 use Rattle.soundness.proofs.Every.{every-none, every-no, every-on, every-all}
 use Rattle.soundness.proofs.Places.{row-small}
-use Rattle.soundness.proofs.sums.account_is_sound.Statement.{statement}
-use Rattle.soundness.proofs.sums.account_is_sound.Tie as tie
+use Rattle.soundness.proofs.balances.account_is_sound.Statement.{statement}
+use Rattle.soundness.proofs.balances.account_is_sound.Tie as tie
 
 abbrev Inv-loop : tie.InvT-loop
 Inv-loop m cells a n j₀ j = (n ≡ rosterOf m .instruments) × (j ≤ n) × (every j (placeSound m a) ≡ true)

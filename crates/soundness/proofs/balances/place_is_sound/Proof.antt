@@ -5,8 +5,8 @@ use mir.Syntax.{w64}
 use mir.Val.{toZ, ofZ}
 use mir.ValLaws.{toZ-ofZ}
 use Rattle.soundness.proofs.Places.{cell-fits, room-fits, room-read, least-fits, least-read, place-over, place-within}
-use Rattle.soundness.proofs.sums.place_is_sound.Statement.{statement}
-use Rattle.soundness.proofs.sums.place_is_sound.Tie as tie
+use Rattle.soundness.proofs.balances.place_is_sound.Statement.{statement}
+use Rattle.soundness.proofs.balances.place_is_sound.Tie as tie
 
 cast-b : tie.Need-cast-b
 cast-b c = let s = c .before .before .before in cell-fits _ (s .pre .1 .small (s .args .a * 32 + s .args .i))
