@@ -118,7 +118,7 @@ fn roster_fits(roster: &[u8]) -> bool
 pub extern "C" fn probe_find(orders: &[u8], n: usize, id: u64) -> usize
     ensures { λ r. ⌜ (n * 32 ≤ length (now (orders .entry)) → r ≡ placeNumber n (placeFrom 0 id (ordersFrom (now (orders .entry)) 0 n))) ⌝ }
 {
-    if orders.len() / 64 < n {
+    if orders.len() / 32 < n {
         return 18446744073709551615;
     }
     match find(orders, n, id) {
