@@ -3,5 +3,7 @@ mod Complement
 pub mod Numbers
 pub mod Memory
 pub mod Runs
+pub mod Apart
+mod Moves
 pub mod Parts
 pub mod TwosComplement

@@ -24,6 +24,12 @@ word-of-words m k (suc n) (suc j) h =
     let s : k + suc j ≡ k + 1 + j = omega arith in
     rw s (word-of-words m (k + 1) n j (omega arith))
 
+pub words-put-other : (m : List ℕ) (i v k n : ℕ) → ((j : ℕ) → j < n → i ≢ k + j) → wordsAt (putWord m i v) k n ≡ wordsAt m k n
+unfolding wordsAt
+words-put-other m i v k zero apart = refl
+words-put-other m i v k (suc n) apart =
+    rw (word-put-other m i v k (λ e. apart 0 (omega arith) (omega arith)), words-put-other m i v (k + 1) n (λ j h e. apart (j + 1) (omega arith) (omega arith)))
+
 pub length-puts : (m : List ℕ) (k : ℕ) (vs : List ℕ) → length (putWords m k vs) ≡ length m
 unfolding putWords
 length-puts m k [] = refl

@@ -5,7 +5,7 @@ pub mod signed;
 ghost use mathlib.Core.Path.{_≡_};
 ghost use Prim.Native.Nat.{_+_, _*_, _≤_};
 ghost use lib.ListN.{length};
-ghost use Rattle.words.specs.Words.{wordAt, putWord, signedAt, putSigned, partOf};
+ghost use Rattle.words.specs.Words.{wordAt, putWord, signedAt, putSigned, wordsAt, putWords, partOf};
 
 // Word `k` of `m`.
 pub fn word(m: &[u8], k: usize) -> u64
@@ -53,4 +53,45 @@ pub fn part(m: &[u8], k: usize, n: usize) -> &[u8]
     ensures { λ r. ⌜ now r ≡ partOf (now (m .entry)) k n ⌝ }
 {
     &m[k * 8..(k + n) * 8]
+}
+
+// Moves the first `n` words of `s` to word `by` and after it, the last one first.
+fn up(s: &mut [u8], by: usize, n: usize)
+    requires { ⌜ (by + n) * 8 ≤ length (now s) ⌝ }
+    ensures { λ r. ⌜ now (s .exit) ≡ putWords (now (s .entry)) by (wordsAt (now (s .entry)) 0 n) ⌝ }
+{
+    let mut i = n;
+    while 0 < i {
+        i -= 1;
+        set_word(s, i + by, word(s, i));
+    }
+}
+
+// Moves the `n` words of `s` from word `by` on to its first words, the first one first.
+fn down(s: &mut [u8], by: usize, n: usize)
+    requires { ⌜ (by + n) * 8 ≤ length (now s) ⌝ }
+    ensures { λ r. ⌜ now (s .exit) ≡ putWords (now (s .entry)) 0 (wordsAt (now (s .entry)) by n) ⌝ }
+{
+    for i in 0..n {
+        set_word(s, i, word(s, i + by));
+    }
+}
+
+// Moves the `n` words from word `k` on to word `k + by` and after it. The loop runs over a part that starts at the lowest word
+// touched: with a `by` that is a constant where it is called, it compiles to one memmove.
+pub fn words_up(m: &mut [u8], k: usize, by: usize, n: usize)
+    requires { ⌜ (k + by + n) * 8 ≤ length (now m) ⌝ }
+    ensures { λ r. ⌜ now (m .exit) ≡ putWords (now (m .entry)) (k + by) (wordsAt (now (m .entry)) k n) ⌝ }
+{
+    let first = k * 8;
+    up(&mut m[first..], by, n)
+}
+
+// Moves the `n` words from word `k + by` on to word `k` and after it, as `words_up` does.
+pub fn words_down(m: &mut [u8], k: usize, by: usize, n: usize)
+    requires { ⌜ (k + by + n) * 8 ≤ length (now m) ⌝ }
+    ensures { λ r. ⌜ now (m .exit) ≡ putWords (now (m .entry)) k (wordsAt (now (m .entry)) (k + by) n) ⌝ }
+{
+    let first = k * 8;
+    down(&mut m[first..], by, n)
 }

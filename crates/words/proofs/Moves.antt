@@ -1,0 +1,61 @@
+-- Words moved up and down: what the turns of each move have stored, or leave to be stored.
+use Prim.Native.Nat.{ℕ, suc, _+_, _-_, _≤_, _<_}
+use mathlib.Core.Path.{_≡_, _∙_, sym}
+use mathlib.Core.List.{List}
+use native.Mathlib.Omega.{arith}
+use Rattle.words.specs.Words.{wordAt, putWord, wordsAt, putWords}
+use Rattle.words.proofs.Runs.{word-puts-other, words-put-other}
+use Rattle.words.proofs.Apart.{put-past-words}
+
+module _ (by n : ℕ) where
+  -- the words from i on stand by words higher
+  pub risen : List ℕ → ℕ → List ℕ
+  risen m i = putWords m (i + by) (wordsAt m i (n - i))
+
+  pub risen-start : (m : List ℕ) → m ≡ risen m n
+  unfolding risen putWords wordsAt
+  risen-start m = let z : n - n ≡ 0 = omega arith in rw z
+
+  pub risen-turn : (m l next : List ℕ) (i v : ℕ) → 1 ≤ i → i ≤ n → l ≡ risen m i → v ≡ wordAt l (i - 1) → next ≡ putWord l (i - 1 + by) v → next ≡ risen m (i - 1)
+  unfolding risen putWords wordsAt
+  risen-turn m l next i v low h is read stored =
+      let vs : List ℕ = wordsAt m i (n - i) in
+      let e : n - (i - 1) ≡ suc (n - i) = omega arith in
+      let f : i - 1 + by + 1 ≡ i + by = omega arith in
+      let g : i - 1 + 1 ≡ i = omega arith in
+      let kept : wordAt (putWords m (i + by) vs) (i - 1) ≡ wordAt m (i - 1) =
+      word-puts-other m (i + by) vs (i - 1) (λ j low e. omega arith) in
+      let more : putWords m (i - 1 + by) (wordsAt m (i - 1) (n - (i - 1))) ≡ putWords (putWord m (i - 1 + by) (wordAt m (i - 1))) (i - 1 + by + 1) (wordsAt m (i - 1 + 1) (n - i)) = rw e in
+      stored
+      ∙ rw (read, is, kept)
+      (put-past-words vs m (i - 1 + by) (i + by) (wordAt m (i - 1)) (omega arith)
+      ∙ sym (more ∙ rw (f, g)))
+
+  pub risen-end : (m l : List ℕ) (i : ℕ) → i ≡ 0 → l ≡ risen m i → l ≡ putWords m by (wordsAt m 0 n)
+  unfolding risen
+  risen-end m l i z is =
+      let e : 0 + by ≡ by = omega arith in
+      let f : n - 0 ≡ n = omega arith in
+      is ∙ rw (z, e, f)
+
+  -- the words from i + by on are still to be stored, each by words lower
+  pub falling : List ℕ → ℕ → List ℕ
+  falling m i = putWords m i (wordsAt m (i + by) (n - i))
+
+  pub falling-start : (m : List ℕ) → falling m 0 ≡ putWords m 0 (wordsAt m by n)
+  unfolding falling
+  falling-start m =
+      let e : 0 + by ≡ by = omega arith in
+      let f : n - 0 ≡ n = omega arith in
+      rw (e, f)
+
+  pub falling-turn : (m next : List ℕ) (i v : ℕ) → i < n → v ≡ wordAt m (i + by) → next ≡ putWord m i v → falling next (i + 1) ≡ falling m i
+  unfolding falling putWords wordsAt
+  falling-turn m next i v h read stored =
+      let e : n - i ≡ suc (n - (i + 1)) = omega arith in
+      let f : i + 1 + by ≡ i + by + 1 = omega arith in
+      rw (stored, read, e, f, words-put-other m i (wordAt m (i + by)) (i + by + 1) (n - (i + 1)) (λ j low e. omega arith))
+
+  pub falling-end : (m : List ℕ) (i : ℕ) → n ≤ i → falling m i ≡ m
+  unfolding falling putWords wordsAt
+  falling-end m i h = let e : n - i ≡ 0 = omega arith in rw e

@@ -1,0 +1,43 @@
+use Prim.Native.Nat.{_≤_}
+use mathlib.Core.Path.{_≡_, refl, _∙_}
+use native.Mathlib.Omega.{arith}
+use borrow.Author.Needs.{needs}
+use lib.ListN.{length}
+use Rattle.words.proofs.Moves.{risen, risen-start, risen-turn, risen-end}
+use Rattle.words.proofs.up.Statement.{statement}
+use Rattle.words.proofs.up.Tie as tie
+
+-- the words from i on have moved
+abbrev Inv-loop : tie.InvT-loop
+Inv-loop s₀ by n i₀ s i = (i ≤ n) × (length s ≡ length s₀) × (s ≡ risen by n s₀ i)
+
+abbrev μ-loop : tie.MeasureT-loop
+μ-loop s₀ by n i₀ s i = i
+
+loop-holds : tie.Need-loop-holds Inv-loop μ-loop
+loop-holds c = (omega arith, refl, risen-start _ _ _)
+
+loop-again : tie.Need-loop-again Inv-loop μ-loop
+loop-again c =
+    let put = c .before .before in
+    let at = put .before .before .before .before .before in
+    (omega arith, put .set-word .kept .0 ∙ at .loop .inv .1, risen-turn _ _ _ _ _ (at .loop .i) _ (omega arith) (omega arith) (at .loop .inv .2) (put .before .word .ensures) (put .set-word .ensures))
+
+returns : tie.Need-returns Inv-loop μ-loop
+returns c = let at = c .before in risen-end _ _ _ _ (at .loop .i) (omega arith) (at .loop .inv .2)
+
+pub up-spec : {M : Type 1} → statement M
+up-spec =
+    tie.close
+    (tie.spec
+    Inv-loop
+    μ-loop
+    loop-holds
+    (λ c. search needs)
+    (λ c. search needs)
+    (λ c κs. search needs)
+    (λ c κs. search needs)
+    (λ c. search needs)
+    loop-again
+    (λ c. search needs)
+    returns)

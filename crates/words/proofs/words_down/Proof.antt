@@ -1,0 +1,16 @@
+use mathlib.Core.Path.{refl}
+use native.Mathlib.Omega.{arith}
+use borrow.Author.Needs.{needs}
+use Rattle.words.proofs.Parts.{moved-behind}
+use Rattle.words.proofs.words_down.Statement.{statement}
+use Rattle.words.proofs.words_down.Tie as tie
+
+returns : tie.Need-returns
+returns c =
+    let s = c .before .before .before .before .before .args in
+    moved-behind (s .k) (s .m .now) _ 0 (s .by) (s .n) _ _ (omega arith) refl (c .before .before .down .ensures)
+
+pub words-down-spec : {M : Type 1} → statement M
+words-down-spec =
+    tie.close
+    (tie.spec (λ c. search needs) (λ c. search needs) (λ c. search needs) (λ c. search needs) (λ c κs. search needs) (λ c. search needs) returns)
