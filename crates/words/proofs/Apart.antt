@@ -13,7 +13,7 @@ abbrev pub Passes : (List ℕ → List ℕ) → ℕ → Type 0
 Passes f i = (m : List ℕ) (v : ℕ) → f (set m i v) ≡ set (f m) i v
 
 -- ---- a store passes the bytes outside it
-pub store-passes : (i n a x : ℕ) → (a ≤ i → i < a + n → ⊥) → Passes (λ m. store n m a x) i
+store-passes : (i n a x : ℕ) → (a ≤ i → i < a + n → ⊥) → Passes (λ m. store n m a x) i
 unfolding store
 store-passes i zero a x outside m v = refl
 store-passes i (suc n) a x outside m v =
@@ -29,7 +29,7 @@ words-pass i (x ∷ vs) k outside m v =
 
 -- ---- what passes each byte of a store passes the store
 module _ (f : List ℕ → List ℕ) where
-  pub past-store : (n a x : ℕ) → ((i : ℕ) → a ≤ i → i < a + n → Passes f i) → (m : List ℕ) → f (store n m a x) ≡ store n (f m) a x
+  past-store : (n a x : ℕ) → ((i : ℕ) → a ≤ i → i < a + n → Passes f i) → (m : List ℕ) → f (store n m a x) ≡ store n (f m) a x
   unfolding store
   past-store zero a x passes m = refl
   past-store (suc n) a x passes m =

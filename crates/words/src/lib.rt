@@ -78,7 +78,7 @@ fn down(s: &mut [u8], by: usize, n: usize)
 }
 
 // Moves the `n` words from word `k` on to word `k + by` and after it. The loop runs over a part that starts at the lowest word
-// touched, so that it compiles to one memmove.
+// touched: with a `by` that is a constant where it is called, it compiles to one memmove.
 pub fn words_up(m: &mut [u8], k: usize, by: usize, n: usize)
     requires { ⌜ (k + by + n) * 8 ≤ length (now m) ⌝ }
     ensures { λ r. ⌜ now (m .exit) ≡ putWords (now (m .entry)) (k + by) (wordsAt (now (m .entry)) k n) ⌝ }
