@@ -1,10 +1,8 @@
 -- Laws of packed numbers: what is packed is read back, and every number packs what is read from it.
 use Prim.Native.Nat.{ℕ, _+_, _*_, _-_, _/_, _%_, _^_, _<_}
 use mathlib.Core.Path.{_≡_}
-use mathlib.Core.Bool.{cond}
 use native.Mathlib.Decide.{ℕ-discrete}
 use native.Mathlib.Omega.{arith}
-use lib.Dec.{eqb}
 use borrow.Author.Tests.{eq-eqb, ne-eqb}
 use Rattle.ledger.specs.declared.order.Side.{Side}
 use Rattle.ledger.specs.declared.order.Side.the-variants.{Buy, Sell}
@@ -15,7 +13,7 @@ pub packed-again : (w : ℕ) → packed (packedSide w) (packedAccount w) (packed
 unfolding packedSide packed
 packed-again w = by (ℕ-discrete (w / 32 % 2) 0)
   where
-    by : Dec (w / 32 % 2 ≡ 0) → packed (cond (eqb (w / 32 % 2) 0) Buy Sell) (w / 64 + 1) (w % 32 + 1) ≡ w
+    by : Dec (w / 32 % 2 ≡ 0) → packed (packedSide w) (packedAccount w) (packedInstrument w) ≡ w
     by (yes buy) = rw (eq-eqb (w / 32 % 2) 0 buy) (omega arith)
     by (no sell) = rw (ne-eqb (w / 32 % 2) 0 sell) (omega (arith, sell))
 

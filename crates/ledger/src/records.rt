@@ -39,7 +39,11 @@ pub fn pack(side: Side, account: u64, instrument: u64) -> u64
 fn packed_side(w: u64) -> Side
     ensures { λ r. ⌜ r ≡ packedSide w ⌝ }
 {
-    if w / 32 % 2 == 0 { Side::Buy } else { Side::Sell }
+    if w / 32 % 2 == 0 {
+        Side::Buy
+    } else {
+        Side::Sell
+    }
 }
 
 // The order in record `p`.

@@ -4,13 +4,15 @@
 //! Written from the table in `crates/layout/specs/Layout.antt`. It shares no code with the gate.
 
 mod field;
+mod packed;
 mod sound;
 
 use days::plain::{Block, Line};
 use reference::roster::Sizes;
-use reference::{Book, Desk, GroupLine, Order, Roster, Side, MEMORY};
+use reference::{Book, Desk, GroupLine, Order, Roster, MEMORY};
 
 pub use field::{Field, Part, PARTS, WORDS};
+pub use packed::Packed;
 pub use sound::Clause;
 
 use field::{blocks, fields, figures_of, lines, places, RECORDS};
@@ -90,7 +92,7 @@ impl<'a> Words<'a> {
 
     /// The desk that the words say, sound or not. None where the second implementation's data has
     /// no room for it: another kind of desk, sizes or a count past their limits, numbers of
-    /// groups, contracts, accounts or instruments past 16 bits, a side that is neither 1 nor 2.
+    /// groups, contracts or accounts past 16 bits.
     pub fn desk(&self) -> Option<Desk> {
         if self.get(Field::Kind) != 1 {
             return None;
@@ -160,19 +162,21 @@ impl<'a> Words<'a> {
         }
     }
 
+    /// Side, account and instrument of the order in a record.
+    pub fn packed(&self, record: usize) -> Packed {
+        Packed::of(self.get(Field::Order(record, Part::Packed)))
+    }
+
     fn order(&self, record: usize) -> Option<Order> {
-        let part = |part| Field::Order(record, part);
+        let part = |part| self.get(Field::Order(record, part));
+        let packed = self.packed(record);
         Some(Order {
-            id: self.get(part(Part::Id)),
-            account: self.number(part(Part::Account))?,
-            instrument: self.number(part(Part::Instrument))?,
-            side: match self.get(part(Part::Side)) {
-                1 => Side::Buy,
-                2 => Side::Sell,
-                _ => return None,
-            },
-            total: self.get(part(Part::Total)),
-            filled: self.get(part(Part::Filled)),
+            id: part(Part::Id),
+            account: u16::try_from(packed.account).ok()?,
+            instrument: u16::try_from(packed.instrument).ok()?,
+            side: packed.side,
+            total: part(Part::Total),
+            filled: part(Part::Filled),
         })
     }
 }

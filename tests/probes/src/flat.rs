@@ -66,18 +66,22 @@ pub fn balances(desk: &Desk, account: u16) -> Vec<u8> {
     bytes(&words)
 }
 
-/// The records of the open orders, eight words each; the last two have no meaning and hold junk.
+/// Side, account and instrument in one number: 64 for each account before this one, 32 for a sell, 1
+/// for each instrument before this one.
+fn packed(order: &Order) -> i64 {
+    let sell = i64::from(order.side == Side::Sell);
+    let before = |number: u16| i64::from(number) - 1;
+    64 * before(order.account) + 32 * sell + before(order.instrument)
+}
+
+/// The records of the open orders, four words each.
 pub fn orders(orders: &[Order]) -> Vec<u8> {
     let record = |order: &Order| {
         bytes(&[
             order.id as i64,
-            i64::from(order.account),
-            i64::from(order.instrument),
-            side(order.side) as i64,
+            packed(order),
             order.total as i64,
             order.filled as i64,
-            -1,
-            i64::MIN,
         ])
     };
     orders.iter().flat_map(record).collect()

@@ -9,34 +9,26 @@ pub const WORDS: usize = 8_192;
 /// How many order records a desk's memory has.
 pub const RECORDS: usize = 256;
 
-/// How many words a record has. The last two have no meaning.
-const RECORD: usize = 8;
+/// How many words a record has.
+const RECORD: usize = 4;
 
 /// The widths of the tables by account and contract, instrument or group.
 const INSTRUMENTS: usize = 32;
 const CONTRACTS: usize = 8;
 const GROUPS: usize = 4;
 
-/// A figure of an order's record.
+/// A word of an order's record.
 #[derive(Clone, Copy, PartialEq, Eq, Debug)]
 pub enum Part {
     Id,
-    Account,
-    Instrument,
-    Side,
+    /// Side, account and instrument.
+    Packed,
     Total,
     Filled,
 }
 
 /// The parts of a record, in the order of its words.
-pub const PARTS: [Part; 6] = [
-    Part::Id,
-    Part::Account,
-    Part::Instrument,
-    Part::Side,
-    Part::Total,
-    Part::Filled,
-];
+pub const PARTS: [Part; RECORD] = [Part::Id, Part::Packed, Part::Total, Part::Filled];
 
 /// A word that has a meaning. Accounts, groups, contracts and instruments are numbered from 1;
 /// records and the figures of a line are counted from 0.

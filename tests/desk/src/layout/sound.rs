@@ -5,8 +5,9 @@ use std::collections::BTreeSet;
 
 use days::plain::Line;
 use reference::roster::Sizes;
+use reference::Side;
 
-use super::{figures_of, lines, places, Field, Part, Words};
+use super::{figures_of, lines, places, Field, Packed, Part, Words};
 
 const LARGEST_WEIGHT: u64 = 1_000_000;
 const LARGEST_LIMIT: u64 = 1_000_000_000;
@@ -24,8 +25,6 @@ pub enum Clause {
     /// The layout's: no id is below the one in the record before. With ids that differ and are
     /// not 0, they ascend strictly.
     IdsAscend,
-    /// The layout's: a side is 1 or 2.
-    Side,
     /// The layout's: the figures of a line that is not set are in range too.
     UnsetLine,
     Sizes,
@@ -50,11 +49,10 @@ pub enum Clause {
 }
 
 impl Clause {
-    pub const ALL: [Clause; 21] = [
+    pub const ALL: [Clause; 20] = [
         Clause::Kind,
         Clause::Count,
         Clause::IdsAscend,
-        Clause::Side,
         Clause::UnsetLine,
         Clause::Sizes,
         Clause::GroupOfContract,
@@ -152,8 +150,12 @@ impl Words<'_> {
 
     fn ask_order(&self, sizes: Sizes, record: usize, asked: &mut Asked) {
         let part = |part| self.get(Field::Order(record, part));
-        let (account, instrument) = (part(Part::Account), part(Part::Instrument));
         let (total, filled) = (part(Part::Total), part(Part::Filled));
+        let Packed {
+            account,
+            instrument,
+            ..
+        } = self.packed(record);
         let on_roster = is_number(account, sizes.accounts);
         let marked = !on_roster || self.is(Field::Mark(account as u16));
         asked.ask(Clause::OrderAccount, on_roster);
@@ -162,24 +164,26 @@ impl Words<'_> {
             Clause::OrderInstrument,
             is_number(instrument, sizes.instruments),
         );
-        asked.ask(Clause::Side, matches!(part(Part::Side), 1 | 2));
         asked.ask(Clause::OrderTotal, (1..=LARGEST_TOTAL).contains(&total));
         asked.ask(Clause::Remaining, filled < total);
     }
 
-    /// S + B and −S + V of every account and instrument. An order off the roster or of no side is
-    /// in no sum; nothing remains of one that is filled past its total.
+    /// S + B and −S + V of every account and instrument. An order off the roster is in no sum;
+    /// nothing remains of one that is filled past its total.
     fn ask_positions(&self, sizes: Sizes, count: usize, asked: &mut Asked) {
         let balance = |(account, instrument)| i128::from(self.balance(account, instrument));
         let mut long: Vec<i128> = places(sizes).map(balance).collect();
         let mut short: Vec<i128> = long.iter().map(|balance| -balance).collect();
         for record in 0..count {
             let part = |part| self.get(Field::Order(record, part));
-            let (account, instrument) = (part(Part::Account), part(Part::Instrument));
-            let sums = match part(Part::Side) {
-                1 => &mut long,
-                2 => &mut short,
-                _ => continue,
+            let Packed {
+                side,
+                account,
+                instrument,
+            } = self.packed(record);
+            let sums = match side {
+                Side::Buy => &mut long,
+                Side::Sell => &mut short,
             };
             if is_number(account, sizes.accounts) && is_number(instrument, sizes.instruments) {
                 let place = (account - 1) * u64::from(sizes.instruments) + instrument - 1;

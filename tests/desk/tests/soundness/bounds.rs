@@ -1,8 +1,8 @@
 //! What each field of a sound desk is set to, and which clauses it is under.
 
 use days::random::Random;
-use desk::layout::{Clause, Field, Part, Words};
-use reference::positions;
+use desk::layout::{Clause, Field, Packed, Part, Words};
+use reference::{positions, Side};
 
 const LARGEST: i64 = 1_000_000_000;
 const LARGEST_WEIGHT: i64 = 1_000_000;
@@ -24,9 +24,7 @@ pub fn clauses(words: Words, field: Field) -> Vec<Clause> {
         Field::Balance { .. } => vec![Clause::Long, Clause::Short],
         Field::Figure(line, _) => vec![words.line_clause(line)],
         Field::Order(_, Part::Id) => vec![Clause::IdsNonZero, Clause::IdsDiffer, Clause::IdsAscend],
-        Field::Order(_, Part::Account) => vec![Clause::OrderAccount],
-        Field::Order(_, Part::Instrument) => vec![Clause::OrderInstrument],
-        Field::Order(_, Part::Side) => vec![Clause::Side],
+        Field::Order(_, Part::Packed) => vec![Clause::OrderAccount, Clause::OrderInstrument],
         Field::Order(_, Part::Total) => vec![Clause::OrderTotal, Clause::Remaining],
         Field::Order(_, Part::Filled) => vec![Clause::Remaining],
     }
@@ -89,10 +87,30 @@ fn order_bounds(words: Words, record: usize, part: Part) -> Vec<u64> {
             let neighbours = [record.saturating_sub(1), (record + 1).min(last)];
             neighbours.map(|record| other(record, Part::Id)).to_vec()
         }
-        Part::Account => vec![words.get(Field::Accounts)],
-        Part::Instrument => vec![words.get(Field::Instruments)],
-        Part::Side => vec![1, 2],
+        Part::Packed => packed_bounds(words, words.packed(record)),
         Part::Total => vec![LARGEST_TOTAL, other(record, Part::Filled)],
         Part::Filled => vec![other(record, Part::Total)],
     }
+}
+
+/// The other side, the last account and instrument and one past each, and accounts whose low bytes
+/// alone are the present one's.
+fn packed_bounds(words: Words, now: Packed) -> Vec<u64> {
+    let side = match now.side {
+        Side::Buy => Side::Sell,
+        Side::Sell => Side::Buy,
+    };
+    let account = |account| Packed { account, ..now };
+    let instrument = |instrument| Packed { instrument, ..now };
+    let accounts = words.get(Field::Accounts);
+    let instruments = words.get(Field::Instruments);
+    let mut bounds = vec![
+        Packed { side, ..now },
+        account(accounts),
+        account(accounts.wrapping_add(1)),
+        instrument(instruments),
+        instrument(instruments.wrapping_add(1)),
+    ];
+    bounds.extend([8, 16, 32].map(|bits| account(now.account + (1 << bits))));
+    bounds.into_iter().map(Packed::word).collect()
 }

@@ -2,6 +2,7 @@
 //! several at once.
 
 mod bounds;
+mod packed;
 mod past;
 mod sample;
 

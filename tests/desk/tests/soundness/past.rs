@@ -31,7 +31,8 @@ fn largest(accounts: u16) -> Sample {
     })
 }
 
-fn opened(roster: &RosterSpec) -> Sample {
+/// A fresh desk of this roster.
+pub fn opened(roster: &RosterSpec) -> Sample {
     let mut desk = ProvedDesk::default();
     assert_eq!(desk.open(&roster.bytes()), 0);
     Sample::of("a fresh desk", desk, vec![wire::cancel(1).bytes().to_vec()])
@@ -86,7 +87,7 @@ fn one_order_more_than_the_most() {
         let mut sample = smallest();
         sample.set(Field::Mark(1), 1);
         for record in 0..257 {
-            let words = [record as u64 + 1, 1, 1, 1, 1, 0];
+            let words = [record as u64 + 1, 0, 1, 0];
             for (part, value) in PARTS.into_iter().zip(words) {
                 sample.set(Field::Order(record, part), value);
             }
