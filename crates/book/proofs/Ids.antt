@@ -1,18 +1,18 @@
 -- Ids of the open orders: they stay strictly ascending, so each names at most one order, and an order is found by its id
 -- wherever it stands.
 use Prim.Native.Nat.{ℕ, _≤_, _<_}
-use mathlib.Core.Path.{_≡_, refl, sym, _∙_, ap}
+use mathlib.Core.Path.{_≡_, refl, ap}
 use mathlib.Core.Logic.{_↔_, _≢_, _⊎_, inl, inr, ⊎-elim}
 use mathlib.Core.Bool.{Bool, true, false, cond}
 use mathlib.Core.List.{List, [], _∷_, _++_, List·Memᴰ, List·Memᴰ·head, List·Memᴰ·tail, List·Memᴰ·not-nil, List·Memᴰ·cases-cons, List·Memᴰ·append-cases, Memᴰ·append-left, Memᴰ·append-right}
-use mathlib.Core.Option.{none, some}
+use mathlib.Core.Option.{some}
 use native.Mathlib.Omega.{arith}
-use lib.Dec.{ltb, eqb}
+use lib.Dec.{eqb}
 use borrow.Author.Tests.{eqb-true, eqb-false, eq-eqb, ne-eqb}
 use Rattle.ledger.specs.declared.order.Order.{Order}
 use Rattle.ledger.specs.Orders.{filledBy, replacedTotal, closes}
 use Rattle.ledger.proofs.Ways.{by-number}
-use Rattle.book.specs.OpenOrders.{find, insert, change, kept}
+use Rattle.book.specs.OpenOrders.{find, change, kept}
 use Rattle.book.specs.Sound.{Ascending, nothing, next}
 
 -- what a change makes of an order: nothing, or an order of the same id
@@ -47,25 +47,6 @@ ascending-above (next {least} {o} {os} h a) x m =
     ⊎-elim (λ e. rw e h) (λ k. let l = ascending-above a x k in omega arith) (List·Memᴰ·cases-cons m)
 
 -- ---- find
-find-cons : (n : ℕ) (x : Order) (os : List Order) → find n (x ∷ os) ≡ cond (eqb (x .id) n) (some x) (find n os)
-unfolding find
-find-cons n x os = refl
-
--- an id that no order has is not found, and one that is not found no order has
-pub absent : (n : ℕ) (os : List Order) → ((x : Order) → List·Memᴰ x os → x .id ≢ n) → find n os ≡ none
-unfolding find
-absent n [] h = refl
-absent n (x ∷ os) h = rw (ne-eqb (x .id) n (h x (List·Memᴰ·head refl))) (absent n os (λ y m. h y (List·Memᴰ·tail m)))
-
-pub not-found : (n : ℕ) (os : List Order) → find n os ≡ none → (x : Order) → List·Memᴰ x os → x .id ≢ n
-unfolding find
-not-found n [] e x m = absurd (List·Memᴰ·not-nil m)
-not-found n (y ∷ os) e x m = by (eqb (y .id) n) refl e (λ d. not-found n os d x)
-  where
-    by : (t : Bool) → eqb (y .id) n ≡ t → cond t (some y) (find n os) ≡ none → (find n os ≡ none → List·Memᴰ x os → x .id ≢ n) → x .id ≢ n
-    by true d e rest = absurd (let z : _≡_ {A = ℕ} 0 1 = cc in omega arith)
-    by false d e rest = ⊎-elim (λ same. rw same (eqb-false (y .id) n d)) (rest e) (List·Memᴰ·cases-cons m)
-
 -- the order that is found is the member with that id: where it stands makes no difference
 pub find-member : {least : ℕ} {os : List Order} → Ascending least os → (n : ℕ) (o : Order) → (find n os ≡ some o) ↔ (List·Memᴰ o os × (o .id ≡ n))
 unfolding find
@@ -87,28 +68,6 @@ find-member (next {o = x} {os} l a) n o =
       λ h. ⊎-elim (λ same. absurd (apart (rw (← same) (h .1)))) (λ m. rest .1 (m, h .1)) (List·Memᴰ·cases-cons (h .0)),
     )
 
--- ---- an order joins whose id is not open
-pub insert-find : (o : Order) (os : List Order) → find (o .id) os ≡ none → (n : ℕ) → find n (insert o os) ≡ cond (eqb (o .id) n) (some o) (find n os)
-unfolding insert find
-insert-find o [] e n = refl
-insert-find o (x ∷ os) e n = by (ltb (o .id) (x .id)) (insert-find o os rest n)
-  where
-    fresh : x .id ≢ o .id
-    fresh = not-found (o .id) (x ∷ os) e x (List·Memᴰ·head refl)
-
-    rest : find (o .id) os ≡ none
-    rest = rw (ne-eqb (x .id) (o .id) fresh) at (sym (find-cons (o .id) x os) ∙ e)
-
-    either : (y z : Bool) → (y ≡ true → z ≡ true → ⊥) → find n (insert o os) ≡ cond y (some o) (find n os) → cond z (some x) (find n (insert o os)) ≡ cond y (some o) (cond z (some x) (find n os))
-    either true true h d = absurd (h refl refl)
-    either true false h d = d
-    either false true h d = refl
-    either false false h d = d
-
-    by : (t : Bool) → find n (insert o os) ≡ cond (eqb (o .id) n) (some o) (find n os) → find n (cond t (o ∷ (x ∷ os)) (x ∷ insert o os)) ≡ cond (eqb (o .id) n) (some o) (cond (eqb (x .id) n) (some x) (find n os))
-    by true d = refl
-    by false d = either (eqb (o .id) n) (eqb (x .id) n) (λ y z. fresh (eqb-true (x .id) n z ∙ sym (eqb-true (o .id) n y))) d
-
 -- ---- an order changes
 pub change-ascending : {least : ℕ} {os : List Order} → Ascending least os → (id : ℕ) (f : Order → List Order) → ((o : Order) → Became o (f o)) → Ascending least (change id f os)
 unfolding change
@@ -119,18 +78,6 @@ change-ascending (next {least} {o = x} {os} h a) id f b = by (eqb (x .id) id) (f
     by true l gone rest = ascending-from (omega arith) a
     by true l (became {o′} e) rest = next {least = least} {o = o′} {os = os} (omega arith) (rw e a)
     by false l c rest = next h rest
-
--- an order of another id is found as before
-pub change-find : (id : ℕ) (f : Order → List Order) → ((o : Order) → Became o (f o)) → (os : List Order) (n : ℕ) → n ≢ id → find n (change id f os) ≡ find n os
-unfolding change find
-change-find id f b [] n apart = refl
-change-find id f b (x ∷ os) n apart = by (eqb (x .id) id) refl (f x) (b x) (change-find id f b os n apart)
-  where
-    by : (t : Bool) → eqb (x .id) id ≡ t → (l : List Order) → Became x l → find n (change id f os) ≡ find n os → find n (cond t (l ++ os) (x ∷ change id f os)) ≡ cond (eqb (x .id) n) (some x) (find n os)
-    by true d l gone rest = rw (ne-eqb (x .id) n (λ e. apart (sym e ∙ eqb-true (x .id) id d)))
-    by true d l (became {o′} same) rest =
-        rw (ne-eqb (o′ .id) n (λ e. apart (sym e ∙ (same ∙ eqb-true (x .id) id d))), ne-eqb (x .id) n (λ e. apart (sym e ∙ eqb-true (x .id) id d)))
-    by false d l c rest = rw rest
 
 -- the members after it are what the order became and the others, none of which has its id
 pub change-exactly : {least : ℕ} {os : List Order} → Ascending least os → (id : ℕ) (f : Order → List Order) (o : Order) → find id os ≡ some o → (x : Order) → List·Memᴰ x (change id f os) ↔ (List·Memᴰ x (f o) ⊎ (List·Memᴰ x os × (x .id ≢ id)))

@@ -14,7 +14,7 @@ use Rattle.ledger.specs.Orders.{remaining}
 use Rattle.ledger.specs.Roster.{Roster}
 use Rattle.ledger.specs.Positions.{Way, Place, instrument, opposite, wayOf, ofInstrument, potential, position}
 use Rattle.ledger.specs.Moves.{Moves}
-use Rattle.ledger.proofs.Changes.{shift-up, shift-down, shift-unmoved, shift-of-another, shift-own, fill-lowers, fill-kept, fill-opposite, idle}
+use Rattle.ledger.proofs.Changes.{shift-down, shift-unmoved, shift-of-another, shift-own, fill-lowers, fill-kept, fill-opposite, idle}
 use Rattle.book.specs.declared.LimitLine.{LimitLine}
 use Rattle.book.specs.declared.Blocked.{Blocked}
 use Rattle.book.specs.declared.Event.the-variants.{Limit, Balance, Block, New, Replace, Cancel, Fill}
@@ -50,12 +50,8 @@ module _ (mk : Market) (r : Roster) (b : Book) (a : ℕ) (p : Place) (w : Way) w
       ap (λ S. potential (mk .unit) r (b .orders) a S p w) (at-here a (at i z (b .balanceOf a)) (b .balanceOf) a refl)
       ∙ idle (mk .unit) r a (b .orders) (at i z (b .balanceOf a)) p w none-open
 
-  -- NEW raises those that it moves, and no other
+  -- NEW moves none but those that its fills move, and none of another account
   module _ (s : Side) (c i id : ℕ) (n : ℤ) where
-    pub new-raises : potentialOf mk r b a p w ≤ℤ potentialOf mk r (work (mk .unit) b (New s c i id n)) a p w
-    unfolding work
-    new-raises = shift-up (new-shift mk b s c i id n) a (b .balanceOf a) r p w (omega arith)
-
     pub new-unmoved : ¬ Moves r (newOrder s c i id n) p w → potentialOf mk r (work (mk .unit) b (New s c i id n)) a p w ≡ potentialOf mk r b a p w
     unfolding work
     new-unmoved = shift-unmoved (new-shift mk b s c i id n) a (b .balanceOf a) r p w
@@ -65,11 +61,7 @@ module _ (mk : Market) (r : Roster) (b : Book) (a : ℕ) (p : Place) (w : Way) w
     new-other = shift-of-another (new-shift mk b s c i id n) a (b .balanceOf a) r p w
 
   module _ (keeps : UnitKept mk) (id : ℕ) (o : Order) (found : find id (b .orders) ≡ some o) where
-    -- REPLACE raises those that its order moves where the total rises, lowers them where it falls, and moves no other
-    pub replace-raises : (n : ℤ) → o .total ≤ natAbs n → potentialOf mk r b a p w ≤ℤ potentialOf mk r (work (mk .unit) b (Replace id n)) a p w
-    unfolding work
-    replace-raises n up = shift-up (replace-shift mk b keeps id o found n) a (b .balanceOf a) r p w (omega arith)
-
+    -- REPLACE raises none where the total does not rise, and moves none but those that its order's fills move
     pub replace-lowers : (n : ℤ) → natAbs n ≤ o .total → potentialOf mk r (work (mk .unit) b (Replace id n)) a p w ≤ℤ potentialOf mk r b a p w
     unfolding work
     replace-lowers n down = shift-down (replace-shift mk b keeps id o found n) a (b .balanceOf a) r p w (omega arith)

@@ -3,7 +3,7 @@ use Prim.Native.Nat.{ℕ}
 use mathlib.Core.Path.{_≡_, refl, sym, _∙_, ap}
 use mathlib.Core.Logic.{_↔_, _⊎_, inl, inr, ⊎-elim}
 use mathlib.Core.Bool.{true, false}
-use mathlib.Core.Option.{Option, none, some}
+use mathlib.Core.Option.{some}
 use native.Mathlib.Omega.{arith}
 use Rattle.ledger.specs.declared.order.Order.{Order}
 use Rattle.ledger.specs.Roster.{Roster}
@@ -13,13 +13,9 @@ use Rattle.book.specs.declared.LimitLine.the-variants.{Own, Default, OfG
 use Rattle.book.specs.declared.Event.{Event}
 use Rattle.book.specs.declared.Event.the-variants.{Limit, Balance, Block, New, Replace, Cancel, Fill, Junk}
 use Rattle.book.specs.Books.{Book, setLine, work}
-use Rattle.book.specs.SetAgain.{LineName, ownLine, defaultLine, lineSet, lineOver, SetsAgain}
+use Rattle.book.specs.SetAgain.{ownLine, defaultLine, lineSet, lineOver, SetsAgain}
 use Rattle.book.proofs.Tables.{at-each}
 use Rattle.book.proofs.LimitsStay.{test, under-own, under-default}
-
--- only a LIMIT sets a line
-none-set : {P : Type 0} (x : LineName) → _≡_ {A = Option LineName} none (some x) → P
-none-set x e = absurd (let z : _≡_ {A = ℕ} 0 1 = cc in omega arith)
 
 -- an event that sets a default line leaves every own line
 default-keeps-own : (unit : Order → ℕ) (b : Book) (e : Event) (a c i : ℕ) → lineSet e ≡ some (defaultLine a c) → work unit b e .linesOf a .ownOf i ≡ b .linesOf a .ownOf i

@@ -40,9 +40,3 @@ magnitude-product-≤ x y m n h k = omega (arith, magnitude-product x y, mul-le-
 -- ---- between two bounds and a magnitude
 pub within-in : (z : ℤ) (m : ℕ) → negℤ (pos m) ≤ℤ z → z ≤ℤ pos m → natAbs z ≤ m
 within-in z m h k = omega (signed, negation-parts (pos m), magnitude-parts z)
-
-pub within-low : (z : ℤ) (m : ℕ) → natAbs z ≤ m → negℤ (pos m) ≤ℤ z
-within-low z m h = omega (signed, negation-parts (pos m), magnitude-parts z)
-
-pub within-high : (z : ℤ) (m : ℕ) → natAbs z ≤ m → z ≤ℤ pos m
-within-high z m h = omega (signed, magnitude-parts z)

@@ -1,7 +1,7 @@
--- The order under a product: what a factor of known sign does to ≤ and <, and the sign of a product.
+-- The order under a product: what a factor of known sign does to ≤ and <.
 use Prim.Native.Nat.{ℕ}
 use native.Mathlib.Nat.{mul-le-mul-left}
-use lib.IntN.{ℤ, pos, negsuc, negℤ, _*ℤ_, *ℤ-zero}
+use lib.IntN.{ℤ, pos, negsuc, negℤ, _*ℤ_}
 use lib.Signed.{_≤ℤ_, _<ℤ_}
 use Rattle.integers.specs.Parts.{signed, ≤-parts, <-parts, negation-parts, scaled-parts}
 use Rattle.integers.specs.Ring.{negℤ-*ℤ}
@@ -21,20 +21,3 @@ product-< (negsuc n) x y s h = absurd (omega signed)
 pub flipped-≤ : (k x y : ℤ) → k ≤ℤ pos 0 → x ≤ℤ y → (k *ℤ y) ≤ℤ (k *ℤ x)
 flipped-≤ k x y s h =
     omega (signed, negℤ-*ℤ k x, negℤ-*ℤ k y, negation-parts (k *ℤ x), negation-parts (k *ℤ y), product-≤ (negℤ k) x y (omega (signed, negation-parts k)) h)
-
-pub flipped-< : (k x y : ℤ) → k <ℤ pos 0 → x <ℤ y → (k *ℤ y) <ℤ (k *ℤ x)
-flipped-< k x y s h =
-    omega (signed, negℤ-*ℤ k x, negℤ-*ℤ k y, negation-parts (k *ℤ x), negation-parts (k *ℤ y), product-< (negℤ k) x y (omega (signed, negation-parts k)) h)
-
--- ---- the sign
-pub product-nonneg : (x y : ℤ) → pos 0 ≤ℤ x → pos 0 ≤ℤ y → pos 0 ≤ℤ (x *ℤ y)
-product-nonneg x y h k = rw (*ℤ-zero x) at (product-≤ x (pos 0) y h k)
-
-pub product-nonpos : (x y : ℤ) → pos 0 ≤ℤ x → y ≤ℤ pos 0 → (x *ℤ y) ≤ℤ pos 0
-product-nonpos x y h k = rw (*ℤ-zero x) at (product-≤ x y (pos 0) h k)
-
-pub product-positive : (x y : ℤ) → pos 0 <ℤ x → pos 0 <ℤ y → pos 0 <ℤ (x *ℤ y)
-product-positive x y h k = rw (*ℤ-zero x) at (product-< x (pos 0) y h k)
-
-pub product-negative : (x y : ℤ) → pos 0 <ℤ x → y <ℤ pos 0 → (x *ℤ y) <ℤ pos 0
-product-negative x y h k = rw (*ℤ-zero x) at (product-< x y (pos 0) h k)

@@ -55,23 +55,11 @@ pub all₃ : (P : ℤ → ℤ → ℤ → Type 0) → ((a b c d e f : ℕ) → P
 all₃ P f x y z = all₁ (λ u. P u y z) (λ a b. all₂ (P (a ⊖ b)) (f a b) y z) x
 
 -- ---- the laws
-pub *ℤ-assoc : (x y z : ℤ) → (x *ℤ y) *ℤ z ≡ x *ℤ (y *ℤ z)
-*ℤ-assoc = all₃ _ (λ a b c d e f. simp ⊖-ring (omega ⊖-arith))
-
 pub *ℤ-+ℤ : (x y z : ℤ) → x *ℤ (y +ℤ z) ≡ x *ℤ y +ℤ x *ℤ z
 *ℤ-+ℤ = all₃ _ (λ a b c d e f. simp ⊖-ring (omega ⊖-arith))
-
-pub +ℤ-*ℤ : (x y z : ℤ) → (x +ℤ y) *ℤ z ≡ x *ℤ z +ℤ y *ℤ z
-+ℤ-*ℤ = all₃ _ (λ a b c d e f. simp ⊖-ring (omega ⊖-arith))
-
-pub *ℤ--ℤ : (x y z : ℤ) → x *ℤ (y -ℤ z) ≡ x *ℤ y -ℤ x *ℤ z
-*ℤ--ℤ = all₃ _ (λ a b c d e f. simp ⊖-ring (omega ⊖-arith))
 
 pub negℤ-*ℤ : (x y : ℤ) → negℤ x *ℤ y ≡ negℤ (x *ℤ y)
 negℤ-*ℤ = all₂ _ (λ a b c d. simp ⊖-ring (omega ⊖-arith))
 
 pub *ℤ-negℤ : (x y : ℤ) → x *ℤ negℤ y ≡ negℤ (x *ℤ y)
 *ℤ-negℤ = all₂ _ (λ a b c d. simp ⊖-ring (omega ⊖-arith))
-
-pub sign-swap : (x y : ℤ) → negℤ x *ℤ y ≡ x *ℤ negℤ y
-sign-swap = all₂ _ (λ a b c d. simp ⊖-ring (omega ⊖-arith))

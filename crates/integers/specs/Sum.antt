@@ -1,17 +1,16 @@
 -- Sums of integers, over the elements of a list and over the numbers below n.
-use mathlib.Core.Path.{_≡_, refl, sym, ap, _∙_}
+use mathlib.Core.Path.{_≡_, refl, sym, ap}
 use mathlib.Core.Logic.{_≢_, ⊎-elim}
 use mathlib.Core.List.{List, [], _∷_, _++_, List·Memᴰ, List·Memᴰ·head, List·Memᴰ·tail, List·Memᴰ·not-nil, List·Memᴰ·append-cases, List·Memᴰ·eq-of-singleton}
 use Prim.Native.Nat.{ℕ, zero, suc, _+_, _*_, _≤_, _<_}
 use native.Mathlib.Decide.{ℕ-discrete}
 use native.Mathlib.Numerals.{add-one}
 use native.Mathlib.Omega.{arith}
-use lib.ListN.{length, getD, length-append}
-use lib.IntN.{ℤ, pos, negℤ, natAbs, _+ℤ_, _-ℤ_, _*ℤ_, +ℤ-assoc, +ℤ-idl, +ℤ-idr, *ℤ-zero, negℤ-+ℤ}
+use lib.ListN.{length, length-append}
+use lib.IntN.{ℤ, pos, negℤ, natAbs, _+ℤ_, _-ℤ_, +ℤ-assoc, +ℤ-idl, +ℤ-idr, negℤ-+ℤ}
 use lib.Signed.{_≤ℤ_}
 use Rattle.integers.specs.Parts.{signed, sum-parts, difference-parts}
 use Rattle.integers.specs.Magnitude.{magnitude-sum}
-use Rattle.integers.specs.Ring.{*ℤ-+ℤ}
 
 -- h x₁ + h x₂ + … for the elements of the list
 unfoldable pub sumOver : {A : Type 0} → (A → ℤ) → List A → ℤ
@@ -76,11 +75,6 @@ module _ {A : Type 0} where
   sumOver-negated f [] = refl
   sumOver-negated f (x ∷ xs) = rw (sumOver-negated f xs, negℤ-+ℤ)
 
-  pub sumOver-scaled : (k : ℤ) (f : A → ℤ) (xs : List A) → sumOver (λ a. k *ℤ f a) xs ≡ k *ℤ sumOver f xs
-  unfolding sumOver
-  sumOver-scaled k f [] = sym (*ℤ-zero k)
-  sumOver-scaled k f (x ∷ xs) = rw (sumOver-scaled k f xs, *ℤ-+ℤ)
-
   pub sumOver-magnitude : (f : A → ℤ) (xs : List A) (m : ℕ) → ((a : A) → List·Memᴰ a xs → natAbs (f a) ≤ m) → natAbs (sumOver f xs) ≤ length xs * m
   unfolding sumOver
   sumOver-magnitude f [] m h = omega arith
@@ -115,9 +109,6 @@ sumTo-mono f g n h = sumOver-mono f g (below n) (λ i m. h i (in-below n m))
 pub sumTo-same : (f g : ℕ → ℤ) (n : ℕ) → ((i : ℕ) → i < n → f i ≡ g i) → sumTo f n ≡ sumTo g n
 sumTo-same f g n h = sumOver-same f g (below n) (λ i m. h i (in-below n m))
 
-pub sumTo-zero : (f : ℕ → ℤ) (n : ℕ) → ((i : ℕ) → i < n → f i ≡ pos 0) → sumTo f n ≡ pos 0
-sumTo-zero f n h = sumOver-zero f (below n) (λ i m. h i (in-below n m))
-
 pub sumTo-magnitude : (f : ℕ → ℤ) (n m : ℕ) → ((i : ℕ) → i < n → natAbs (f i) ≤ m) → natAbs (sumTo f n) ≤ n * m
 sumTo-magnitude f n m h = rw (length-below n) at (sumOver-magnitude f (below n) m (λ i k. h i (in-below n k)))
 
@@ -134,13 +125,3 @@ sumTo-change f g (suc n) j h same = by-place (ℕ-discrete j n) (λ k. sumTo-cha
         omega (signed, sumTo-same f g n (λ i l. same i (omega arith) (omega arith)), ap f e, ap g e, sumTo-suc f n, sumTo-suc g n, sum-parts (sumTo f n) (f n), sum-parts (sumTo g n) (g n), difference-parts (g j) (f j), sum-parts (sumTo f (suc n)) change)
     by-place (no apart) rest =
         omega (signed, rest (omega arith), same n (omega arith) (λ e. apart (sym e)), sumTo-suc f n, sumTo-suc g n, sum-parts (sumTo f n) (f n), sum-parts (sumTo g n) (g n), sum-parts (sumTo f n) change, sum-parts (sumTo f (suc n)) change)
-
--- ---- a list's sum by the places of its elements
-sumTo-first : (f : ℕ → ℤ) (n : ℕ) → sumTo f (suc n) ≡ f 0 +ℤ sumTo (λ i. f (suc i)) n
-sumTo-first f zero = simp (sumTo-suc f 0, sumTo-none, +ℤ-idl, +ℤ-idr)
-sumTo-first f (suc n) = rw (sumTo-suc f (suc n), sumTo-suc (λ i. f (suc i)) n, sumTo-first f n, +ℤ-assoc)
-
-pub sumOver-places : {A : Type 0} (h : A → ℤ) (d : A) (xs : List A) → sumOver h xs ≡ sumTo (λ i. h (getD xs i d)) (length xs)
-unfolding sumOver
-sumOver-places h d [] = sym (sumTo-none _)
-sumOver-places h d (x ∷ xs) = ap (λ s. h x +ℤ s) (sumOver-places h d xs) ∙ sym (sumTo-first (λ i. h (getD (x ∷ xs) i d)) (length xs))

@@ -84,12 +84,6 @@ unfolding bitsOf
 bits-below b (pos n) r = omega (signed, twice-half b (r .some-bit))
 bits-below b (negsuc n) r = pow-sub-lt b (omega arith)
 
-pub signed-injective : (b m n : ℕ) → m < 2 ^ b → n < 2 ^ b → signedOf b m ≡ signedOf b n → m ≡ n
-signed-injective b m n h k e = cc (bits-signed b m h, bits-signed b n k)
-
-pub bits-injective : (b : ℕ) (y z : ℤ) → InBits b y → InBits b z → bitsOf b y ≡ bitsOf b z → y ≡ z
-bits-injective b y z r s e = cc (signed-bits b y r, signed-bits b z s)
-
 -- ---- the machine's reading is this one, at each of its widths
 pub fits-in-bits : (w : Width) (z : ℤ) → SFits w z → InBits (bits w) z
 fits-in-bits w z f =
@@ -107,20 +101,3 @@ signed-toZ w n h =
     let f : Fits w n = record { fits = h } in
     let z : ℤ = toZ w n in
     cc (bits-ofZ w z, ofZ-toZ w n f, signed-bits (bits w) z (fits-in-bits w z (toZ-fits w n f)))
-
--- ---- examples
-pub minus-two-32 : signedOf 32 4294967294 ≡ negsuc 1
-unfolding signedOf
-minus-two-32 = refl
-
-pub minus-two-64 : signedOf 64 18446744073709551614 ≡ negsuc 1
-unfolding signedOf
-minus-two-64 = refl
-
-pub minus-two-32-back : bitsOf 32 (negsuc 1) ≡ 4294967294
-unfolding bitsOf
-minus-two-32-back = refl
-
-pub minus-two-64-back : bitsOf 64 (negsuc 1) ≡ 18446744073709551614
-unfolding bitsOf
-minus-two-64-back = refl

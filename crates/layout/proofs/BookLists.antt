@@ -1,17 +1,17 @@
--- The book's `change` at a place: an order found at place p leaves, or becomes another; and the figures of each list are words.
+-- The book's `change` at a place: an order found at place p leaves, or becomes another.
 use Prim.Native.Nat.{ℕ, zero, suc, _+_, _≤_}
 use mathlib.Core.Path.{_≡_, ap}
 use mathlib.Core.Bool.{Bool, true, false, cond}
 use mathlib.Core.List.{List, [], _∷_, _++_}
 use native.Mathlib.Omega.{arith}
-use lib.Dec.{ltb, eqb}
+use lib.Dec.{eqb}
 use lib.ListN.{set}
 use Rattle.ledger.specs.declared.order.Order.{Order}
 use Rattle.ledger.specs.declared.find.Found.the-variants.{At}
 use Rattle.ledger.specs.Orders.{placeFrom}
 use Rattle.ledger.specs.Records.{ordersFrom}
-use Rattle.book.specs.OpenOrders.{insert, change}
-use Rattle.layout.specs.Stores.{orderIn, ordersIn, SmallOrder, SmallOrders, without}
+use Rattle.book.specs.OpenOrders.{change}
+use Rattle.layout.specs.Stores.{orderIn, ordersIn, without}
 
 -- a place that was found is not before the first
 pub place-from : (id q p : ℕ) (os : List Order) → placeFrom q id os ≡ At p → q ≤ p
@@ -63,24 +63,3 @@ module _ (m : List ℕ) (id : ℕ) (f : Order → List Order) where
       by false d later =
           let s : q + suc p ≡ q + 1 + p = omega arith in
           ap (λ l. orderIn m q ∷ l) (later (rw s at d) (rw s at new))
-
--- ---- figures that are words
-pub small-insert : (o : Order) (os : List Order) → SmallOrder o → SmallOrders os → SmallOrders (insert o os)
-unfolding insert
-small-insert o [] small smalls = (small, tt)
-small-insert o (x ∷ os) small smalls = by (ltb (o .id) (x .id)) (small-insert o os small (smalls .1))
-  where
-    by : (t : Bool) → SmallOrders (insert o os) → SmallOrders (cond t (o ∷ x ∷ os) (x ∷ insert o os))
-    by true later = (small, (smalls .0, smalls .1))
-    by false later = (smalls .0, later)
-
-pub small-without : (p : ℕ) (os : List Order) → SmallOrders os → SmallOrders (without p os)
-unfolding without
-small-without p [] smalls = tt
-small-without zero (o ∷ os) smalls = smalls .1
-small-without (suc p) (o ∷ os) smalls = (smalls .0, small-without p os (smalls .1))
-
-pub small-set : (p : ℕ) (o : Order) (os : List Order) → SmallOrder o → SmallOrders os → SmallOrders (set os p o)
-small-set p o [] small smalls = tt
-small-set zero o (x ∷ os) small smalls = (small, smalls .1)
-small-set (suc p) o (x ∷ os) small smalls = (smalls .0, small-set p o os small (smalls .1))

@@ -10,10 +10,10 @@ use Rattle.words.proofs.Memory.{word-below}
 use Rattle.words.proofs.Runs.{length-puts, bytes-puts, word-puts-other, word-puts-same, puts-back}
 use Rattle.words.proofs.Parts.{word-part}
 use Rattle.ledger.specs.declared.order.Order.{Order}
-use Rattle.ledger.specs.Records.{packed, packedSide, packedAccount, packedInstrument, orderAt, ordersFrom}
+use Rattle.ledger.specs.Records.{packedSide, packedAccount, packedInstrument, orderAt, ordersFrom}
 use Rattle.ledger.proofs.Packing.{packed-again, packed-below, account-back, instrument-back, side-back, word-packable}
 use Rattle.layout.specs.Layout.{ordersWord}
-use Rattle.layout.specs.Stores.{orderWord, orderIn, ordersIn, fields, putOrder, SmallOrder, SmallOrders}
+use Rattle.layout.specs.Stores.{orderWord, orderIn, ordersIn, fields, putOrder, SmallOrder}
 
 -- ---- the words of a record
 -- the order of four words: w is side, account and instrument packed
@@ -126,9 +126,3 @@ small-record m p h bytes =
       total = word-below m (k + 2) bytes;
       filled = word-below m (k + 3) bytes;
     })
-
-pub small-records : (m : List ℕ) (n p : ℕ) → p + n ≤ 256 → Bytes m → SmallOrders (ordersIn m p n)
-unfolding ordersFrom
-small-records m zero p h bytes = tt
-small-records m (suc n) p h bytes =
-    (small-record m p (omega arith) bytes, small-records m n (p + 1) (omega arith) bytes)

@@ -11,7 +11,7 @@ use Rattle.ledger.specs.declared.order.Order.{Order}
 use Rattle.ledger.specs.declared.find.Found.the-variants.{At, Nothing}
 use Rattle.ledger.specs.Orders.{placeFrom}
 use Rattle.ledger.specs.Records.{orderAt, ordersFrom}
-use Rattle.book.specs.Sound.{Ascending, nothing, next}
+use Rattle.book.specs.Sound.{Ascending, next}
 use Rattle.layout.specs.Layout.{countWord, ordersWord}
 use Rattle.layout.specs.View.{openOrders}
 use Rattle.layout.specs.Stores.{orderWord, rank}

@@ -10,14 +10,12 @@ use lib.IntN.{ℤ}
 use lib.ListN.{length, getD}
 use Rattle.integers.specs.TwosComplement.{bitsOf}
 use Rattle.words.specs.Words.{AreWords, wordAt, putWord, putSigned, putWords}
-use Rattle.words.proofs.Memory.{length-put, word-put-same, word-put-other}
+use Rattle.words.proofs.Memory.{word-put-same, word-put-other}
 use Rattle.words.proofs.Runs.{length-puts, word-puts-same, word-puts-other}
 use Rattle.limits.specs.Lines.{Line, GroupLine}
-use Rattle.layout.specs.Layout.{countWord}
 use Rattle.layout.specs.View.{flag, lineAt, groupLineAt}
 use Rattle.layout.specs.FieldStores.{bit, storeLine, storeGroupLine}
-use Rattle.layout.proofs.RosterLaws.{roster-same}
-use Rattle.layout.proofs.SameFields.{Same, Held}
+use Rattle.layout.proofs.SameFields.{Same}
 
 -- every word but word j is the same
 abbrev pub Except : ℕ → List ℕ → List ℕ → Type 0
@@ -32,19 +30,6 @@ except-signed m j z = except-put m j (bitsOf 64 z)
 
 pub except-same : (l m : List ℕ) (j low high : ℕ) → Except j l m → (low ≤ j → j < high → ⊥) → Same low high l m
 except-same l m j low high others outside k from below = others k (λ e. outside (omega arith) (omega arith))
-
-pub length-signed : (m : List ℕ) (j : ℕ) (z : ℤ) → length (putSigned m j z) ≡ length m
-unfolding putSigned
-length-signed m j z = length-put m j (bitsOf 64 z)
-
--- a memory whose roster and count are the same is held as well
-pub held-same : (l m : List ℕ) → Held m → length l ≡ length m → Same 1 77 l m → wordAt l countWord ≡ wordAt m countWord → Held l
-held-same l m held long words count =
-    record {
-      long = omega (arith, held .long);
-      sized = rw (roster-same l m (held .sized) words) (held .sized);
-      count = omega (arith, held .count);
-    }
 
 -- ---- a yes or no
 pub flag-bit : (m : List ℕ) (j : ℕ) (on : Bool) → j * 8 + 8 ≤ length m → flag (putWord m j (bit on)) j ≡ on
@@ -74,10 +59,6 @@ two-words a b ha hb (suc zero) = hb
 two-words a b ha hb (suc (suc i)) = omega arith
 
 module _ (m : List ℕ) (s k : ℕ) where
-  pub length-line : (x : Option Line) → length (storeLine m s k x) ≡ length m
-  length-line none = length-put m s 0
-  length-line (some l) = length-put (putWords m k (l .tci ∷ l .tvi ∷ l .lci ∷ l .lvi ∷ [])) s 1 ∙ length-puts m k (l .tci ∷ l .tvi ∷ l .lci ∷ l .lvi ∷ [])
-
   -- a word of neither is as it was
   pub line-elsewhere : (x : Option Line) (j : ℕ) → j ≢ s → (k ≤ j → j < k + 4 → ⊥) → wordAt (storeLine m s k x) j ≡ wordAt m j
   line-elsewhere none j other outside = word-put-other m s 0 j other
@@ -100,10 +81,6 @@ module _ (m : List ℕ) (s k : ℕ) where
       let first : wordAt (putWord laid s 1) k ≡ l .tci = ap (wordAt (putWord laid s 1)) (omega arith) ∙ word 0 (omega arith) in
       let set-now : flag (putWord laid s 1) s ≡ true = flag-bit laid s true (omega (arith, length-puts m k fs)) in
       rw (set-now, first, word 1 (omega arith), word 2 (omega arith), word 3 (omega arith))
-
-  pub length-group-line : (x : Option GroupLine) → length (storeGroupLine m s k x) ≡ length m
-  length-group-line none = length-put m s 0
-  length-group-line (some l) = length-put (putWords m k (l .lcc ∷ l .lvc ∷ [])) s 1 ∙ length-puts m k (l .lcc ∷ l .lvc ∷ [])
 
   pub group-line-elsewhere : (x : Option GroupLine) (j : ℕ) → j ≢ s → (k ≤ j → j < k + 2 → ⊥) → wordAt (storeGroupLine m s k x) j ≡ wordAt m j
   group-line-elsewhere none j other outside = word-put-other m s 0 j other

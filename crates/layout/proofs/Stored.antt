@@ -5,15 +5,14 @@ use mathlib.Core.Logic.{_≢_}
 use mathlib.Core.List.{List, [], _∷_}
 use native.Mathlib.Omega.{arith}
 use lib.ListN.{length}
-use Rattle.words.specs.Bytes.{Bytes}
 use Rattle.words.specs.Words.{wordAt, putWord}
-use Rattle.words.proofs.Memory.{length-put, bytes-put, word-put-same, word-put-other}
+use Rattle.words.proofs.Memory.{length-put, word-put-same, word-put-other}
 use Rattle.ledger.specs.declared.order.Order.{Order}
 use Rattle.ledger.specs.Records.{ordersFrom}
 use Rattle.layout.specs.Layout.{countWord}
 use Rattle.layout.specs.View.{openOrders}
 use Rattle.layout.specs.Stores.{orderWord, orderIn, ordersIn, putOrder, putOrders, storeOrders, SmallOrders}
-use Rattle.layout.proofs.OrderRecords.{same-record, same-records, length-order, bytes-order, word-order-other, order-back}
+use Rattle.layout.proofs.OrderRecords.{same-record, same-records, length-order, word-order-other, order-back}
 
 pub length-orders-in : (m : List ℕ) (n p : ℕ) → length (ordersIn m p n) ≡ n
 unfolding ordersFrom
@@ -25,11 +24,6 @@ pub length-orders : (os : List Order) (m : List ℕ) (p : ℕ) → length (putOr
 unfolding putOrders
 length-orders [] m p = refl
 length-orders (o ∷ os) m p = length-orders os (putOrder m p o) (p + 1) ∙ length-order m p o
-
-pub bytes-orders : (os : List Order) (m : List ℕ) (p : ℕ) → Bytes m → Bytes (putOrders m p os)
-unfolding putOrders
-bytes-orders [] m p bytes = bytes
-bytes-orders (o ∷ os) m p bytes = bytes-orders os (putOrder m p o) (p + 1) (bytes-order m p o bytes)
 
 pub word-orders-other : (os : List Order) (m : List ℕ) (p j : ℕ) → (orderWord p ≤ j → j < orderWord (p + length os) → ⊥) → wordAt (putOrders m p os) j ≡ wordAt m j
 unfolding putOrders
@@ -54,10 +48,6 @@ module _ (m : List ℕ) (os : List Order) where
   pub length-store : length (storeOrders m os) ≡ length m
   unfolding storeOrders
   length-store = length-put (putOrders m 0 os) countWord (length os) ∙ length-orders os m 0
-
-  pub bytes-store : Bytes m → Bytes (storeOrders m os)
-  unfolding storeOrders
-  bytes-store bytes = bytes-put (putOrders m 0 os) countWord (length os) (bytes-orders os m 0 bytes)
 
   module _ (few : length os ≤ 256) where
     -- a word outside the count and the records is as it was

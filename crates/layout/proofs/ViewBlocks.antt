@@ -6,7 +6,6 @@ use mathlib.Core.List.{List}
 use native.Mathlib.Omega.{arith}
 use lib.IntN.{ℤ}
 use Rattle.words.specs.Words.{putWord}
-use Rattle.words.proofs.Memory.{length-put}
 use Rattle.ledger.specs.declared.order.Order.{Order}
 use Rattle.ledger.specs.Roster.{Numbered}
 use Rattle.limits.specs.Asked.{isZero}
@@ -20,7 +19,7 @@ use Rattle.layout.specs.FieldStores.{bit, blockAccount, blockInstrument,
 use Rattle.layout.proofs.GuardedTables.{table-at, row-at, same-blocks, same-view}
 use Rattle.layout.proofs.SameFields.{Held, groupBlockAt, same-flag, balances-same, marks-same, account-blocks-same, instrument-blocks-same, group-blocks-same, blocks-are}
 use Rattle.layout.proofs.StoreWords.{Except, except-put, except-same, flag-bit}
-use Rattle.layout.proofs.ViewStores.{one-roster, one-lines, one-orders, one-held}
+use Rattle.layout.proofs.ViewStores.{one-roster, one-lines, one-orders}
 
 -- ---- a memory that differs in one word of the blocks
 module _ (m : List ℕ) (held : Held m) (j v : ℕ) (from : 144 ≤ j) (below : j < 256) where
@@ -32,9 +31,6 @@ module _ (m : List ℕ) (held : Held m) (j v : ℕ) (from : 144 ≤ j) (below : 
 
   block-roster : rosterOf put ≡ rosterOf m
   block-roster = one-roster put m held j others (omega arith) (omega arith)
-
-  pub held-block : Held put
-  held-block = one-held put m held j others (omega arith) (omega arith) (length-put m j v)
 
   block-view : (unit : Order → ℕ) (what : Blocked) (z : ℤ) → blocksOf put ≡ setBlock what (not (isZero z)) (blocksOf m) → view put ≡ record { book = work unit (bookOf m) (Block what z); trading = tradingOf m }
   unfolding view bookOf work

@@ -18,8 +18,8 @@ use Rattle.layout.specs.View.{rosterOf, bookOf, tradingOf, view}
 use Rattle.layout.specs.FieldStores.{storeOwn, storeDefault, storeOfGroup}
 use Rattle.layout.proofs.GuardedTables.{table-at}
 use Rattle.layout.proofs.SameFields.{Same, Held, ownAt, defaultAt, ofGroupAt, same-own, same-of-group, own-same, default-same, of-group-same}
-use Rattle.layout.proofs.StoreWords.{SmallLine, SmallGroupLine, length-line, line-elsewhere, line-back, length-group-line, group-line-elsewhere, group-line-back}
-use Rattle.layout.proofs.ViewLines.{lines-roster, held-lines, lines-view, changed-own, changed-default, changed-of-group}
+use Rattle.layout.proofs.StoreWords.{SmallLine, SmallGroupLine, line-elsewhere, line-back, group-line-elsewhere, group-line-back}
+use Rattle.layout.proofs.ViewLines.{lines-roster, lines-view, changed-own, changed-default, changed-of-group}
 
 -- ---- an instrument's own line
 module _ (m : List ℕ) (held : Held m) (a i : ℕ) (f : Figures) (small : SmallLine (lineOf f)) (on-a : Numbered (rosterOf m .accounts) a) (on-i : Numbered (rosterOf m .instruments) i) where
@@ -41,9 +41,6 @@ module _ (m : List ℕ) (held : Held m) (a i : ℕ) (f : Figures) (small : Small
 
   pub roster-own : rosterOf own ≡ rosterOf m
   roster-own = lines-roster own m held own-before own-after
-
-  pub held-own : Held own
-  held-own = held-lines own m held own-before own-after (length-line m (ownSetRow a + i) (ownRow a + i * 4) (lineOf f))
 
   pub view-own : (unit : Order → ℕ) → view own ≡ record { book = work unit (bookOf m) (Limit a (Own i f)); trading = tradingOf m }
   view-own unit =
@@ -78,9 +75,6 @@ module _ (m : List ℕ) (held : Held m) (a c : ℕ) (f : Figures) (small : Small
   pub roster-default : rosterOf default ≡ rosterOf m
   roster-default = lines-roster default m held default-before default-after
 
-  pub held-default : Held default
-  held-default = held-lines default m held default-before default-after (length-line m (defaultSetRow a + c) (defaultRow a + c * 4) (lineOf f))
-
   pub view-default : (unit : Order → ℕ) → view default ≡ record { book = work unit (bookOf m) (Limit a (Default c f)); trading = tradingOf m }
   view-default unit =
       let sized = held .sized in
@@ -113,9 +107,6 @@ module _ (m : List ℕ) (held : Held m) (a g : ℕ) (x y : ℤ) (small : SmallGr
 
   pub roster-of-group : rosterOf of-group ≡ rosterOf m
   roster-of-group = lines-roster of-group m held of-group-before of-group-after
-
-  pub held-of-group : Held of-group
-  held-of-group = held-lines of-group m held of-group-before of-group-after (length-group-line m (groupSetRow a + g) (groupRow a + g * 2) (groupLineOf x y))
 
   pub view-of-group : (unit : Order → ℕ) → view of-group ≡ record { book = work unit (bookOf m) (Limit a (OfGroup g x y)); trading = tradingOf m }
   view-of-group unit =

@@ -6,7 +6,6 @@ use mathlib.Core.List.{List}
 use mathlib.Core.Option.{Option, none}
 use native.Mathlib.Omega.{arith}
 use lib.IntN.{ℤ}
-use lib.ListN.{length}
 use Rattle.ledger.specs.declared.order.Order.{Order}
 use Rattle.ledger.specs.Roster.{Numbered}
 use Rattle.ledger.proofs.Ways.{by-number}
@@ -22,16 +21,11 @@ use Rattle.layout.specs.View.{rosterOf, linesOf, bookOf, tradingOf, view
 use Rattle.layout.proofs.RosterLaws.{roster-same}
 use Rattle.layout.proofs.GuardedTables.{tableOf, same-lines, same-view}
 use Rattle.layout.proofs.SameFields.{Same, Held, ownAt, defaultAt, ofGroupAt, linesBy, balances-same, blocks-same, marks-same, orders-same, lines-are}
-use Rattle.layout.proofs.StoreWords.{held-same}
 
 -- ---- a memory that differs in words of the lines only
 module _ (l m : List ℕ) (held : Held m) (before : Same 1 768 l m) (after : Same 4224 6272 l m) where
   pub lines-roster : rosterOf l ≡ rosterOf m
   lines-roster = roster-same l m (held .sized) (λ k low high. before k low (omega arith))
-
-  pub held-lines : length l ≡ length m → Held l
-  held-lines long =
-      held-same l m held long (λ k low high. before k low (omega arith)) (before countWord (omega arith) (omega arith))
 
   pub lines-view : (unit : Order → ℕ) (a : ℕ) (line : LimitLine) → linesOf l ≡ at a (setLine line (linesOf m a)) (linesOf m) → view l ≡ record { book = work unit (bookOf m) (Limit a line); trading = tradingOf m }
   unfolding view bookOf work

@@ -3,25 +3,22 @@ use Prim.Native.Nat.{ℕ, _+_, _≤_, _<_}
 use mathlib.Core.Path.{_≡_, _∙_, sym, ap}
 use mathlib.Core.List.{List, [], _∷_}
 use native.Mathlib.Omega.{arith}
-use lib.ListN.{length, set, length-set}
+use lib.ListN.{length, set}
 use Rattle.words.specs.Bytes.{Bytes}
 use Rattle.words.specs.Words.{wordAt}
 use Rattle.ledger.specs.declared.order.Order.{Order}
 use Rattle.ledger.specs.declared.find.Found.the-variants.{At}
 use Rattle.ledger.specs.Orders.{placeFrom}
-use Rattle.ledger.proofs.Search.{found-place}
-use Rattle.book.specs.OpenOrders.{insert, change}
+use Rattle.book.specs.OpenOrders.{change}
 use Rattle.book.specs.Books.{withOrders}
 use Rattle.layout.specs.Layout.{countWord}
 use Rattle.layout.specs.View.{rosterOf, openOrders, bookOf, tradingOf, view}
-use Rattle.layout.specs.Stores.{orderWord, orderIn, storeOrders, SmallOrder, SmallOrders, Records, without}
+use Rattle.layout.specs.Stores.{orderWord, orderIn, storeOrders, SmallOrders, Records, without}
 use Rattle.layout.proofs.RosterLaws.{roster-same}
 use Rattle.layout.proofs.GuardedTables.{same-view}
 use Rattle.layout.proofs.SameFields.{Same, Held, balances-same, lines-same, blocks-same, marks-same}
-use Rattle.layout.proofs.OrderRecords.{small-records}
-use Rattle.layout.proofs.Stored.{length-orders-in, length-store, word-store, count-store, orders-store}
-use Rattle.layout.proofs.Shifting.{length-insert, length-without}
-use Rattle.layout.proofs.BookLists.{leaving, becoming, small-insert, small-without, small-set}
+use Rattle.layout.proofs.Stored.{length-store, word-store, count-store, orders-store}
+use Rattle.layout.proofs.BookLists.{leaving, becoming}
 
 -- ---- the view of stored orders
 module _ (m : List ℕ) (os : List Order) (held : Held m) (few : length os ≤ 256) where
@@ -54,27 +51,8 @@ module _ (m : List ℕ) (os : List Order) (held : Held m) (few : length os ≤ 2
 
 -- ---- the lists are the book's
 module _ (m : List ℕ) (bytes : Bytes m) (records : Records m) where
-  open-small : SmallOrders (openOrders m)
-  unfolding openOrders
-  open-small = small-records m (wordAt m countWord) 0 (omega (arith, records .count)) bytes
-
-  open-length : length (openOrders m) ≡ wordAt m countWord
-  unfolding openOrders
-  open-length = length-orders-in m (wordAt m countWord) 0
-
-  -- NEW
-  pub small-joined : (o : Order) → SmallOrder o → SmallOrders (insert o (openOrders m))
-  small-joined o small = small-insert o (openOrders m) small open-small
-
-  pub few-joined : (o : Order) → wordAt m countWord < 256 → length (insert o (openOrders m)) ≤ 256
-  few-joined o h = omega (arith, length-insert o (openOrders m), open-length)
-
   -- an order found by its id
   module _ (id p : ℕ) (found : placeFrom 0 id (openOrders m) ≡ At p) (f : Order → List Order) where
-    pub place-open : p < wordAt m countWord
-    unfolding openOrders
-    place-open = found-place _ id (wordAt m countWord) p found .0
-
     from-zero : 0 + p ≡ p
     from-zero = omega arith
 
@@ -89,15 +67,3 @@ module _ (m : List ℕ) (bytes : Bytes m) (records : Records m) where
     unfolding openOrders
     change-becomes y new =
         becoming m id f y (wordAt m countWord) 0 p (found ∙ ap At (sym from-zero)) (ap (λ q. f (orderIn m q)) from-zero ∙ new)
-
-  pub small-left : (p : ℕ) → SmallOrders (without p (openOrders m))
-  small-left p = small-without p (openOrders m) open-small
-
-  pub few-left : (p : ℕ) → p < wordAt m countWord → length (without p (openOrders m)) ≤ 256
-  few-left p h = omega (arith, length-without p (openOrders m) (omega (arith, open-length)), open-length, records .count)
-
-  pub small-changed : (p : ℕ) (o : Order) → SmallOrder o → SmallOrders (set (openOrders m) p o)
-  small-changed p o small = small-set p o (openOrders m) small open-small
-
-  pub few-changed : (p : ℕ) (o : Order) → length (set (openOrders m) p o) ≤ 256
-  few-changed p o = omega (arith, length-set (openOrders m) p o, open-length, records .count)

@@ -5,10 +5,8 @@ use mathlib.Core.Bool.{true}
 use mathlib.Core.List.{List}
 use native.Mathlib.Omega.{arith}
 use lib.IntN.{ℤ, pos}
-use lib.ListN.{length}
 use mir.Syntax.{w64}
 use mir.Val.{SFits}
-use Rattle.words.proofs.Memory.{length-put}
 use Rattle.words.proofs.TwosComplement.{signed-put-same, signed-put-other}
 use Rattle.ledger.specs.declared.order.Order.{Order}
 use Rattle.ledger.specs.Roster.{Numbered}
@@ -20,7 +18,7 @@ use Rattle.layout.specs.FieldStores.{storeBalance, storeMark}
 use Rattle.layout.proofs.RosterLaws.{roster-same}
 use Rattle.layout.proofs.GuardedTables.{tableOf, table-at, row-at, same-view}
 use Rattle.layout.proofs.SameFields.{Held, balanceAt, same-flag, balances-same, lines-same, blocks-same, marks-same, orders-same, marks-are}
-use Rattle.layout.proofs.StoreWords.{Except, except-put, except-signed, except-same, length-signed, held-same, flag-bit}
+use Rattle.layout.proofs.StoreWords.{Except, except-put, except-signed, except-same, flag-bit}
 
 -- ---- a memory that differs in one word, at 128 or later and before the lines
 module _ (l m : List ℕ) (held : Held m) (j : ℕ) (others : Except j l m) (from : 128 ≤ j) (below : j < 768) where
@@ -35,10 +33,6 @@ module _ (l m : List ℕ) (held : Held m) (j : ℕ) (others : Except j l m) (fro
   one-orders =
       orders-same l m held one-roster (others countWord (λ e. omega arith)) (except-same l m j 4224 6272 others (λ low high. omega arith))
 
-  pub one-held : length l ≡ length m → Held l
-  one-held long =
-      held-same l m held long (except-same l m j 1 77 others (λ low high. omega arith)) (others countWord (λ e. omega arith))
-
 -- ---- a balance
 module _ (m : List ℕ) (held : Held m) (a i : ℕ) (z : ℤ) (on-a : Numbered (rosterOf m .accounts) a) (on-i : Numbered (rosterOf m .instruments) i) (fits : SFits w64 z) where
   abbrev balanced : List ℕ
@@ -49,9 +43,6 @@ module _ (m : List ℕ) (held : Held m) (a i : ℕ) (z : ℤ) (on-a : Numbered (
 
   pub roster-balance : rosterOf balanced ≡ rosterOf m
   roster-balance = one-roster balanced m held (balanceRow a + i) (except-signed m (balanceRow a + i) z) (balance-word .0) (balance-word .2)
-
-  pub held-balance : Held balanced
-  held-balance = one-held balanced m held (balanceRow a + i) (except-signed m (balanceRow a + i) z) (balance-word .0) (balance-word .2) (length-signed m (balanceRow a + i) z)
 
   balances-stored : balancesOf balanced ≡ at a (at i z (balancesOf m a)) (balancesOf m)
   unfolding balancesOf
@@ -84,9 +75,6 @@ module _ (m : List ℕ) (held : Held m) (a : ℕ) (on-a : Numbered (rosterOf m .
 
   pub roster-mark : rosterOf marked ≡ rosterOf m
   roster-mark = one-roster marked m held (markWord a) (except-put m (markWord a) 1) (mark-word .0) (mark-word .1)
-
-  pub held-mark : Held marked
-  held-mark = one-held marked m held (markWord a) (except-put m (markWord a) 1) (mark-word .0) (mark-word .1) (length-put m (markWord a) 1)
 
   marks-stored : tradingOf marked ≡ at a true (tradingOf m)
   unfolding tradingOf

@@ -5,9 +5,8 @@ use mathlib.Core.Path.{_≡_, refl}
 use mathlib.Core.Logic.{by-cases}
 use mathlib.Core.Bool.{Bool, true, false, _&&_, cond}
 use native.Mathlib.Nat.{mul-le-mul-left}
-use native.Mathlib.Omega.{arith}
 use lib.Dec.{eqb}
-use lib.IntN.{ℤ, pos, negℤ, natAbs, _+ℤ_, _-ℤ_}
+use lib.IntN.{ℤ, pos, negℤ, _+ℤ_, _-ℤ_}
 use lib.Signed.{_≤ℤ_}
 use Rattle.integers.specs.Parts.{signed, difference-parts, negation-parts}
 use Rattle.ledger.specs.declared.order.Order.{Order}
@@ -57,9 +56,6 @@ module _ (unit : Order → ℕ) (s : Side) (a i : ℕ) (o : Order) where
 
   pub amount-none : amount unit s a i o 0 ≡ pos 0
   amount-none = by-amount 0 (λ x. x ≡ pos 0) (λ _. omega signed) (λ _. refl)
-
-  pub amount-magnitude : (n m : ℕ) → unit o * n ≤ m → natAbs (amount unit s a i o n) ≤ m
-  amount-magnitude n m l = by-amount n (λ x. natAbs x ≤ m) (λ _. l) (λ _. omega arith)
 
   pub amount-sum : (m n : ℕ) → amount unit s a i o (m + n) ≡ amount unit s a i o m +ℤ amount unit s a i o n
   amount-sum m n =

@@ -146,15 +146,9 @@ module _ {unit : Order → ℕ} {o : Order} {m m′ : ℕ} {orders orders′ : L
         let y = amount unit (sideTo (opposite v)) a i o n in
         omega (signed, fill-instrument i v, amount-nonneg unit (sideTo (opposite v)) a i o n, difference-parts x y))
 
-    pub fill-of-another : o .account ≢ a → potential unit r orders′ a S′ p w ≡ potential unit r orders a S p w
-    fill-of-another other = potential-same unit r a orders′ orders S′ S p w (λ i _. fill-level i (wayTo r p w i) (λ h. other (h .1)))
-
 -- ---- other changes
 module _ (unit : Order → ℕ) (r : Roster) (a : ℕ) (orders : List Order) (S : ℕ → ℤ) (p : Place) (w : Way) where
-  -- where no instrument's potential position rises none rises, and where none changes none changes
-  pub lower : (orders′ : List Order) (S′ : ℕ → ℤ) → ((i : ℕ) (v : Way) → ofInstrument unit orders′ a S′ i v ≤ℤ ofInstrument unit orders a S i v) → potential unit r orders′ a S′ p w ≤ℤ potential unit r orders a S p w
-  lower orders′ S′ le = potential-≤ unit r a orders′ orders S′ S p w (λ i _. le i (wayTo r p w i))
-
+  -- where no instrument's potential position changes none changes
   pub level : (orders′ : List Order) (S′ : ℕ → ℤ) → ((i : ℕ) (v : Way) → ofInstrument unit orders′ a S′ i v ≡ ofInstrument unit orders a S i v) → potential unit r orders′ a S′ p w ≡ potential unit r orders a S p w
   level orders′ S′ same = potential-same unit r a orders′ orders S′ S p w (λ i _. same i (wayTo r p w i))
 

@@ -11,8 +11,6 @@ pub mod Upper
 pub mod Reached
 pub mod Movement
 pub mod Changes
-pub mod Events
-pub mod Sizes
 pub mod Formulas
 pub mod Examples
 pub mod Packing

@@ -11,7 +11,7 @@ use Rattle.ledger.specs.declared.order.Order.{Order}
 use Rattle.ledger.specs.declared.order.Side.{Side}
 use Rattle.ledger.specs.Orders.{remaining}
 use Rattle.ledger.specs.Positions.{openOn}
-use Rattle.ledger.proofs.Amounts.{amount, Stands, amount-apart, amount-nonneg, amount-none}
+use Rattle.ledger.proofs.Amounts.{amount, Stands, amount-apart, amount-nonneg}
 
 -- ---- how two lists of orders may differ
 -- orders′ is orders with o joined to it, at any place; read the other way, o has left
@@ -72,15 +72,6 @@ module _ (unit : Order → ℕ) (s : Side) (a i : ℕ) where
 
   pub open-nowhere : (orders : List Order) → ((o : Order) → List·Memᴰ o orders → ¬ Stands s a i o) → openOn unit orders s a i ≡ pos 0
   open-nowhere orders h = rw open-sum (sumOver-zero adds orders (λ o m. amount-apart unit s a i o (remaining o) (h o m)))
-
-  -- nothing of the order remains, or it stands elsewhere
-  pub adds-nothing : (o : Order) → remaining o ≡ 0 → adds o ≡ pos 0
-  adds-nothing o e = rw e (amount-none unit s a i o)
-
-  pub open-elsewhere : (o : Order) (orders : List Order) → ¬ Stands s a i o → openOn unit (o ∷ orders) s a i ≡ openOn unit orders s a i
-  open-elsewhere o orders h =
-      let x = openOn unit orders s a i in
-      omega (signed, open-cons o orders, amount-apart unit s a i o (remaining o) h, sum-parts (adds o) x)
 
   pub open-joined : (o : Order) (orders orders′ : List Order) → Joined o orders orders′ → openOn unit orders′ s a i ≡ adds o +ℤ openOn unit orders s a i
   open-joined o orders orders′ j = simp open-sum (j adds)

@@ -5,9 +5,8 @@ use mathlib.Core.Logic.{_≢_}
 use mathlib.Core.Bool.{Bool, true, false}
 use native.Mathlib.Omega.{arith}
 use lib.Dec.{eqb}
-use lib.IntN.{ℤ, natAbs, _+ℤ_, negℤ-+ℤ}
+use lib.IntN.{ℤ, _+ℤ_, negℤ-+ℤ}
 use borrow.Author.Tests.{eqb-true, eqb-false}
-use Rattle.integers.specs.Magnitude.{magnitude-negation}
 use Rattle.ledger.specs.declared.order.Side.{Side}
 use Rattle.ledger.specs.declared.order.Side.the-variants.{Buy, Sell}
 use Rattle.ledger.specs.Positions.{Way, long, short, opposite, toward, wayOf, sideTo, sameSide}
@@ -51,7 +50,3 @@ by-number m n P same apart = go (eqb m n) (λ e. same (eqb-true m n e)) (λ e. a
 pub toward-sum : (w : Way) (x y : ℤ) → toward w (x +ℤ y) ≡ toward w x +ℤ toward w y
 toward-sum long x y = refl
 toward-sum short x y = negℤ-+ℤ x y
-
-pub toward-magnitude : (w : Way) (x : ℤ) → natAbs (toward w x) ≡ natAbs x
-toward-magnitude long x = refl
-toward-magnitude short x = magnitude-negation x

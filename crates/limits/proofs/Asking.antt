@@ -5,7 +5,7 @@ use mathlib.Core.Logic.{_↔_, _≢_}
 use mathlib.Core.Bool.{true, false, not}
 use native.Mathlib.Omega.{arith}
 use lib.IntN.{ℤ, pos, negsuc}
-use borrow.Author.Tests.{eqb-true, ne-eqb, not-true}
+use borrow.Author.Tests.{ne-eqb, not-true}
 use Rattle.ledger.specs.declared.order.Order.{Order}
 use Rattle.ledger.specs.Roster.{Roster, groupOfInstrument}
 use Rattle.ledger.specs.Positions.{Way, long, short, instrument, group, wayOf, wayBy}
@@ -24,10 +24,6 @@ true-sameWay long long e = refl
 true-sameWay long short e = cc
 true-sameWay short long e = cc
 true-sameWay short short e = refl
-
-pub isZero-true : (z : ℤ) → isZero z ≡ true → z ≡ pos 0
-isZero-true (pos n) e = rw (eqb-true n 0 e)
-isZero-true (negsuc n) e = cc
 
 pub isZero-false : (z : ℤ) → z ≢ pos 0 → isZero z ≡ false
 isZero-false (pos n) h = ne-eqb n 0 (λ e. h (rw e))

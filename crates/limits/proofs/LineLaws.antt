@@ -28,10 +28,6 @@ module _ (r : Roster) (ls : Lines) where
   unfolding limit
   limit-of-group g w l e = rw e
 
--- a line is set whatever its figures: zeros are limits
-pub zeros-set : isSet {A = Line} (some (record { tci = 0; tvi = 0; lci = 0; lvi = 0 })) ≡ true
-zeros-set = refl
-
 -- a line that is set is some line
 pub set-some : {A : Type 0} (x : Option A) → isSet x ≡ true → (l : A) × (x ≡ some l)
 set-some (some l) e = (l, refl)

@@ -7,7 +7,6 @@ use lib.IntN.{ℤ, pos, negsuc}
 use lib.Signed.{leZ}
 use Rattle.ledger.specs.declared.order.Order.{Order}
 use Rattle.ledger.specs.declared.order.Side.{Side}
-use Rattle.ledger.specs.declared.order.Side.the-variants.{Buy, Sell}
 use Rattle.ledger.specs.Roster.{Roster, groupOfInstrument}
 use Rattle.ledger.specs.Positions.{Way, long, short, Place, instrument, group, sameSide, wayOf, wayBy, potential}
 use Rattle.limits.specs.Lines.{Lines, largestOrder, lineInForce, figure, isSet, limit}

@@ -132,9 +132,6 @@ module _ (m s : List ℕ) where
   after-each P same new =
       by-test (eqb (openingAnswer m s) 0) (opened m s) m P (λ e. new (accepted-out m s (eqb-true (openingAnswer m s) 0 e))) (λ e. same)
 
-  pub length-after : length (afterOpening m s) ≡ length m
-  length-after = after-each (λ l. length l ≡ length m) refl (λ ok. length-opened m s ok)
-
   pub later-after : (i : ℕ) → 65536 ≤ i → getD (afterOpening m s) i 0 ≡ getD m i 0
   later-after i h = after-each (λ l. getD l i 0 ≡ getD m i 0) refl (λ ok. later-opened m s ok i h)
 

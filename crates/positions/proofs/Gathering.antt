@@ -17,7 +17,7 @@ use Rattle.ledger.specs.Orders.{remaining}
 use Rattle.ledger.specs.Roster.{Numbered}
 use Rattle.ledger.specs.Positions.{sameSide}
 use Rattle.ledger.specs.Records.{orderAt, ordersFrom}
-use Rattle.ledger.specs.Derivatives.{one, counted}
+use Rattle.ledger.specs.Derivatives.{counted}
 use Rattle.positions.specs.Gathered.{cell, added, Gathered}
 use Rattle.positions.specs.Bounds.{GatherBounds}
 use Rattle.positions.proofs.Counting.{counted-other-account, counted-other-instrument, counted-other-side, counted-own, left, counted-more, counted-all, counted-small}
@@ -26,7 +26,7 @@ pub cell-inside : (s : Side) (i : ℕ) → i ≤ 32 → cell s i < 545
 cell-inside Buy i h = omega arith
 cell-inside Sell i h = omega arith
 
-same-itself : (s : Side) → sameSide s s ≡ true
+pub same-itself : (s : Side) → sameSide s s ≡ true
 same-itself Buy = refl
 same-itself Sell = refl
 

@@ -14,7 +14,7 @@ use Rattle.ledger.specs.Orders.{remaining}
 use Rattle.ledger.specs.Roster.{Numbered}
 use Rattle.ledger.specs.Positions.{long, short, openOn, ofInstrument}
 use Rattle.ledger.specs.Records.{orderAt, ordersFrom, rosterIn}
-use Rattle.positions.specs.Bounds.{OpenBounds, InstrumentBounds, GatherBounds, BalanceBounds, RosterBounds, GroupBounds}
+use Rattle.positions.specs.Bounds.{InstrumentBounds, GatherBounds, BalanceBounds, RosterBounds, GroupBounds}
 use Rattle.ledger.specs.Derivatives.{one}
 use Rattle.positions.proofs.Counting.{small-orders}
 use Rattle.ledger.proofs.Sums.{open-nonneg}
@@ -99,9 +99,6 @@ module _ (m : List ℕ) (h : Held m) where
     pub row-balance : (i : ℕ) → Numbered (rosterOf m .instruments) i → signedAt (partOf m (balanceRow a) 33) i ≡ balancesOf m a i
     row-balance i l =
         signed-part m (balanceRow a) 33 i (omega (arith, held-readable .instruments)) ∙ sym (balance-word m a i on l)
-
-    pub open-bounds : (s : Side) (i : ℕ) → OpenBounds (partOf m ordersWord 1024) (wordAt m countWord) s a i
-    open-bounds s i = record { long = records-there; small = omega (arith, open-small s a i) }
 
     pub instrument-bounds : (i : ℕ) → Numbered (rosterOf m .instruments) i → InstrumentBounds (partOf m ordersWord 1024) (wordAt m countWord) (partOf m (balanceRow a) 33) a i
     instrument-bounds i l =

@@ -1,5 +1,5 @@
 -- The cells in which B and V of all accounts are gathered, order by order.
-use Prim.Native.Nat.{ℕ, zero, suc, _+_, _*_, _≤_, _<_}
+use Prim.Native.Nat.{ℕ, _+_, _*_, _≤_, _<_}
 use mathlib.Core.Path.{_≡_, refl, _∙_, sym, ap}
 use mathlib.Core.Logic.{_≢_}
 use mathlib.Core.Bool.{Bool, true, false, _&&_}
@@ -16,15 +16,15 @@ use Rattle.ledger.specs.declared.order.Side.{Side}
 use Rattle.ledger.specs.declared.order.Side.the-variants.{Buy, Sell}
 use Rattle.ledger.specs.Orders.{remaining}
 use Rattle.ledger.specs.Roster.{Roster, Numbered}
-use Rattle.ledger.specs.Positions.{sameSide}
 use Rattle.ledger.specs.Records.{orderAt, ordersFrom}
 use Rattle.ledger.specs.Derivatives.{counted}
 use Rattle.positions.specs.Gathered.{cell as cellOf}
+use Rattle.positions.proofs.Gathering.{same-itself, empty-at}
 use Rattle.positions.proofs.Counting.{counted-other-account, counted-other-instrument, counted-other-side, counted-own, left, counted-more, counted-all}
 use Rattle.layout.specs.Layout.{countWord, ordersWord}
 use Rattle.layout.specs.View.{rosterOf, tradingOf, openOrders}
 use Rattle.soundness.specs.Soundness.{ascend, orderSound, recordsSound, ordersSound}
-use Rattle.soundness.specs.Cells.{cell, added, Empty, Sums, Gathered}
+use Rattle.soundness.specs.Cells.{cell, added, Empty, Gathered}
 use Rattle.soundness.proofs.Records.{order-out, remaining-small, checked, checked-all, checked-end, checked-id, checked-order, checked-on}
 
 pub cell-inside : (s : Side) (a i : ℕ) → a ≤ 16 → i ≤ 32 → cell s a i < 1057
@@ -35,10 +35,6 @@ cell-inside Sell a i h l = omega arith
 pub cell-place : (s : Side) (a i j : ℕ) → j ≡ cellOf s i → a * 32 + j ≡ cell s a i
 cell-place Buy a i j e = omega arith
 cell-place Sell a i j e = omega arith
-
-same-itself : (s : Side) → sameSide s s ≡ true
-same-itself Buy = refl
-same-itself Sell = refl
 
 same-row : (a i b k : ℕ) → Numbered 32 i → Numbered 32 k → a * 32 + i ≡ b * 32 + k → (a ≡ b) × (i ≡ k)
 same-row a i b k h l e =
@@ -52,16 +48,8 @@ same-cell Buy Sell a i b k u h v l e = absurd (omega arith)
 same-cell Sell Buy a i b k u h v l e = absurd (omega arith)
 
 -- all cells are 0 at first
-zero-at : (n j : ℕ) → _≡_ {A = ℕ} (getD (replicate n 0) j 0) 0
-zero-at zero j = refl
-zero-at (suc n) zero = refl
-zero-at (suc n) (suc j) = zero-at n j
-
 pub empty-cells : (n : ℕ) → n ≡ 1057 → Empty (replicate n 0)
-empty-cells n e = record { size = length-replicate n 0 ∙ e; zero = zero-at n }
-
-pub gathered-sums : (cells : List ℕ) (orders : List Order) → Gathered cells orders → Sums cells orders
-gathered-sums cells orders g = record { size = g .size; sums = g .sums }
+empty-cells n e = record { size = length-replicate n 0 ∙ e; zero = empty-at n }
 
 -- ---- one order
 module _ (cells : List ℕ) (o : Order) (size : length cells ≡ 1057) (account : Numbered 16 (o .account)) (instrument : Numbered 32 (o .instrument)) where
@@ -138,9 +126,8 @@ module _ (r : Roster) (trading : ℕ → Bool) (s : List ℕ) (n : ℕ) (cells :
     passed-all few h = (
       whole true (checked-end r trading s n last p h),
       record {
-        size = past .size;
+        sums = record { size = past .size; sums = λ v a i k l. counted-all s n v a i (getD cells (cell v a i) 0) p h (past .sums v a i k l) };
         small = λ j. omega (arith, past .small j, past .upto);
-        sums = λ v a i k l. counted-all s n v a i (getD cells (cell v a i) 0) p h (past .sums v a i k l);
       },
     )
 

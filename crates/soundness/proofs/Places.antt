@@ -80,7 +80,7 @@ module _ (m cells : List ℕ) (a i : ℕ) (readable : Readable m) (gathered : Ga
   position-cell : (w : Way) → positionSound m a i w ≡ leZ (toward w (signedAt m (balanceRow a + i)) +ℤ pos (getD cells (cell (sideTo w) a i) 0)) (pos 1000000000)
   unfolding positionSound ofInstrument
   position-cell w =
-      rw (unit-one, balance-word m a i h l, gathered .sums (sideTo w) a i (h .0, omega (arith, readable .accounts)) (l .0, omega (arith, readable .instruments)))
+      rw (unit-one, balance-word m a i h l, gathered .sums .sums (sideTo w) a i (h .0, omega (arith, readable .accounts)) (l .0, omega (arith, readable .instruments)))
 
   -- s is the balance, b and v what the two cells hold
   module _ (s : ℤ) (read : s ≡ signedAt m (balanceRow a + i)) where

@@ -44,6 +44,5 @@ pub record Sums (cells : List ℕ) (orders : List Order) : Type 0 where
 
 -- and none holds more than 256 orders of 1,000,000
 pub record Gathered (cells : List ℕ) (orders : List Order) : Type 0 where
-  pub size : length cells ≡ 1057
+  pub sums : Sums cells orders
   pub small : (j : ℕ) → getD cells j 0 ≤ 256000000
-  pub sums : (s : Side) (a i : ℕ) → Numbered 16 a → Numbered 32 i → pos (getD cells (cell s a i) 0) ≡ openOn one orders s a i

@@ -5,7 +5,7 @@ use mathlib.Core.List.{List}
 use mathlib.Core.Option.{some}
 use native.Mathlib.Nat.{one-mul}
 use native.Mathlib.Omega.{arith}
-use lib.IntN.{ℤ, natAbs, _+ℤ_}
+use lib.IntN.{ℤ, natAbs}
 use mir.Syntax.{w64}
 use mir.Val.{SFits, toZ, ofZ}
 use mir.ValLaws.{toZ-ofZ}
@@ -15,7 +15,6 @@ use Rattle.ledger.specs.declared.order.Side.{Side}
 use Rattle.ledger.specs.declared.find.Found.the-variants.{At}
 use Rattle.ledger.specs.Orders.{remaining, replacedTotal, placeFrom}
 use Rattle.ledger.specs.Roster.{Numbered}
-use Rattle.ledger.specs.Positions.{openOn}
 use Rattle.ledger.specs.Derivatives.{one}
 use Rattle.ledger.proofs.Amounts.{amount}
 use Rattle.ledger.proofs.Changes.{Shifted as Shift}

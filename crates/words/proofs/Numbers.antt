@@ -58,17 +58,6 @@ store-back (suc n) m a bytes =
     let others : (getD m a 0 + 256 * number n m (a + 1)) / 256 ≡ number n m (a + 1) = omega (arith, bytes a) in
     rw (first, others, set-getD) (store-back n m (a + 1) bytes)
 
--- equal numbers have equal bytes
-pub number-bytes : (n : ℕ) (l m : List ℕ) (a : ℕ) → Bytes l → Bytes m → number n l a ≡ number n m a → (j : ℕ) → j < n → getD l (a + j) 0 ≡ getD m (a + j) 0
-unfolding number
-number-bytes zero l m a bl bm same j h = absurd (omega arith)
-number-bytes (suc n) l m a bl bm same zero h =
-    let z : a + 0 ≡ a = omega arith in
-    rw z (omega (arith, bl a, bm a))
-number-bytes (suc n) l m a bl bm same (suc j) h =
-    let s : a + suc j ≡ a + 1 + j = omega arith in
-    rw s (number-bytes n l m (a + 1) bl bm (omega (arith, bl a, bm a)) j (omega arith))
-
 set-bytes : (m : List ℕ) (a b i : ℕ) → Bytes m → b < 256 → Dec (i ≡ a) → Dec (a < length m) → getD (set m a b) i 0 < 256
 set-bytes m a b i bytes small (yes e) (yes inside) = rw (e, getD-set-same m a b 0 inside) small
 set-bytes m a b i bytes small (yes e) (no outside) = rw (set-out m a b (omega (arith, outside))) (bytes i)

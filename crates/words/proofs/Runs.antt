@@ -9,21 +9,6 @@ use Rattle.words.specs.Bytes.{Bytes}
 use Rattle.words.specs.Words.{AreWords, wordAt, putWord, wordsAt, putWords}
 use Rattle.words.proofs.Memory.{length-put, bytes-put, word-put-same, word-put-other, put-back}
 
-pub length-words : (m : List ℕ) (k n : ℕ) → length (wordsAt m k n) ≡ n
-unfolding wordsAt
-length-words m k zero = refl
-length-words m k (suc n) = rw (length-words m (k + 1) n)
-
-pub word-of-words : (m : List ℕ) (k n j : ℕ) → j < n → getD (wordsAt m k n) j 0 ≡ wordAt m (k + j)
-unfolding wordsAt
-word-of-words m k zero j h = absurd (omega arith)
-word-of-words m k (suc n) zero h =
-    let z : k + 0 ≡ k = omega arith in
-    rw z
-word-of-words m k (suc n) (suc j) h =
-    let s : k + suc j ≡ k + 1 + j = omega arith in
-    rw s (word-of-words m (k + 1) n j (omega arith))
-
 pub words-put-other : (m : List ℕ) (i v k n : ℕ) → ((j : ℕ) → j < n → i ≢ k + j) → wordsAt (putWord m i v) k n ≡ wordsAt m k n
 unfolding wordsAt
 words-put-other m i v k zero apart = refl

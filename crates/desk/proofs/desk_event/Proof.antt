@@ -4,7 +4,7 @@ use borrow.Author.Needs.{needs}
 use borrow.Author.Tests.{not-false}
 use Rattle.soundness.proofs.Asked.{said-no}
 use Rattle.soundness.proofs.SoundDesk.{sound-out}
-use Rattle.soundness.proofs.Gathering.{empty-cells, gathered-sums}
+use Rattle.soundness.proofs.Gathering.{empty-cells}
 use Rattle.desk.proofs.Stepped.{unsound-event, sound-event}
 use Rattle.desk.proofs.desk_event.Statement.{statement}
 use Rattle.desk.proofs.desk_event.Tie as tie
@@ -24,7 +24,7 @@ step-requires : tie.Need-step-requires
 step-requires c κs =
     let sound = c .before .before .before in
     let asked = sound .before in
-    (sound-out _ (sym (asked .is-sound-with-sums .ensures .0) ∙ passed sound), gathered-sums _ _ (asked .is-sound-with-sums .ensures .1 (passed sound)))
+    (sound-out _ (sym (asked .is-sound-with-sums .ensures .0) ∙ passed sound), asked .is-sound-with-sums .ensures .1 (passed sound) .sums)
 
 returns-2 : tie.Need-returns-2
 returns-2 c =

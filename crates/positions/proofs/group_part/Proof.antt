@@ -1,7 +1,7 @@
 use mathlib.Core.Path.{_∙_, sym, ap}
 use native.Mathlib.Omega.{arith}
 use borrow.Author.Needs.{needs}
-use lib.IntN.{ℤ, pos, natAbs}
+use lib.IntN.{pos, natAbs}
 use lib.Signed.{_≤ℤ_, _<ℤ_}
 use Rattle.integers.specs.Parts.{signed}
 use Rattle.integers.specs.Magnitude.{magnitude-negation}

@@ -1,5 +1,3 @@
-use mathlib.Core.Path.{sym}
-use native.Mathlib.Omega.{arith}
 use borrow.Author.Needs.{needs}
 use Rattle.working.proofs.Told.{records, told}
 use Rattle.working.proofs.Rooms.{cast-fits}

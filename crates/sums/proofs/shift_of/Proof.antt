@@ -1,8 +1,8 @@
-use mathlib.Core.Path.{_≡_, refl, ap}
+use mathlib.Core.Path.{refl}
 use borrow.Author.Needs.{needs}
 use mir.Syntax.{w64}
 use mir.ValLaws.{toZ-ofZ}
-use Rattle.book.specs.declared.Event.the-variants.{Balance, Block, New, Replace, Fill}
+use Rattle.book.specs.declared.Event.the-variants.{Replace, Fill}
 use Rattle.book.specs.Books.{work}
 use Rattle.working.proofs.Told.{told}
 use Rattle.working.proofs.Handing.{handed, ready-as}

@@ -1,5 +1,5 @@
 use Prim.Native.Nat.{_-_}
-use mathlib.Core.Path.{_≡_, refl, _∙_, sym}
+use mathlib.Core.Path.{_≡_, refl, _∙_}
 use mathlib.Core.Bool.{true}
 use native.Mathlib.Omega.{arith}
 use borrow.Author.Needs.{needs}
@@ -8,7 +8,7 @@ use lib.ListN.{length}
 use Rattle.layout.specs.View.{openOrders}
 use Rattle.soundness.specs.Soundness.{soundDesk}
 use Rattle.soundness.specs.Cells.{Sums}
-use Rattle.soundness.proofs.Gathering.{empty-cells, gathered-sums}
+use Rattle.soundness.proofs.Gathering.{empty-cells}
 use Rattle.desk.proofs.Cutting.{event-within}
 use Rattle.desk.proofs.Turns.{Running, begins, turns, events-end, room-ends}
 use Rattle.desk.proofs.run.desk_run.Statement.{statement}
@@ -52,7 +52,7 @@ desk-run-spec =
     Inv-loop
     μ-loop
     (λ c κs. empty-cells 1057 refl)
-    (λ c. (refl, c .is-sound-with-sums .ensures .0, λ t. gathered-sums _ _ (c .is-sound-with-sums .ensures .1 t), begins _ _ _))
+    (λ c. (refl, c .is-sound-with-sums .ensures .0, λ t. c .is-sound-with-sums .ensures .1 t .sums, begins _ _ _))
     (λ c κs. search needs)
     (λ c κs. search needs)
     (λ c. omega (arith, ltb-true))
