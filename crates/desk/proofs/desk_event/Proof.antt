@@ -18,7 +18,7 @@ passed c = not-false _ (c .if1 .left)
 slice-aggregate-step : tie.Need-slice-aggregate-step
 slice-aggregate-step c =
     let asked = c .before .before .before in
-    sym (asked .is-sound-with-sums .ensures .1 (passed (c .before .before)) .size)
+    sym (asked .is-sound-with-sums .ensures .1 (passed (c .before .before)) .sums .size)
 
 step-requires : tie.Need-step-requires
 step-requires c κs =
