@@ -33,7 +33,7 @@ pub extern "C" fn desk_event(m: &mut [u8], event: &[u8]) -> u8
     ensures answer { λ r. ⌜ r ≡ answerTo (now (m .entry)) (now (event .entry)) ⌝ }
     ensures memory { λ r. ⌜ now (m .exit) ≡ after (now (m .entry)) (now (event .entry)) ⌝ }
 {
-    let mut cells = [0u64; 1057];
+    let mut cells = [0u64; 1089];
     if !is_sound_with_sums(m, &mut cells) {
         return 5;
     }

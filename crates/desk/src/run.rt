@@ -28,7 +28,7 @@ fn event_at<'a>(events: &'a [u8], at: usize) -> &'a [u8]
 
 // Answers an event at a desk that is sound or not, and works it where it is accepted. Where it is sound, the cells hold B and V of all
 // accounts.
-fn answer_next(m: &mut [u8], cells: &mut [u64; 1057], event: &[u8], sound: bool) -> u8
+fn answer_next(m: &mut [u8], cells: &mut [u64; 1089], event: &[u8], sound: bool) -> u8
     requires { ⌜ (sound ≡ soundDesk (now m)) × (sound ≡ true → Sums (now cells) (openOrders (now m))) ⌝ }
     ensures answer { λ r. ⌜ r ≡ answerTo (now (m .entry)) (now (event .entry)) ⌝ }
     ensures memory { λ r. ⌜ now (m .exit) ≡ after (now (m .entry)) (now (event .entry)) ⌝ }
@@ -50,7 +50,7 @@ pub extern "C" fn desk_run(m: &mut [u8], events: &[u8], answers: &mut [u8]) -> u
     ensures memory { λ r. ⌜ now (m .exit) ≡ memoryOver (now (m .entry)) (eventsFor (now (events .entry)) (now (answers .entry))) ⌝ }
     ensures answers { λ r. ⌜ now (answers .exit) ≡ answered (now (m .entry)) (now (events .entry)) (now (answers .entry)) ⌝ }
 {
-    let mut cells = [0u64; 1057];
+    let mut cells = [0u64; 1089];
     let sound = is_sound_with_sums(m, &mut cells);
     let mut at = 0;
     let mut count = 0;

@@ -16,13 +16,13 @@ use Rattle.soundness.proofs.Gathering.{cell-place}
 use Rattle.entering.specs.Places.{cellsOf}
 
 module _ (cells : List ℕ) (a : ℕ) where
-  size-of : length cells ≡ 1057 → a ≤ 16 → length (cellsOf cells a) ≡ 545
+  size-of : length cells ≡ 1089 → a ≤ 16 → length (cellsOf cells a) ≡ 65
   unfolding cellsOf
   size-of size h = simp (length-take, length-drop) (omega arith)
 
-  at : (j : ℕ) → j < 545 → getD (cellsOf cells a) j 0 ≡ getD cells (a * 32 + j) 0
+  at : (j : ℕ) → j < 65 → getD (cellsOf cells a) j 0 ≡ getD cells (a * 64 + j) 0
   unfolding cellsOf
-  at j h = getD-take 545 (drop (a * 32) cells) j 0 h ∙ getD-drop (a * 32) cells j 0
+  at j h = getD-take 65 (drop (a * 64) cells) j 0 h ∙ getD-drop (a * 64) cells j 0
 
   cell-of : (s : Side) (i : ℕ) → i ≤ 32 → getD (cellsOf cells a) (cell s i) 0 ≡ getD cells (cellOfAll s a i) 0
   cell-of s i h = at (cell s i) (cell-inside s i h) ∙ ap (λ (j : ℕ). getD cells j 0) (cell-place s a i (cell s i) refl)

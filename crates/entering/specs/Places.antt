@@ -30,4 +30,4 @@ groupBytes m o = partOf (partOf m (groupRow (o .account)) 10) (groupOfInstrument
 
 -- B and V of account a, of those of all accounts
 unfoldable pub cellsOf : List ℕ → ℕ → List ℕ
-cellsOf cells a = take 545 (drop (a * 32) cells)
+cellsOf cells a = take 65 (drop (a * 64) cells)

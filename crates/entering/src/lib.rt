@@ -122,11 +122,11 @@ fn position_answer(a: PositionAnswer) -> Answer
 
 // B and V of an account.
 fn cells_of<'a>(cells: &'a [u64], account: usize) -> &'a [u64]
-    requires { ⌜ (length (now cells) ≡ 1057) × (account ≤ 16) ⌝ }
+    requires { ⌜ (length (now cells) ≡ 1089) × (account ≤ 16) ⌝ }
     ensures { λ r. ⌜ now r ≡ cellsOf (now (cells .entry)) account ⌝ }
 {
-    let first = account * 32;
-    let end = first + 545;
+    let first = account * 64;
+    let end = first + 65;
     &cells[first..end]
 }
 

@@ -184,7 +184,7 @@ pub extern "C" fn probe_positions(
         total: added,
         filled: 0,
     };
-    let mut cells = [0u64; 545];
+    let mut cells = [0u64; 65];
     gather(orders, n, account, &mut cells);
     position_number(positions_within(&cells, balances, roster, line, group, o, added))
 }

@@ -22,7 +22,7 @@ use Rattle.positions.specs.Gathered.{cell, added, Gathered}
 use Rattle.positions.specs.Bounds.{GatherBounds}
 use Rattle.positions.proofs.Counting.{counted-other-account, counted-other-instrument, counted-other-side, counted-own, left, counted-more, counted-all, counted-small}
 
-pub cell-inside : (s : Side) (i : ℕ) → i ≤ 32 → cell s i < 545
+pub cell-inside : (s : Side) (i : ℕ) → i ≤ 32 → cell s i < 65
 cell-inside Buy i h = omega arith
 cell-inside Sell i h = omega arith
 
@@ -60,7 +60,7 @@ module _ (cells : List ℕ) (o : Order) (a : ℕ) where
       by : Dec (o .instrument ≡ i) → (s t : Side) → o .side ≡ t → cell s i ≢ cell t (o .instrument) → counted o s a i ≡ 0
       by (no other) s t e apart = counted-other-instrument o s a i other
       by (yes same) Buy Buy e apart = absurd (apart (sym same))
-      by (yes same) Sell Sell e apart = absurd (apart (ap (λ (k : ℕ). 512 + k) (sym same)))
+      by (yes same) Sell Sell e apart = absurd (apart (ap (λ (k : ℕ). 32 + k) (sym same)))
       by (yes same) Buy Sell e apart = counted-other-side o Buy a i (rw e)
       by (yes same) Sell Buy e apart = counted-other-side o Sell a i (rw e)
 
@@ -71,7 +71,7 @@ module _ (cells : List ℕ) (o : Order) (a : ℕ) where
   same-cell Sell Buy i k h l e = absurd (omega arith)
 
   -- each cell grows by what the order counts for there
-  pub added-at : length cells ≡ 545 → Numbered 32 (o .instrument) → (s : Side) (i : ℕ) → Numbered 32 i → getD (added cells o a) (cell s i) 0 ≡ getD cells (cell s i) 0 + counted o s a i
+  pub added-at : length cells ≡ 65 → Numbered 32 (o .instrument) → (s : Side) (i : ℕ) → Numbered 32 i → getD (added cells o a) (cell s i) 0 ≡ getD cells (cell s i) 0 + counted o s a i
   added-at size inside s i numbered = by-account (ℕ-discrete (o .account) a)
     where
       j : ℕ
@@ -93,11 +93,11 @@ module _ (cells : List ℕ) (o : Order) (a : ℕ) where
 -- ---- the records below p
 pub record Passed (m : List ℕ) (n a : ℕ) (cells : List ℕ) (p : ℕ) : Type 0 where
   pub upto : p ≤ n
-  pub size : length cells ≡ 545
+  pub size : length cells ≡ 65
   pub sums : (s : Side) (i : ℕ) → Numbered 32 i → pos (getD cells (cell s i) 0) +ℤ left m n s a i p ≡ left m n s a i 0
 
 module _ (m : List ℕ) (n a : ℕ) (cells : List ℕ) where
-  pub passed-none : length cells ≡ 545 → ((j : ℕ) → getD cells j 0 ≡ 0) → Passed m n a cells 0
+  pub passed-none : length cells ≡ 65 → ((j : ℕ) → getD cells j 0 ≡ 0) → Passed m n a cells 0
   passed-none size empty =
       record { upto = omega arith; size = size; sums = λ s i h. rw (empty (cell s i)) (+ℤ-idl (left m n s a i 0)) }
 

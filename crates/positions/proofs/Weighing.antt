@@ -49,7 +49,7 @@ on-way-sum x y u v f e g short = g
 
 -- ---- an instrument by the cells
 module _ (cells : List ℕ) (S : ℕ → ℤ) (i : ℕ) where
-  pub by-cells : (x y : ℤ) → x ≡ S i +ℤ pos (getD cells i 0) → y ≡ negℤ (S i) +ℤ pos (getD cells (512 + i) 0) → (w : Way) → onWay w x y ≡ byCells cells S i w
+  pub by-cells : (x y : ℤ) → x ≡ S i +ℤ pos (getD cells i 0) → y ≡ negℤ (S i) +ℤ pos (getD cells (32 + i) 0) → (w : Way) → onWay w x y ≡ byCells cells S i w
   unfolding byCells
   by-cells x y e f long = e
   by-cells x y e f short = f
@@ -59,7 +59,7 @@ module _ (cells : List ℕ) (S : ℕ → ℤ) (i : ℕ) where
   by-cells-magnitude long h small =
       omega (arith, small Buy, magnitude-sum (S i) (pos (getD cells i 0)))
   by-cells-magnitude short h small =
-      omega (arith, small Sell, magnitude-negation (S i), magnitude-sum (negℤ (S i)) (pos (getD cells (512 + i) 0)))
+      omega (arith, small Sell, magnitude-negation (S i), magnitude-sum (negℤ (S i)) (pos (getD cells (32 + i) 0)))
 
   module _ (r : Roster) (g : ℕ) (w : Way) where
     pub part-outside : groupOfInstrument r i ≢ g → (x : ℤ) → x ≡ x +ℤ partByCells cells S r g i w

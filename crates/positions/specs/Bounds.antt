@@ -30,7 +30,7 @@ pub record GatherBounds (orders : List ℕ) (n a : ℕ) : Type 0 where
 
 -- for PCI and PVI of instrument i by the cells
 pub record CellBounds (cells balances : List ℕ) (i : ℕ) : Type 0 where
-  pub size : length cells ≡ 545
+  pub size : length cells ≡ 65
   pub long : 264 ≤ length balances
   pub instrument : Numbered 32 i
   pub balance : natAbs (balancesIn balances i) ≤ 100000000000
@@ -50,7 +50,7 @@ pub record RosterBounds (m : List ℕ) (r : Roster) : Type 0 where
 
 -- for PCC and PVC by the cells
 pub record WeighBounds (cells balances roster : List ℕ) : Type 0 where
-  pub size : length cells ≡ 545
+  pub size : length cells ≡ 65
   pub unfilled : (s : Side) (i : ℕ) → Numbered 32 i → getD cells (cell s i) 0 ≤ 100000000000
   pub balances-small : BalanceBounds balances (rosterIn roster .instruments)
   pub roster-small : RosterBounds roster (rosterIn roster)

@@ -1,4 +1,4 @@
--- What remains of an account's open orders, gathered into 545 cells: cell i holds the buys and cell 512 + i the
+-- What remains of an account's open orders, gathered into 65 cells: cell i holds the buys and cell 32 + i the
 -- sells of instrument i, as in an account's part of the cells of all accounts.
 use Prim.Native.Nat.{ℕ, suc, _+_}
 use mathlib.Core.Path.{_≡_}
@@ -23,7 +23,7 @@ onWay short x y = y
 
 abbrev pub cell : Side → ℕ → ℕ
 cell Buy i = i
-cell Sell i = 512 + i
+cell Sell i = 32 + i
 
 -- the cells with order o added, where it is of account a
 unfoldable pub added : List ℕ → Order → ℕ → List ℕ
@@ -32,7 +32,7 @@ added cells o a =
 
 -- the cells hold B and V of account a and each instrument
 pub record Gathered (cells : List ℕ) (orders : List Order) (a : ℕ) : Type 0 where
-  pub size : length cells ≡ 545
+  pub size : length cells ≡ 65
   pub sums : (s : Side) (i : ℕ) → Numbered 32 i → pos (getD cells (cell s i) 0) ≡ openOn one orders s a i
 
 -- PCI (long) and PVI (short) of instrument i by the cells

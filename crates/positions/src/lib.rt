@@ -154,13 +154,13 @@ pub fn cell(side: Side, instrument: u64) -> usize
 {
     match side {
         Side::Buy => instrument as usize,
-        Side::Sell => 512 + instrument as usize,
+        Side::Sell => 32 + instrument as usize,
     }
 }
 
 // Adds what remains of the order to its cell, where it is of the account.
-fn add_to(cells: &mut [u64; 545], o: Order, account: u64)
-    requires { ⌜ (length (now cells) ≡ 545) × (o .instrument ≤ 32) × (getD (now cells) (cell (o .side) (o .instrument)) 0 + counted o (o .side) account (o .instrument) ≤ 9000000000000000000) ⌝ }
+fn add_to(cells: &mut [u64; 65], o: Order, account: u64)
+    requires { ⌜ (length (now cells) ≡ 65) × (o .instrument ≤ 32) × (getD (now cells) (cell (o .side) (o .instrument)) 0 + counted o (o .side) account (o .instrument) ≤ 9000000000000000000) ⌝ }
     ensures { λ r. ⌜ now (cells .exit) ≡ added (now (cells .entry)) o account ⌝ }
 {
     if o.account == account {
@@ -171,8 +171,8 @@ fn add_to(cells: &mut [u64; 545], o: Order, account: u64)
 }
 
 // Gathers B and V of the account and each instrument, in one pass over the orders.
-pub fn gather(orders: &[u8], n: usize, account: u64, cells: &mut [u64; 545])
-    requires { ⌜ GatherBounds (now orders) n account × (length (now cells) ≡ 545) × ((j : ℕ) → getD (now cells) j 0 ≡ 0) ⌝ }
+pub fn gather(orders: &[u8], n: usize, account: u64, cells: &mut [u64; 65])
+    requires { ⌜ GatherBounds (now orders) n account × (length (now cells) ≡ 65) × ((j : ℕ) → getD (now cells) j 0 ≡ 0) ⌝ }
     ensures { λ r. ⌜ Gathered (now (cells .exit)) (ordersFrom (now (orders .entry)) 0 n) account ⌝ }
 {
     for p in 0..n {
@@ -187,7 +187,7 @@ fn by_cells(cells: &[u64], balances: &[u8], i: usize) -> InstrumentPosition
 {
     let balance = Contracts(signed_word(balances, i));
     let buys = Contracts(cells[i] as i64);
-    let sells = Contracts(cells[512 + i] as i64);
+    let sells = Contracts(cells[32 + i] as i64);
     position_by(balance, buys, sells)
 }
 
@@ -245,7 +245,7 @@ pub fn group_position(
     requires { ⌜ GroupBounds (now orders) n (now balances) (now roster) account ⌝ }
     ensures { λ r. ⌜ InGroup (now (orders .entry)) n (now (balances .entry)) (now (roster .entry)) account group r ⌝ }
 {
-    let mut cells = [0u64; 545];
+    let mut cells = [0u64; 65];
     gather(orders, n, account, &mut cells);
     weigh(&cells, balances, roster, group)
 }

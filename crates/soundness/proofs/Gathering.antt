@@ -27,16 +27,16 @@ use Rattle.soundness.specs.Soundness.{ascend, orderSound, recordsSound, 
 use Rattle.soundness.specs.Cells.{cell, added, Empty, Gathered}
 use Rattle.soundness.proofs.Records.{order-out, remaining-small, checked, checked-all, checked-end, checked-id, checked-order, checked-on}
 
-pub cell-inside : (s : Side) (a i : ℕ) → a ≤ 16 → i ≤ 32 → cell s a i < 1057
+pub cell-inside : (s : Side) (a i : ℕ) → a ≤ 16 → i ≤ 32 → cell s a i < 1089
 cell-inside Buy a i h l = omega arith
 cell-inside Sell a i h l = omega arith
 
 -- an account's cells stand 32 behind those of the account before it
-pub cell-place : (s : Side) (a i j : ℕ) → j ≡ cellOf s i → a * 32 + j ≡ cell s a i
+pub cell-place : (s : Side) (a i j : ℕ) → j ≡ cellOf s i → a * 64 + j ≡ cell s a i
 cell-place Buy a i j e = omega arith
 cell-place Sell a i j e = omega arith
 
-same-row : (a i b k : ℕ) → Numbered 32 i → Numbered 32 k → a * 32 + i ≡ b * 32 + k → (a ≡ b) × (i ≡ k)
+same-row : (a i b k : ℕ) → Numbered 32 i → Numbered 32 k → a * 64 + i ≡ b * 64 + k → (a ≡ b) × (i ≡ k)
 same-row a i b k h l e =
     let same : a ≡ b = omega arith in
     (same, omega arith)
@@ -48,11 +48,11 @@ same-cell Buy Sell a i b k u h v l e = absurd (omega arith)
 same-cell Sell Buy a i b k u h v l e = absurd (omega arith)
 
 -- all cells are 0 at first
-pub empty-cells : (n : ℕ) → n ≡ 1057 → Empty (replicate n 0)
+pub empty-cells : (n : ℕ) → n ≡ 1089 → Empty (replicate n 0)
 empty-cells n e = record { size = length-replicate n 0 ∙ e; zero = empty-at n }
 
 -- ---- one order
-module _ (cells : List ℕ) (o : Order) (size : length cells ≡ 1057) (account : Numbered 16 (o .account)) (instrument : Numbered 32 (o .instrument)) where
+module _ (cells : List ℕ) (o : Order) (size : length cells ≡ 1089) (account : Numbered 16 (o .account)) (instrument : Numbered 32 (o .instrument)) where
   own : ℕ
   own = cell (o .side) (o .account) (o .instrument)
 
@@ -86,7 +86,7 @@ module _ (cells : List ℕ) (o : Order) (size : length cells ≡ 1057) (account 
           getD-set-other cells own (cell s a i) (getD cells own 0 + remaining o) 0 apart
           ∙ omega (arith, elsewhere s a i apart)
 
-  added-length : length (added cells o) ≡ 1057
+  added-length : length (added cells o) ≡ 1089
   unfolding added
   added-length = simp length-set size
 
@@ -103,7 +103,7 @@ module _ (cells : List ℕ) (o : Order) (size : length cells ≡ 1057) (account 
 pub record Passed (r : Roster) (trading : ℕ → Bool) (s : List ℕ) (n : ℕ) (cells : List ℕ) (last p : ℕ) : Type 0 where
   pub upto : p ≤ n
   pub same : checked r trading s n 0 0 ≡ checked r trading s n last p
-  pub size : length cells ≡ 1057
+  pub size : length cells ≡ 1089
   pub small : (j : ℕ) → getD cells j 0 ≤ p * 1000000
   pub sums : (v : Side) (a i : ℕ) → Numbered 16 a → Numbered 32 i → pos (getD cells (cell v a i) 0) +ℤ left s n v a i p ≡ left s n v a i 0
 

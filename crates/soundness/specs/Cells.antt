@@ -1,4 +1,4 @@
--- What remains of all open orders, gathered into 1,057 cells by side, account and instrument; and what the passes over a memory
+-- What remains of all open orders, gathered into 1,089 cells by side, account and instrument; and what the passes over a memory
 -- may read.
 use Prim.Native.Nat.{ℕ, _+_, _*_, _≤_}
 use mathlib.Core.Path.{_≡_}
@@ -24,8 +24,8 @@ pub record Readable (m : List ℕ) : Type 0 where
 
 -- the cell of B (side Buy) or V (side Sell) of account a and instrument i
 abbrev pub cell : Side → ℕ → ℕ → ℕ
-cell Buy a i = a * 32 + i
-cell Sell a i = 512 + a * 32 + i
+cell Buy a i = a * 64 + i
+cell Sell a i = a * 64 + 32 + i
 
 -- the cells with order o added
 unfoldable pub added : List ℕ → Order → List ℕ
@@ -34,12 +34,12 @@ added cells o =
 
 -- nothing is gathered yet
 pub record Empty (cells : List ℕ) : Type 0 where
-  pub size : length cells ≡ 1057
+  pub size : length cells ≡ 1089
   pub zero : (j : ℕ) → getD cells j 0 ≡ 0
 
 -- the cells hold B and V of each account and instrument
 pub record Sums (cells : List ℕ) (orders : List Order) : Type 0 where
-  pub size : length cells ≡ 1057
+  pub size : length cells ≡ 1089
   pub sums : (s : Side) (a i : ℕ) → Numbered 16 a → Numbered 32 i → pos (getD cells (cell s a i) 0) ≡ openOn one orders s a i
 
 -- and none holds more than 256 orders of 1,000,000

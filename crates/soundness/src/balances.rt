@@ -16,13 +16,13 @@ use layout::table::BALANCES;
 use words::signed_word;
 
 // Of account `a` and instrument `i`. No sum with the balance, which may be any word, is computed.
-fn place_is_sound(m: &[u8], cells: &[u64; 1057], a: usize, i: usize) -> bool
+fn place_is_sound(m: &[u8], cells: &[u64; 1089], a: usize, i: usize) -> bool
     requires { ⌜ Readable (now m) × Gathered (now cells) (openOrders (now m)) × Numbered (rosterOf (now m) .accounts) a × Numbered (rosterOf (now m) .instruments) i ⌝ }
     ensures { λ r. ⌜ r ≡ placeSound (now (m .entry)) a i ⌝ }
 {
     let s = signed_word(m, BALANCES + a * 32 + i);
-    let b = cells[a * 32 + i] as i64;
-    let v = cells[512 + a * 32 + i] as i64;
+    let b = cells[a * 64 + i] as i64;
+    let v = cells[a * 64 + 32 + i] as i64;
     if s > 1000000000 - b {
         return false;
     }
@@ -31,7 +31,7 @@ fn place_is_sound(m: &[u8], cells: &[u64; 1057], a: usize, i: usize) -> bool
 
 // Of account `a` and each instrument: all balances at once, and where that does not tell, one by one. A balance of at most 744,000,000
 // either way is sound, whatever the orders: B and V are at most 256,000,000.
-fn account_is_sound(m: &[u8], cells: &[u64; 1057], a: usize) -> bool
+fn account_is_sound(m: &[u8], cells: &[u64; 1089], a: usize) -> bool
     requires { ⌜ Readable (now m) × Gathered (now cells) (openOrders (now m)) × Numbered (rosterOf (now m) .accounts) a ⌝ }
     ensures { λ r. ⌜ r ≡ accountSound (now (m .entry)) a ⌝ }
 {
@@ -48,7 +48,7 @@ fn account_is_sound(m: &[u8], cells: &[u64; 1057], a: usize) -> bool
 }
 
 // Of each account and instrument.
-fn positions_are_sound(m: &[u8], cells: &[u64; 1057]) -> bool
+fn positions_are_sound(m: &[u8], cells: &[u64; 1089]) -> bool
     requires { ⌜ Readable (now m) × Gathered (now cells) (openOrders (now m)) ⌝ }
     ensures { λ r. ⌜ r ≡ positionsSound (now (m .entry)) ⌝ }
 {
@@ -62,7 +62,7 @@ fn positions_are_sound(m: &[u8], cells: &[u64; 1057]) -> bool
 }
 
 // The orders in one pass, which gathers, then the positions in another.
-pub fn orders_and_positions(m: &[u8], cells: &mut [u64; 1057]) -> bool
+pub fn orders_and_positions(m: &[u8], cells: &mut [u64; 1089]) -> bool
     requires { ⌜ Readable (now m) × (wordAt (now m) countWord ≤ 256) × Empty (now cells) ⌝ }
     ensures { λ r. ⌜ (r ≡ (ascend 0 (openOrders (now (m .entry))) && ordersSound (now (m .entry)) && positionsSound (now (m .entry)))) × (r ≡ true → Gathered (now (cells .exit)) (openOrders (now (m .entry)))) ⌝ }
 {

@@ -17,7 +17,7 @@ use layout::table::MEMORY_BYTES;
 use words::word;
 
 // Question 5, and where it is answered yes, B and V of all accounts and instruments in the cells. One pass over each region.
-pub fn is_sound_with_sums(m: &[u8], cells: &mut [u64; 1057]) -> bool
+pub fn is_sound_with_sums(m: &[u8], cells: &mut [u64; 1089]) -> bool
     requires { ⌜ Empty (now cells) ⌝ }
     ensures sound { λ r. ⌜ r ≡ soundDesk (now (m .entry)) ⌝ }
     ensures cells { λ r. ⌜ (r ≡ true → Gathered (now (cells .exit)) (openOrders (now (m .entry)))) ⌝ }
@@ -44,6 +44,6 @@ pub fn is_sound_with_sums(m: &[u8], cells: &mut [u64; 1057]) -> bool
 pub fn is_sound(m: &[u8]) -> bool
     ensures { λ r. ⌜ r ≡ soundDesk (now (m .entry)) ⌝ }
 {
-    let mut cells = [0u64; 1057];
+    let mut cells = [0u64; 1089];
     is_sound_with_sums(m, &mut cells)
 }

@@ -42,17 +42,17 @@ fn order_is_sound(m: &[u8], o: Order) -> bool
 }
 
 // Adds what remains of the order to its cell.
-fn add_to(cells: &mut [u64; 1057], o: Order)
-    requires { ⌜ (length (now cells) ≡ 1057) × (o .account ≤ 16) × (o .instrument ≤ 32) × (1 ≤ remaining o) × (remaining o ≤ 1000000) × ((j : ℕ) → getD (now cells) j 0 ≤ 1000000000) ⌝ }
+fn add_to(cells: &mut [u64; 1089], o: Order)
+    requires { ⌜ (length (now cells) ≡ 1089) × (o .account ≤ 16) × (o .instrument ≤ 32) × (1 ≤ remaining o) × (remaining o ≤ 1000000) × ((j : ℕ) → getD (now cells) j 0 ≤ 1000000000) ⌝ }
     ensures { λ r. ⌜ now (cells .exit) ≡ added (now (cells .entry)) o ⌝ }
 {
     let side = o.side;
-    let j = o.account as usize * 32 + cell(side, o.instrument);
+    let j = o.account as usize * 64 + cell(side, o.instrument);
     cells[j] += o.total - o.filled;
 }
 
 // Do the ids ascend and is each order sound? If so, B and V of all accounts and instruments are in the cells.
-pub fn gather(m: &[u8], cells: &mut [u64; 1057]) -> bool
+pub fn gather(m: &[u8], cells: &mut [u64; 1089]) -> bool
     requires { ⌜ Readable (now m) × (wordAt (now m) countWord ≤ 256) × Empty (now cells) ⌝ }
     ensures { λ r. ⌜ (r ≡ (ascend 0 (openOrders (now (m .entry))) && ordersSound (now (m .entry)))) × (r ≡ true → Gathered (now (cells .exit)) (openOrders (now (m .entry)))) ⌝ }
 {

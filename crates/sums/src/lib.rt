@@ -135,6 +135,6 @@ pub fn keep(cells: &mut [u64], m: &[u8], e: Event, place: usize)
     let s = shift_of(m, e, place);
     let o = s.order;
     let side = o.side;
-    let j = o.account as usize * 32 + cell(side, o.instrument);
+    let j = o.account as usize * 64 + cell(side, o.instrument);
     cells[j] = cells[j] + s.after - s.before;
 }

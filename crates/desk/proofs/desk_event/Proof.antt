@@ -38,7 +38,7 @@ pub desk-event-spec : {M : Type 1} → statement M
 desk-event-spec =
     tie.close
     (tie.spec
-    (λ c κs. empty-cells 1057 refl)
+    (λ c κs. empty-cells 1089 refl)
     (λ c. search needs)
     returns
     slice-aggregate-step

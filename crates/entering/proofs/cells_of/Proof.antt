@@ -10,7 +10,7 @@ returns : tie.Need-returns
 unfolding cellsOf
 returns c =
     let a = c .before .args .account in
-    let count : a * 32 + 545 - a * 32 ≡ 545 = omega arith in
+    let count : a * 64 + 65 - a * 64 ≡ 65 = omega arith in
     simp count
 
 pub cells-of-spec : {M : Type 1} → statement M

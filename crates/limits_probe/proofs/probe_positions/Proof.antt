@@ -19,7 +19,7 @@ input c = c .before .group-input-fits .ensures (not-false _ (c .if1 .left)) _
 gather-requires : tie.Need-gather-requires
 gather-requires c κs =
     let all = c .before .before .before .before .before .before .before .before .before in
-    (input all .orders-small, refl, empty-at 545)
+    (input all .orders-small, refl, empty-at 65)
 
 slice-aggregate-positions-within : tie.Need-slice-aggregate-positions-within
 slice-aggregate-positions-within c = sym (c .before .gather .ensures .size)

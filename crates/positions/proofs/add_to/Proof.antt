@@ -5,7 +5,7 @@ use Rattle.positions.proofs.Gathering.{cell-inside, counted-itself, add
 use Rattle.positions.proofs.add_to.Statement.{statement}
 use Rattle.positions.proofs.add_to.Tie as tie
 
-inside : (c : tie.After-remaining) → c .before .cell .result < 545
+inside : (c : tie.After-remaining) → c .before .cell .result < 65
 inside c =
     let s = c .before .before .before .before in
     rw (c .before .cell .ensures) (cell-inside (s .args .o .side) (s .args .o .instrument) (s .pre .1))

@@ -22,7 +22,7 @@ cast-t7-2 : tie.Need-cast-t7-2
 cast-t7-2 c = omega (sized, c .before .before .before .before .before .pre .unfilled Sell)
 
 -- what the machine reads is the balance, B and V
-read : (c : tie.After-shared-slice-known4) → let a = c .before .before .before .before .before .args in (again (c .before .before .signed-word .result) ≡ signedAt (a .balances .now) (a .i)) × (toZ w64 (getD (a .cells .now) (a .i) 0) ≡ pos (getD (a .cells .now) (a .i) 0)) × (toZ w64 (getD (a .cells .now) (512 + a .i) 0) ≡ pos (getD (a .cells .now) (512 + a .i) 0))
+read : (c : tie.After-shared-slice-known4) → let a = c .before .before .before .before .before .args in (again (c .before .before .signed-word .result) ≡ signedAt (a .balances .now) (a .i)) × (toZ w64 (getD (a .cells .now) (a .i) 0) ≡ pos (getD (a .cells .now) (a .i) 0)) × (toZ w64 (getD (a .cells .now) (32 + a .i) 0) ≡ pos (getD (a .cells .now) (32 + a .i) 0))
 read c =
     let at = c .before .before in
     let s = at .before .before .before in (

@@ -6,7 +6,7 @@ use Rattle.positions.proofs.group_position.Statement.{statement}
 use Rattle.positions.proofs.group_position.Tie as tie
 
 gather-requires : tie.Need-gather-requires
-gather-requires c κs = (c .before .before .before .before .pre .orders-small, refl, empty-at 545)
+gather-requires c κs = (c .before .before .before .before .pre .orders-small, refl, empty-at 65)
 
 slice-aggregate-weigh : tie.Need-slice-aggregate-weigh
 slice-aggregate-weigh c = sym (c .before .gather .ensures .size)

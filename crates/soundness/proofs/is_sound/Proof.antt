@@ -4,4 +4,4 @@ use Rattle.soundness.proofs.is_sound.Statement.{statement}
 use Rattle.soundness.proofs.is_sound.Tie as tie
 
 pub is-sound-spec : {M : Type 1} → statement M
-is-sound-spec = tie.close (tie.spec (λ c κs. empty-cells 1057 refl) (λ c. c .is-sound-with-sums .ensures .0))
+is-sound-spec = tie.close (tie.spec (λ c κs. empty-cells 1089 refl) (λ c. c .is-sound-with-sums .ensures .0))

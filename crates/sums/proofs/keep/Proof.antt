@@ -11,26 +11,26 @@ use Rattle.sums.proofs.keep.Statement.{statement}
 use Rattle.sums.proofs.keep.Tie as tie
 
 -- the cell of the order that shifts
-spot : (c : tie.After-cell) → let o = c .before .before .shift-of .result .order in o .account * 32 + c .cell .result ≡ cell (o .side) (o .account) (o .instrument)
+spot : (c : tie.After-cell) → let o = c .before .before .shift-of .result .order in o .account * 64 + c .cell .result ≡ cell (o .side) (o .account) (o .instrument)
 spot c = let o = c .before .before .shift-of .result .order in cell-place (o .side) (o .account) (o .instrument) _ (c .cell .ensures)
 
-inside : (c : tie.After-cell) → c .before .before .shift-of .result .order .account * 32 + c .cell .result < length (c .before .before .before .before .before .args .cells .now)
+inside : (c : tie.After-cell) → c .before .before .shift-of .result .order .account * 64 + c .cell .result < length (c .before .before .before .before .before .args .cells .now)
 inside c =
     let moved = c .before .before in
     let start = moved .before .before .before in
     rw (spot c) (own-inside _ _ _ (start .pre .1) _ _ _ (moved .shift-of .ensures))
 
-size : (c : tie.After-cell) → length (c .before .before .before .before .before .args .cells .now) ≡ 1057
+size : (c : tie.After-cell) → length (c .before .before .before .before .before .args .cells .now) ≡ 1089
 size c = c .before .before .before .before .before .pre .1 .size
 
-small : (c : tie.After-cell) → getD (c .before .before .before .before .before .args .cells .now) (c .before .before .shift-of .result .order .account * 32 + c .cell .result) 0 + c .before .before .shift-of .result .after ≤ 257000000
+small : (c : tie.After-cell) → getD (c .before .before .before .before .before .args .cells .now) (c .before .before .shift-of .result .order .account * 64 + c .cell .result) 0 + c .before .before .shift-of .result .after ≤ 257000000
 small c =
     let moved = c .before .before in
     let start = moved .before .before .before in
     let x = own-small _ _ _ (start .pre .1) _ _ _ (moved .shift-of .ensures) (unfilled-small _ (start .pre .0 .held)) in
     rw (spot c) (omega (arith, x, moved .shift-of .ensures .small))
 
-lowered : (c : tie.After-cell) → c .before .before .shift-of .result .before ≤ getD (c .before .before .before .before .before .args .cells .now) (c .before .before .shift-of .result .order .account * 32 + c .cell .result) 0 + c .before .before .shift-of .result .after
+lowered : (c : tie.After-cell) → c .before .before .shift-of .result .before ≤ getD (c .before .before .before .before .before .args .cells .now) (c .before .before .shift-of .result .order .account * 64 + c .cell .result) 0 + c .before .before .shift-of .result .after
 lowered c =
     let moved = c .before .before in
     rw (spot c) (enough _ _ _ (moved .before .before .before .pre .1) _ _ _ (moved .shift-of .ensures))

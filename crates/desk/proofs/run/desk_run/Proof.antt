@@ -51,7 +51,7 @@ desk-run-spec =
     (tie.spec
     Inv-loop
     μ-loop
-    (λ c κs. empty-cells 1057 refl)
+    (λ c κs. empty-cells 1089 refl)
     (λ c. (refl, c .is-sound-with-sums .ensures .0, λ t. c .is-sound-with-sums .ensures .1 t .sums, begins _ _ _))
     (λ c κs. search needs)
     (λ c κs. search needs)

@@ -9,10 +9,10 @@ use Rattle.soundness.proofs.orders.add_to.Statement.{statement}
 use Rattle.soundness.proofs.orders.add_to.Tie as tie
 
 -- the order's cell
-own : (c : tie.After-cell) → let o = c .before .args .o in o .account * 32 + c .cell .result ≡ cell (o .side) (o .account) (o .instrument)
+own : (c : tie.After-cell) → let o = c .before .args .o in o .account * 64 + c .cell .result ≡ cell (o .side) (o .account) (o .instrument)
 own c = let o = c .before .args .o in cell-place (o .side) (o .account) (o .instrument) _ (c .cell .ensures)
 
-inside : (c : tie.After-cell) → c .before .args .o .account * 32 + c .cell .result < 1057
+inside : (c : tie.After-cell) → c .before .args .o .account * 64 + c .cell .result < 1089
 inside c =
     let s = c .before in
     let o = s .args .o in
@@ -26,7 +26,7 @@ add-cells : tie.Need-add-cells
 unfolding remaining
 add-cells c =
     let s = c .before .before .before in
-    omega (arith, s .pre .5 (s .args .o .account * 32 + c .before .before .cell .result), s .pre .4)
+    omega (arith, s .pre .5 (s .args .o .account * 64 + c .before .before .cell .result), s .pre .4)
 
 returns : tie.Need-returns
 unfolding added remaining
