@@ -11,8 +11,7 @@ ghost use Rattle.reading.specs.Reading.{instrumentAnswer, groupAnswer, instrume
 ghost use Rattle.desk.specs.Step.{answerTo, after};
 use crate::numbers::number_of;
 use crate::numbers::opening_number;
-use crate::step::step;
-use decoding::decode;
+use crate::run::answer_next;
 use opening::open_desk;
 use reading::read_group;
 use reading::read_instrument;
@@ -34,12 +33,8 @@ pub extern "C" fn desk_event(m: &mut [u8], event: &[u8]) -> u8
     ensures memory { λ r. ⌜ now (m .exit) ≡ after (now (m .entry)) (now (event .entry)) ⌝ }
 {
     let mut cells = [0u64; 1089];
-    if !is_sound_with_sums(m, &mut cells) {
-        return 5;
-    }
-    let outcome = step(m, &mut cells, decode(event));
-    let answer = outcome.answer;
-    number_of(answer)
+    let sound = is_sound_with_sums(m, &mut cells);
+    answer_next(m, &mut cells, event, sound)
 }
 
 // Reads S, PCI and PVI of an account and instrument.

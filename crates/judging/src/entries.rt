@@ -22,7 +22,7 @@ use book::Answer;
 use entering::admitted;
 use entering::within_limits;
 use layout::orders::load_order;
-use layout::orders::place;
+use layout::search::place;
 use layout::table::COUNT;
 use ledger::find::Found;
 use ledger::order::Order;

@@ -14,24 +14,30 @@ use crate::plain;
 use crate::ranges::is_quantity;
 use book::Answer;
 use layout::orders::load_order;
-use layout::orders::place;
-use layout::table::ORDERS;
+use layout::search::id_at;
+use layout::search::place;
 use ledger::find::Found;
 use ledger::order::Order;
-use words::word;
 
-// The place of the open order with that id: just before `p`, the place of the first larger id.
+// The place of the open order with that id: the search goes down from `p`, the place of the first larger id, and ends at the first match, or
+// at a smaller id.
 pub fn found_before(m: &[u8], p: usize, id: u64) -> Found
     requires { ⌜ Held (now m) × (p ≡ rank id (openOrders (now m))) ⌝ }
     ensures { λ r. ⌜ r ≡ placeFrom 0 id (openOrders (now (m .entry))) ⌝ }
 {
-    if p == 0 {
-        return Found::Nothing;
-    }
-    if word(m, ORDERS + (p - 1) * 4) == id {
-        Found::At(p - 1)
-    } else {
-        Found::Nothing
+    let mut q = p;
+    loop {
+        if q == 0 {
+            break Found::Nothing;
+        }
+        q -= 1;
+        let here = id_at(m, q);
+        if here == id {
+            break Found::At(q);
+        }
+        if here < id {
+            break Found::Nothing;
+        }
     }
 }
 

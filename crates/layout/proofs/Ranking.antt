@@ -21,6 +21,14 @@ use Rattle.layout.proofs.Shifting.{rank-open}
 ascending-out : {least : ℕ} {o : Order} {os : List Order} → Ascending least (o ∷ os) → (least < o .id) × Ascending (o .id) os
 ascending-out (next l a) = (l, a)
 
+-- what k, which is 1 for an id x that is not larger and else 0, has where both cases have it
+pub by-id : (P : ℕ → Type 0) {x id k : ℕ} → (id < x → k ≡ 0) × (x ≤ id → k ≡ 1) × (k ≤ 1) → (id < x → P 0) → (x ≤ id → P 1) → P k
+by-id P {x} {id} {k} is larger other = by (decLe x id)
+  where
+    by : Dec (x ≤ id) → P k
+    by (yes h) = rw (is .1 h) (other h)
+    by (no h) = let l : id < x = omega (arith, h) in rw (is .0 l) (larger l)
+
 -- ---- the records s from p on
 module _ (s : List ℕ) where
   -- their ids are above what they ascend from, and each is above those before it

@@ -7,7 +7,9 @@ use lib.ListN.{length}
 use Rattle.words.specs.Words.{wordAt, putWord, putWords, partOf}
 use Rattle.ledger.specs.declared.order.Order.{Order}
 use Rattle.ledger.specs.Records.{packed, Packable, orderAt, ordersFrom}
+use Rattle.book.specs.Sound.{Ascending}
 use Rattle.layout.specs.Layout.{countWord, ordersWord}
+use Rattle.layout.specs.View.{openOrders}
 
 -- the first word of record p
 abbrev pub orderWord : ℕ → ℕ
@@ -51,6 +53,10 @@ SmallOrders (o ∷ os) = SmallOrder o × SmallOrders os
 pub record Records (m : List ℕ) : Type 0 where
   pub long : 65536 ≤ length m
   pub count : wordAt m countWord ≤ 256
+
+-- with ids that ascend too, so that an id has a place among them
+abbrev pub Ranked : List ℕ → Type 0
+Ranked m = (65536 ≤ length m) × (wordAt m countWord ≤ 256) × Ascending 0 (openOrders m)
 
 -- the place of the first order with a larger id, else behind the last
 unfoldable pub rank : ℕ → List Order → ℕ

@@ -6,7 +6,6 @@ ghost use lib.ListN.{length, set};
 ghost use Rattle.words.specs.Words.{wordAt};
 ghost use Rattle.ledger.specs.Records.{Packable};
 ghost use Rattle.book.specs.OpenOrders.{insert};
-ghost use Rattle.book.specs.Sound.{Ascending};
 ghost use Rattle.layout.specs.Layout.{memoryBytes, countWord};
 ghost use Rattle.layout.specs.View.{openOrders};
 ghost use Rattle.layout.specs.Stores.{orderIn, ordersIn, putOrder, putOrders, storeOrders, Records, rank, without};
@@ -40,34 +39,6 @@ pub fn put_order(m: &mut [u8], p: usize, o: Order)
     set_word(m, k + 1, pack(side, o.account, o.instrument));
     set_word(m, k + 2, o.total);
     set_word(m, k + 3, o.filled);
-}
-
-// The place of the first open order with a larger id, else behind the last: the search goes sixteen records at a step, then one
-// by one.
-pub fn place(m: &[u8], id: u64) -> usize
-    requires { ⌜ (memoryBytes ≤ length (now m)) × (wordAt (now m) countWord ≤ 256) × Ascending 0 (openOrders (now m)) ⌝ }
-    ensures { λ r. ⌜ r ≡ rank id (openOrders (now (m .entry))) ⌝ }
-{
-    let n = word(m, COUNT) as usize;
-    let mut q = 0;
-    let mut p = loop {
-        if n < q + 16 {
-            break q;
-        }
-        if id < word(m, ORDERS + (q + 15) * 4) {
-            break q;
-        }
-        q += 16;
-    };
-    loop {
-        if p == n {
-            break p;
-        }
-        if id < word(m, ORDERS + p * 4) {
-            break p;
-        }
-        p += 1;
-    }
 }
 
 // Moves the orders from place `p` to `n` one place up, and puts `o` at place `p`.
