@@ -28,7 +28,7 @@ pub fn found_before(m: &[u8], p: usize, id: u64) -> Found
     if p == 0 {
         return Found::Nothing;
     }
-    if word(m, ORDERS + (p - 1) * 4) == id {
+    if word(m, ORDERS + (p - 1) * 2) == id {
         Found::At(p - 1)
     } else {
         Found::Nothing

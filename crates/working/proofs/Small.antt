@@ -86,7 +86,7 @@ module _ (m : List ℕ) (bytes : Bytes m) (held : Held m) where
   open-ids : (o : Order) → List·Memᴰ o (openOrders m) → o .id < 2 ^ 64
   unfolding openOrders
   open-ids =
-      each-member (partOf m ordersWord 1024) (λ o. o .id < 2 ^ 64) 0 (wordAt m countWord)
+      each-member (partOf m ordersWord 512) (λ o. o .id < 2 ^ 64) 0 (wordAt m countWord)
       (λ q a b. small-record m q (omega (arith, held-count m held)) bytes .id)
 
   changed-ids : (id : ℕ) (f : Order → List Order) → ((o : Order) → Became o (f o)) → Found m id → (x : Order) → List·Memᴰ x (change id f (openOrders m)) → x .id < 2 ^ 64
