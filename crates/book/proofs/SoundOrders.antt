@@ -54,12 +54,12 @@ module _ (id : ℕ) (f : Order → List Order) (os : List Order) (o : Order) (fo
 
 -- ---- orders in range
 module _ (r : Roster) where
-  new-fits : (s : Side) (a i id : ℕ) (n : ℤ) → Numbered (r .accounts) a → Numbered (r .instruments) i → Numbered 1000000 (natAbs n) → OrderFits r (newOrder s a i id n)
+  pub new-fits : (s : Side) (a i id : ℕ) (n : ℤ) → Numbered (r .accounts) a → Numbered (r .instruments) i → Numbered 1000000 (natAbs n) → OrderFits r (newOrder s a i id n)
   unfolding newOrder remaining
   new-fits s a i id n account item quantity =
       record { account = account; instrument = item; total = quantity; remains = omega arith }
 
-  replaced-fits : (o : Order) (n : ℕ) → OrderFits r o → Numbered 1000000 n → o .filled < n → OrderFits r (replacedTotal o n)
+  pub replaced-fits : (o : Order) (n : ℕ) → OrderFits r o → Numbered 1000000 n → o .filled < n → OrderFits r (replacedTotal o n)
   unfolding replacedTotal remaining
   replaced-fits o n was quantity above =
       record { account = was .account; instrument = was .instrument; total = quantity; remains = omega arith }

@@ -54,7 +54,7 @@ module _ (m : List ℕ) (held : Held m) where
 module _ (m : List ℕ) (id : ℕ) where
   pub found-order : (p : ℕ) → placeFrom 0 id (openOrders m) ≡ At p → find id (openOrders m) ≡ some (orderIn m p)
   unfolding openOrders
-  found-order p e = from-place id (partOf m ordersWord 1024) (wordAt m countWord) 0 p e
+  found-order p e = from-place id (partOf m ordersWord 512) (wordAt m countWord) 0 p e
 
   -- its own id is that id
   pub order-named : (p : ℕ) → placeFrom 0 id (openOrders m) ≡ At p → find (orderIn m p .id) (openOrders m) ≡ some (orderIn m p)
@@ -64,7 +64,7 @@ module _ (m : List ℕ) (id : ℕ) where
 
   place-below : (p : ℕ) → placeFrom 0 id (openOrders m) ≡ At p → p < wordAt m countWord
   unfolding openOrders
-  place-below p e = found-place (partOf m ordersWord 1024) id (wordAt m countWord) p e .0
+  place-below p e = found-place (partOf m ordersWord 512) id (wordAt m countWord) p e .0
 
   pub place-small : Held m → (p : ℕ) → placeFrom 0 id (openOrders m) ≡ At p → p < 256
   place-small h p e = omega (arith, place-below p e, held-count m h)

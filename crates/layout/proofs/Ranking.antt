@@ -110,17 +110,17 @@ module _ (m : List ℕ) (id : ℕ) where
 
   -- x is the id in record q
   module _ (few : count ≤ 256) (q x : ℕ) (inside : q < count) (read : x ≡ wordAt m (orderWord q)) where
-    id-read : orderAt (partOf m ordersWord 1024) q .id ≡ x
+    id-read : orderAt (partOf m ordersWord 512) q .id ≡ x
     id-read = order-id m q (omega arith) ∙ sym read
 
     pub at-larger : id < x → rank id (openOrders m) ≤ q
     unfolding openOrders
-    at-larger h = omega (arith, not-before (partOf m ordersWord 1024) id count 0 q (omega arith) (omega arith) (omega (arith, id-read)))
+    at-larger h = omega (arith, not-before (partOf m ordersWord 512) id count 0 q (omega arith) (omega arith) (omega (arith, id-read)))
 
     module _ (up : Ascending 0 (openOrders m)) where
       pub at-other : x ≤ id → q < rank id (openOrders m)
       unfolding openOrders
-      at-other h = omega (arith, before (partOf m ordersWord 1024) id count 0 q 0 up (omega arith) (omega arith) (omega (arith, id-read)))
+      at-other h = omega (arith, before (partOf m ordersWord 512) id count 0 q 0 up (omega arith) (omega arith) (omega (arith, id-read)))
 
   -- the order with the id, if there is one, stands just before the place p
   module _ (few : count ≤ 256) (up : Ascending 0 (openOrders m)) (p x : ℕ) (is : p ≡ rank id (openOrders m)) (read : x ≡ wordAt m (orderWord (p - 1))) where
@@ -128,21 +128,21 @@ module _ (m : List ℕ) (id : ℕ) where
     unfolding openOrders
     found-before h same =
         let inside : p - 1 < count = omega (arith, rank-open m id) in
-        found-there (partOf m ordersWord 1024) id count 0 (p - 1) 0 up (omega arith) (omega arith) (id-read few (p - 1) x inside read ∙ same)
+        found-there (partOf m ordersWord 512) id count 0 (p - 1) 0 up (omega arith) (omega arith) (id-read few (p - 1) x inside read ∙ same)
 
     pub found-none : (1 ≤ p → x ≢ id) → placeFrom 0 id (openOrders m) ≡ Nothing
     unfolding openOrders
     found-none other =
-        let s : List ℕ = partOf m ordersWord 1024 in
+        let s : List ℕ = partOf m ordersWord 512 in
         found-nowhere s id count 0
         (λ q low high same. by q high same (before s id count 0 q 0 up (omega arith) (omega arith) (omega arith)) (ℕ-discrete (q + 1) p))
       where
-        by : (q : ℕ) → q < 0 + count → orderAt (partOf m ordersWord 1024) q .id ≡ id → q < 0 + rank id (openOrders m) → Dec (q + 1 ≡ p) → ⊥
+        by : (q : ℕ) → q < 0 + count → orderAt (partOf m ordersWord 512) q .id ≡ id → q < 0 + rank id (openOrders m) → Dec (q + 1 ≡ p) → ⊥
         by q high same passed (yes last) =
             let e : q ≡ p - 1 = omega arith in
-            other (omega arith) (sym (id-read few (p - 1) x (omega arith) read) ∙ ap (λ r. orderAt (partOf m ordersWord 1024) r .id) (sym e) ∙ same)
+            other (omega arith) (sym (id-read few (p - 1) x (omega arith) read) ∙ ap (λ r. orderAt (partOf m ordersWord 512) r .id) (sym e) ∙ same)
         by q high same passed (no earlier) =
-            let s : List ℕ = partOf m ordersWord 1024 in
+            let s : List ℕ = partOf m ordersWord 512 in
             let within : rank id (openOrders m) ≤ count = rank-open m id in
             let more : orderAt s q .id < orderAt s (q + 1) .id = rises s count 0 q (q + 1) 0 up (omega arith) (omega arith) (omega (arith, earlier)) in
             let upto : 0 + rank id (openOrders m) ≤ q + 1 = not-before s id count 0 (q + 1) (omega arith) (omega (arith, earlier)) (omega arith) in

@@ -27,8 +27,8 @@ pub record Placed (a i c g p : ℕ) : Type 0 where
   pub own : In 1536 3584 (ownRow a + i * 4) × In 1536 3584 (ownRow a + i * 4 + 3)
   pub default : In 3584 4096 (defaultRow a + c * 4) × In 3584 4096 (defaultRow a + c * 4 + 3)
   pub ofGroup : In 4096 4224 (groupRow a + g * 2) × In 4096 4224 (groupRow a + g * 2 + 1)
-  pub order : In 4224 5248 (orderWord p) × In 4224 5248 (orderWord p + 3)
-  pub inside : (5248 ≤ memoryWords) × (memoryWords * 8 ≤ memoryBytes)
+  pub order : In 4224 4736 (orderWord p) × In 4224 4736 (orderWord p + 1)
+  pub inside : (4736 ≤ memoryWords) × (memoryWords * 8 ≤ memoryBytes)
 
 pub placed : (a i c g p : ℕ) → Numbered 16 a → Numbered 32 i → Numbered 8 c → Numbered 4 g → p < 256 → Placed a i c g p
 placed a i c g p on-a on-i on-c on-g h =

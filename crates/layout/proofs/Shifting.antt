@@ -27,33 +27,33 @@ behind m i n o p above h =
 
 -- ---- records moved as one run of words
 -- the words of n records from record q on, stored in those from record p on, are their orders stored there
-words-moved : (l m : List ℕ) (q n p : ℕ) → q + n ≤ 256 → putWords l (orderWord p) (wordsAt m (orderWord q) (n * 4)) ≡ putOrders l p (ordersIn m q n)
+words-moved : (l m : List ℕ) (q n p : ℕ) → q + n ≤ 256 → putWords l (orderWord p) (wordsAt m (orderWord q) (n * 2)) ≡ putOrders l p (ordersIn m q n)
 unfolding putOrders ordersFrom putOrder wordsAt putWords
 words-moved l m q zero p h = refl
 words-moved l m q (suc n) p h =
     let k : ℕ = orderWord q in
     let j : ℕ = orderWord p in
-    let many : suc n * 4 ≡ 4 + n * 4 = omega arith in
-    let from : orderWord q + 4 ≡ orderWord (q + 1) = omega arith in
-    let to : orderWord p + 4 ≡ orderWord (p + 1) = omega arith in
-    let next : List ℕ = putWords l j (wordsAt m k 4) in
+    let many : suc n * 2 ≡ 2 + n * 2 = omega arith in
+    let from : orderWord q + 2 ≡ orderWord (q + 1) = omega arith in
+    let to : orderWord p + 2 ≡ orderWord (p + 1) = omega arith in
+    let next : List ℕ = putWords l j (wordsAt m k 2) in
     ap (λ r. putWords l j (wordsAt m k r)) many
-    ∙ puts-more l j m k 4 (n * 4)
+    ∙ puts-more l j m k 2 (n * 2)
     ∙ rw (from, to) (words-moved next m (q + 1) n (p + 1) (omega arith))
     ∙ ap (λ vs. putOrders (putWords l j vs) (p + 1) (ordersIn m (q + 1) n)) (sym (fields-in m q (omega arith)))
 
 -- the records from p to n one place up, and o at place p
-pub moved-up : (m up after : List ℕ) (p n : ℕ) (o : Order) → p ≤ n → n < 256 → up ≡ putWords m (orderWord p + 4) (wordsAt m (orderWord p) ((n - p) * 4)) → after ≡ putOrder up p o → after ≡ putOrders m p (o ∷ ordersIn m p (n - p))
+pub moved-up : (m up after : List ℕ) (p n : ℕ) (o : Order) → p ≤ n → n < 256 → up ≡ putWords m (orderWord p + 2) (wordsAt m (orderWord p) ((n - p) * 2)) → after ≡ putOrder up p o → after ≡ putOrders m p (o ∷ ordersIn m p (n - p))
 unfolding putOrders
 moved-up m up after p n o low few moved stored =
-    let e : orderWord p + 4 ≡ orderWord (p + 1) = omega arith in
+    let e : orderWord p + 2 ≡ orderWord (p + 1) = omega arith in
     let here : up ≡ putOrders m (p + 1) (ordersIn m p (n - p)) = moved ∙ rw e (words-moved m m p (n - p) (p + 1) (omega arith)) in
     stored ∙ rw here (past-orders (ordersIn m p (n - p)) m p (p + 1) o (omega arith))
 
 -- the records behind p one place down
-pub moved-down : (m after : List ℕ) (p n : ℕ) → p < n → n ≤ 256 → after ≡ putWords m (orderWord p) (wordsAt m (orderWord p + 4) ((n - (p + 1)) * 4)) → after ≡ putOrders m p (ordersIn m (p + 1) (n - (p + 1)))
+pub moved-down : (m after : List ℕ) (p n : ℕ) → p < n → n ≤ 256 → after ≡ putWords m (orderWord p) (wordsAt m (orderWord p + 2) ((n - (p + 1)) * 2)) → after ≡ putOrders m p (ordersIn m (p + 1) (n - (p + 1)))
 moved-down m after p n low few moved =
-    let e : orderWord p + 4 ≡ orderWord (p + 1) = omega arith in
+    let e : orderWord p + 2 ≡ orderWord (p + 1) = omega arith in
     moved ∙ rw e (words-moved m m (p + 1) (n - (p + 1)) p (omega arith))
 
 -- o at place p, and the records from there on behind it

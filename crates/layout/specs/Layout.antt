@@ -17,8 +17,8 @@
 --   1536..3583    own lines: TCI TVI LCI LVI                       16 × 32 × 4
 --   3584..4095    default lines: TCI TVI LCI LVI                   16 × 8 × 4
 --   4096..4223    group lines: LCC LVC                             16 × 4 × 2
---   4224..5247    order records                                    256 × 4
---   5248..6271    spare
+--   4224..4735    order records: id, detail                        256 × 2
+--   4736..6271    spare
 --   6272..7295    spare: contracts bought and sold                 16 × 32 × 2
 --   7296..7935    spare: margin settings, and whether set          16 × 8 × 5
 use Prim.Native.Nat.{ℕ, _+_, _*_}

@@ -6,25 +6,25 @@ use lib.Dec.{ltb}
 use lib.ListN.{length}
 use Rattle.words.specs.Words.{wordAt, putWord, putWords, partOf}
 use Rattle.ledger.specs.declared.order.Order.{Order}
-use Rattle.ledger.specs.Records.{packed, Packable, orderAt, ordersFrom}
+use Rattle.ledger.specs.Records.{detail, Storable, orderAt, ordersFrom}
 use Rattle.book.specs.Sound.{Ascending}
 use Rattle.layout.specs.Layout.{countWord, ordersWord}
 use Rattle.layout.specs.View.{openOrders}
 
 -- the first word of record p
 abbrev pub orderWord : ℕ → ℕ
-orderWord p = ordersWord + p * 4
+orderWord p = ordersWord + p * 2
 
 -- the order in record p, and those in the n records from record p on
 abbrev pub orderIn : List ℕ → ℕ → Order
-orderIn m p = orderAt (partOf m ordersWord 1024) p
+orderIn m p = orderAt (partOf m ordersWord 512) p
 
 abbrev pub ordersIn : List ℕ → ℕ → ℕ → List Order
-ordersIn m p n = ordersFrom (partOf m ordersWord 1024) p n
+ordersIn m p n = ordersFrom (partOf m ordersWord 512) p n
 
 -- the words of a record
 unfoldable pub fields : Order → List ℕ
-fields o = o .id ∷ packed (o .side) (o .account) (o .instrument) ∷ o .total ∷ o .filled ∷ []
+fields o = o .id ∷ detail o ∷ []
 
 unfoldable pub putOrder : List ℕ → ℕ → Order → List ℕ
 putOrder m p o = putWords m (orderWord p) (fields o)
@@ -41,9 +41,7 @@ storeOrders m os = putWord (putOrders m 0 os) countWord (length os)
 -- a record can hold it
 pub record SmallOrder (o : Order) : Type 0 where
   pub id : o .id < 2 ^ 64
-  pub packable : Packable (o .account) (o .instrument)
-  pub total : o .total < 2 ^ 64
-  pub filled : o .filled < 2 ^ 64
+  pub detail : Storable o
 
 abbrev pub SmallOrders : List Order → Type 0
 SmallOrders [] = Unit

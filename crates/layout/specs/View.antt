@@ -66,7 +66,7 @@ blocksOf m =
 
 -- the open orders: a count, then that many records
 unfoldable pub openOrders : List ℕ → List Order
-openOrders m = ordersFrom (partOf m ordersWord 1024) 0 (wordAt m countWord)
+openOrders m = ordersFrom (partOf m ordersWord 512) 0 (wordAt m countWord)
 
 unfoldable pub bookOf : List ℕ → Book
 bookOf m =

@@ -1,10 +1,10 @@
-// The order records of a desk: four words each, ascending by id, and their count.
+// The order records of a desk: two words each, ascending by id, and their count.
 ghost use mathlib.Core.Path.{_≡_};
 ghost use mathlib.Core.List.{_∷_};
 ghost use Prim.Native.Nat.{_+_, _-_, _≤_, _<_};
 ghost use lib.ListN.{length, set};
 ghost use Rattle.words.specs.Words.{wordAt};
-ghost use Rattle.ledger.specs.Records.{Packable};
+ghost use Rattle.ledger.specs.Records.{Storable};
 ghost use Rattle.book.specs.OpenOrders.{insert};
 ghost use Rattle.layout.specs.Layout.{memoryBytes, countWord};
 ghost use Rattle.layout.specs.View.{openOrders};
@@ -12,8 +12,8 @@ ghost use Rattle.layout.specs.Stores.{orderIn, ordersIn, putOrder, putOr
 use crate::table::COUNT;
 use crate::table::ORDERS;
 use ledger::order::Order;
+use ledger::records::detail;
 use ledger::records::load;
-use ledger::records::pack;
 use words::part;
 use words::set_word;
 use words::word;
@@ -25,28 +25,25 @@ pub fn load_order(m: &[u8], p: usize) -> Order
     requires { ⌜ (memoryBytes ≤ length (now m)) × (p < 256) ⌝ }
     ensures { λ r. ⌜ r ≡ orderIn (now (m .entry)) p ⌝ }
 {
-    load(part(m, ORDERS, 1024), p)
+    load(part(m, ORDERS, 512), p)
 }
 
 // Makes `o` the order in record `p`.
 pub fn put_order(m: &mut [u8], p: usize, o: Order)
-    requires { ⌜ (memoryBytes ≤ length (now m)) × (p < 256) × Packable (o .account) (o .instrument) ⌝ }
+    requires { ⌜ (memoryBytes ≤ length (now m)) × (p < 256) × Storable o ⌝ }
     ensures { λ r. ⌜ now (m .exit) ≡ putOrder (now (m .entry)) p o ⌝ }
 {
-    let k = ORDERS + p * 4;
-    let side = o.side;
+    let k = ORDERS + p * 2;
     set_word(m, k, o.id);
-    set_word(m, k + 1, pack(side, o.account, o.instrument));
-    set_word(m, k + 2, o.total);
-    set_word(m, k + 3, o.filled);
+    set_word(m, k + 1, detail(o));
 }
 
 // Moves the orders from place `p` to `n` one place up, and puts `o` at place `p`.
 fn open_up(m: &mut [u8], p: usize, n: usize, o: Order)
-    requires { ⌜ Records (now m) × (n ≡ wordAt (now m) countWord) × (p ≤ n) × (n < 256) × Packable (o .account) (o .instrument) ⌝ }
+    requires { ⌜ Records (now m) × (n ≡ wordAt (now m) countWord) × (p ≤ n) × (n < 256) × Storable o ⌝ }
     ensures { λ r. ⌜ now (m .exit) ≡ putOrders (now (m .entry)) p (o ∷ ordersIn (now (m .entry)) p (n - p)) ⌝ }
 {
-    words_up(m, ORDERS + p * 4, 4, (n - p) * 4);
+    words_up(m, ORDERS + p * 2, 2, (n - p) * 2);
     put_order(m, p, o);
 }
 
@@ -55,12 +52,12 @@ fn close_up(m: &mut [u8], p: usize, n: usize)
     requires { ⌜ Records (now m) × (n ≡ wordAt (now m) countWord) × (p < n) ⌝ }
     ensures { λ r. ⌜ now (m .exit) ≡ putOrders (now (m .entry)) p (ordersIn (now (m .entry)) (p + 1) (n - (p + 1))) ⌝ }
 {
-    words_down(m, ORDERS + p * 4, 4, (n - (p + 1)) * 4);
+    words_down(m, ORDERS + p * 2, 2, (n - (p + 1)) * 2);
 }
 
 // The order `o` joins at place `p`, before the first larger id.
 pub fn insert_order(m: &mut [u8], p: usize, o: Order)
-    requires { ⌜ Records (now m) × (wordAt (now m) countWord < 256) × (p ≡ rank (o .id) (openOrders (now m))) × Packable (o .account) (o .instrument) ⌝ }
+    requires { ⌜ Records (now m) × (wordAt (now m) countWord < 256) × (p ≡ rank (o .id) (openOrders (now m))) × Storable o ⌝ }
     ensures { λ r. ⌜ now (m .exit) ≡ storeOrders (now (m .entry)) (insert o (openOrders (now (m .entry)))) ⌝ }
 {
     let n = word(m, COUNT) as usize;
@@ -80,7 +77,7 @@ pub fn remove_order(m: &mut [u8], p: usize)
 
 // The order at place `p` becomes `o`.
 pub fn replace_order(m: &mut [u8], p: usize, o: Order)
-    requires { ⌜ Records (now m) × (p < wordAt (now m) countWord) × Packable (o .account) (o .instrument) ⌝ }
+    requires { ⌜ Records (now m) × (p < wordAt (now m) countWord) × Storable o ⌝ }
     ensures { λ r. ⌜ now (m .exit) ≡ storeOrders (now (m .entry)) (set (openOrders (now (m .entry))) p o) ⌝ }
 {
     put_order(m, p, o);

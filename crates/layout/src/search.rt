@@ -16,7 +16,7 @@ pub fn id_at(m: &[u8], p: usize) -> u64
     requires { ⌜ (memoryBytes ≤ length (now m)) × (p < 256) ⌝ }
     ensures { λ r. ⌜ r ≡ wordAt (now (m .entry)) (orderWord p) ⌝ }
 {
-    word(m, ORDERS + p * 4)
+    word(m, ORDERS + p * 2)
 }
 
 // 1 for an id that is not larger, else 0.

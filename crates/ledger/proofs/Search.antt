@@ -12,15 +12,15 @@ use Rattle.words.specs.Words.{wordAt}
 use Rattle.ledger.specs.declared.find.Found.{Found}
 use Rattle.ledger.specs.declared.find.Found.the-variants.{At, Nothing}
 use Rattle.ledger.specs.Orders.{placeFrom}
-use Rattle.ledger.specs.Records.{orderAt, ordersFrom}
+use Rattle.ledger.specs.Records.{orderOf, orderAt, ordersFrom}
 
 module _ (m : List ℕ) (n id : ℕ) where
   -- the first place from p on
   pub seek : ℕ → Found
   seek p = placeFrom p id (ordersFrom m p (n - p))
 
-  turn : (p : ℕ) → p < n → seek p ≡ cond (eqb (wordAt m (p * 4)) id) (At p) (seek (p + 1))
-  unfolding seek placeFrom ordersFrom orderAt
+  turn : (p : ℕ) → p < n → seek p ≡ cond (eqb (wordAt m (p * 2)) id) (At p) (seek (p + 1))
+  unfolding seek placeFrom ordersFrom orderAt orderOf
   turn p h =
       let e : n - p ≡ suc (n - (p + 1)) = omega arith in
       rw e
@@ -33,11 +33,11 @@ module _ (m : List ℕ) (n id : ℕ) where
   unfolding seek placeFrom ordersFrom
   seek-end p h = let e : n - p ≡ 0 = omega arith in rw e
 
-  pub seek-here : (p x : ℕ) → p < n → x ≡ wordAt m (p * 4) → x ≡ id → seek p ≡ At p
-  seek-here p x h e same = turn p h ∙ simp (eq-eqb (wordAt m (p * 4)) id (cc))
+  pub seek-here : (p x : ℕ) → p < n → x ≡ wordAt m (p * 2) → x ≡ id → seek p ≡ At p
+  seek-here p x h e same = turn p h ∙ simp (eq-eqb (wordAt m (p * 2)) id (cc))
 
-  pub seek-on : (p x : ℕ) → p < n → x ≡ wordAt m (p * 4) → x ≢ id → seek p ≡ seek (p + 1)
-  seek-on p x h e other = turn p h ∙ simp (ne-eqb (wordAt m (p * 4)) id (λ s. other (e ∙ s)))
+  pub seek-on : (p x : ℕ) → p < n → x ≡ wordAt m (p * 2) → x ≢ id → seek p ≡ seek (p + 1)
+  seek-on p x h e other = turn p h ∙ simp (ne-eqb (wordAt m (p * 2)) id (λ s. other (e ∙ s)))
 
 -- ---- what a caller learns
 module _ (m : List ℕ) (id : ℕ) where

@@ -1,5 +1,5 @@
--- Orders as flat records in lent bytes, four words each; balances; and a roster of 76 words.
-use Prim.Native.Nat.{ℕ, zero, suc, _+_, _*_, _-_, _/_, _%_, _^_}
+-- Orders as flat records in lent bytes, two words each; balances; and a roster of 76 words.
+use Prim.Native.Nat.{ℕ, zero, suc, _+_, _*_, _-_, _/_, _%_, _≤_, _<_}
 use mathlib.Core.Bool.{cond}
 use mathlib.Core.List.{List, [], _∷_}
 use lib.Dec.{eqb}
@@ -8,6 +8,7 @@ use Rattle.words.specs.Words.{wordAt, signedAt}
 use Rattle.ledger.specs.declared.order.Order.{Order}
 use Rattle.ledger.specs.declared.order.Side.{Side}
 use Rattle.ledger.specs.declared.order.Side.the-variants.{Buy, Sell}
+use Rattle.ledger.specs.Orders.{remaining}
 use Rattle.ledger.specs.Roster.{Roster, Numbered}
 
 -- the side that a number stands for: 1 buy, 2 sell
@@ -19,35 +20,57 @@ numberOf Buy = 1
 numberOf Sell = 2
 
 -- side, account and instrument as one number: 64 for each account before this one, 32 for a sell, 1 for each instrument before
--- this one. Every number is one of some side, account and instrument.
+-- this one
 unfoldable pub packed : Side → ℕ → ℕ → ℕ
 packed Buy a i = (a - 1) * 64 + (i - 1)
 packed Sell a i = (a - 1) * 64 + 32 + (i - 1)
 
--- those that a word of 64 bits can hold
+-- those that make a number of 10 bits
 abbrev pub Packable : ℕ → ℕ → Type 0
-Packable a i = Numbered (2 ^ 58) a × Numbered 32 i
+Packable a i = Numbered 16 a × Numbered 32 i
 
 unfoldable pub packedSide : ℕ → Side
 packedSide w = cond (eqb (w / 32 % 2) 0) Buy Sell
 
 abbrev pub packedAccount : ℕ → ℕ
-packedAccount w = w / 64 + 1
+packedAccount w = w / 64 % 16 + 1
 
 abbrev pub packedInstrument : ℕ → ℕ
 packedInstrument w = w % 32 + 1
 
--- the order in record p: its id; side, account and instrument packed; total; filled
-unfoldable pub orderAt : List ℕ → ℕ → Order
-orderAt m p =
+-- the detail of an order, all but its id as one number: 10 bits of side, account and instrument packed, 27 bits of what is
+-- filled, then what remains
+unfoldable pub detail : Order → ℕ
+detail o = packed (o .side) (o .account) (o .instrument) + o .filled * 1024 + remaining o * 137438953472
+
+abbrev pub detailFilled : ℕ → ℕ
+detailFilled w = w / 1024 % 134217728
+
+abbrev pub detailRemaining : ℕ → ℕ
+detailRemaining w = w / 137438953472
+
+-- those whose detail is a word that says them
+pub record Storable (o : Order) : Type 0 where
+  pub packable : Packable (o .account) (o .instrument)
+  pub part : o .filled ≤ o .total
+  pub filled : o .filled < 134217728
+  pub remaining : remaining o < 134217728
+
+-- the order of an id and a detail: every word is the detail of one
+unfoldable pub orderOf : ℕ → ℕ → Order
+orderOf id w =
     record {
-      id = wordAt m (p * 4);
-      account = packedAccount (wordAt m (p * 4 + 1));
-      instrument = packedInstrument (wordAt m (p * 4 + 1));
-      side = packedSide (wordAt m (p * 4 + 1));
-      total = wordAt m (p * 4 + 2);
-      filled = wordAt m (p * 4 + 3);
+      id = id;
+      account = packedAccount w;
+      instrument = packedInstrument w;
+      side = packedSide w;
+      total = detailFilled w + detailRemaining w;
+      filled = detailFilled w;
     }
+
+-- the order in record p: its id, then its detail
+unfoldable pub orderAt : List ℕ → ℕ → Order
+orderAt m p = orderOf (wordAt m (p * 2)) (wordAt m (p * 2 + 1))
 
 -- the orders in the n records from record p on
 unfoldable pub ordersFrom : List ℕ → ℕ → ℕ → List Order

@@ -14,7 +14,7 @@ pub enum Found {
 
 // The place of the first of the `n` orders with that id.
 pub fn find(orders: &[u8], n: usize, id: u64) -> Found
-    requires { ⌜ n * 32 ≤ length (now orders) ⌝ }
+    requires { ⌜ n * 16 ≤ length (now orders) ⌝ }
     ensures { λ r. ⌜ r ≡ placeFrom 0 id (ordersFrom (now (orders .entry)) 0 n) ⌝ }
 {
     let mut p = 0;
@@ -22,7 +22,7 @@ pub fn find(orders: &[u8], n: usize, id: u64) -> Found
         if p == n {
             break Found::Nothing;
         }
-        if word(orders, p * 4) == id {
+        if word(orders, p * 2) == id {
             break Found::At(p);
         }
         p += 1;

@@ -1,8 +1,8 @@
-// Orders in flat records: record p is words 4 p to 4 p + 3 of the lent bytes.
+// Orders in flat records: record p is words 2 p and 2 p + 1 of the lent bytes.
 ghost use mathlib.Core.Path.{_≡_};
 ghost use Prim.Native.Nat.{_+_, _*_, _≤_};
 ghost use lib.ListN.{length};
-ghost use Rattle.ledger.specs.Records.{sideOf, numberOf, packed, Packable, packedSide, orderAt};
+ghost use Rattle.ledger.specs.Records.{sideOf, numberOf, packed, Packable, packedSide, detail, Storable, orderAt};
 use crate::order::Order;
 use crate::order::Side;
 use words::word;
@@ -46,19 +46,29 @@ fn packed_side(w: u64) -> Side
     }
 }
 
+// All of an order but its id, as one word.
+pub fn detail(o: Order) -> u64
+    requires { ⌜ Storable o ⌝ }
+    ensures { λ r. ⌜ r ≡ detail o ⌝ }
+{
+    let side = o.side;
+    pack(side, o.account, o.instrument) + o.filled * 1024 + (o.total - o.filled) * 137438953472
+}
+
 // The order in record `p`.
 pub fn load(orders: &[u8], p: usize) -> Order
-    requires { ⌜ p * 32 + 32 ≤ length (now orders) ⌝ }
+    requires { ⌜ p * 16 + 16 ≤ length (now orders) ⌝ }
     ensures { λ r. ⌜ r ≡ orderAt (now (orders .entry)) p ⌝ }
 {
-    let k = p * 4;
-    let packed = word(orders, k + 1);
+    let k = p * 2;
+    let w = word(orders, k + 1);
+    let filled = w / 1024 % 134217728;
     Order {
         id: word(orders, k),
-        account: packed / 64 + 1,
-        instrument: packed % 32 + 1,
-        side: packed_side(packed),
-        total: word(orders, k + 2),
-        filled: word(orders, k + 3),
+        account: w / 64 % 16 + 1,
+        instrument: w % 32 + 1,
+        side: packed_side(w),
+        total: filled + w / 137438953472,
+        filled,
     }
 }

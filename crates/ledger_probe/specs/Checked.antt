@@ -15,7 +15,7 @@ pub record FitOrder (o : Order) : Type 0 where
 
 pub record FitOrders (m : List ℕ) (n : ℕ) : Type 0 where
   pub few : n ≤ 256
-  pub long : n * 32 ≤ length m
+  pub long : n * 16 ≤ length m
   pub each : (p : ℕ) → p < n → FitOrder (orderAt m p)
 
 -- of the first `count` instruments

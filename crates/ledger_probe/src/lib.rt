@@ -55,7 +55,7 @@ fn orders_fit(orders: &[u8], n: usize) -> bool
     if 256 < n {
         return false;
     }
-    if orders.len() < n * 32 {
+    if orders.len() < n * 16 {
         return false;
     }
     for p in 0..n {
@@ -116,9 +116,9 @@ fn roster_fits(roster: &[u8]) -> bool
 // The place of the order, `n` where there is none, and the largest number where the bytes are too few.
 #[no_mangle]
 pub extern "C" fn probe_find(orders: &[u8], n: usize, id: u64) -> usize
-    ensures { λ r. ⌜ (n * 32 ≤ length (now (orders .entry)) → r ≡ placeNumber n (placeFrom 0 id (ordersFrom (now (orders .entry)) 0 n))) ⌝ }
+    ensures { λ r. ⌜ (n * 16 ≤ length (now (orders .entry)) → r ≡ placeNumber n (placeFrom 0 id (ordersFrom (now (orders .entry)) 0 n))) ⌝ }
 {
-    if orders.len() / 32 < n {
+    if orders.len() / 16 < n {
         return 18446744073709551615;
     }
     match find(orders, n, id) {

@@ -34,7 +34,7 @@ pub fn counted_at(orders: &[Order], at: usize, side: Side, account: u64, instrum
 
 // Loads the orders of the first `n` records to the first `n` places.
 pub fn load_into(orders: &mut [Order], records: &[u8], n: usize)
-    requires { ⌜ (n ≤ length (now orders)) × (n * 32 ≤ length (now records)) ⌝ }
+    requires { ⌜ (n ≤ length (now orders)) × (n * 16 ≤ length (now records)) ⌝ }
     ensures { λ r. ⌜ now (orders .exit) ≡ loadedTo (now (orders .entry)) (now (records .entry)) n ⌝ }
 {
     let mut p: usize = 0;
@@ -60,7 +60,7 @@ pub fn counted_to(orders: &[Order], n: usize, side: Side, account: u64, instrume
 
 // The list with the orders of the first `n` records at its first `n` places.
 pub fn with_loaded(list: [Order; 256], records: &[u8], n: usize) -> [Order; 256]
-    requires { ⌜ (n ≤ 256) × (n * 32 ≤ length (now records)) ⌝ }
+    requires { ⌜ (n ≤ 256) × (n * 16 ≤ length (now records)) ⌝ }
     ensures { λ r. ⌜ r ≡ loadedTo list (now (records .entry)) n ⌝ }
 {
     let mut next = list;
@@ -78,7 +78,7 @@ pub fn counted_in(list: [Order; 256], n: usize, side: Side, account: u64, instru
 
 // The list of the orders of the first `n` records.
 fn loaded(records: &[u8], n: usize) -> [Order; 256]
-    requires { ⌜ (n ≤ 256) × (n * 32 ≤ length (now records)) ⌝ }
+    requires { ⌜ (n ≤ 256) × (n * 16 ≤ length (now records)) ⌝ }
     ensures { λ r. ⌜ r ≡ loadedTo (replicate 256 none) (now (records .entry)) n ⌝ }
 {
     let none = Order {

@@ -13,18 +13,18 @@ use Rattle.positions.specs.Gathered.{cell}
 
 -- for B or V of account a and instrument i
 pub record OpenBounds (orders : List ℕ) (n : ℕ) (s : Side) (a i : ℕ) : Type 0 where
-  pub long : n * 32 ≤ length orders
+  pub long : n * 16 ≤ length orders
   pub small : natAbs (openOn one (ordersFrom orders 0 n) s a i) ≤ 9000000000000000000
 
 -- for PCI and PVI of account a and instrument i
 pub record InstrumentBounds (orders : List ℕ) (n : ℕ) (balances : List ℕ) (a i : ℕ) : Type 0 where
-  pub orders-long : n * 32 ≤ length orders
+  pub orders-long : n * 16 ≤ length orders
   pub balances-long : i * 8 + 8 ≤ length balances
   pub small : (s : Side) → natAbs (balancesIn balances i) + natAbs (openOn one (ordersFrom orders 0 n) s a i) ≤ 9000000000000000000
 
 -- for the cells of account a
 pub record GatherBounds (orders : List ℕ) (n a : ℕ) : Type 0 where
-  pub long : n * 32 ≤ length orders
+  pub long : n * 16 ≤ length orders
   pub instrument : (p : ℕ) → p < n → Numbered 32 (orderAt orders p .instrument)
   pub unfilled : (s : Side) (i : ℕ) → natAbs (openOn one (ordersFrom orders 0 n) s a i) ≤ 100000000000
 

@@ -60,16 +60,16 @@ module _ (report before : List ℤ) {k answer : ℕ} (e : k ≡ answer) where
 
 -- ---- what the ledger answers over the desk's parts is the report
 module _ (m : List ℕ) (a : ℕ) (read : Read m a) where
-  pub instrument-told : (i : ℕ) → Numbered (rosterOf m .instruments) i → (p : InstrumentPosition) → InInstrument (partOf m ordersWord 1024) (wordAt m countWord) (partOf m (balanceRow a) 33) a i p → p .balance .0 ∷ p .long .0 ∷ p .short .0 ∷ [] ≡ instrumentReport m a i
+  pub instrument-told : (i : ℕ) → Numbered (rosterOf m .instruments) i → (p : InstrumentPosition) → InInstrument (partOf m ordersWord 512) (wordAt m countWord) (partOf m (balanceRow a) 33) a i p → p .balance .0 ∷ p .long .0 ∷ p .short .0 ∷ [] ≡ instrumentReport m a i
   unfolding instrumentReport positionIn openOrders derivatives potential
   instrument-told i on p told =
-      let os = ordersFrom (partOf m ordersWord 1024) 0 (wordAt m countWord) in
+      let os = ordersFrom (partOf m ordersWord 512) 0 (wordAt m countWord) in
       rw (told .its-balance, row-balance m (read .held) a (read .account) i on, told .its-long, told .its-short, ← words-potential m (read .held) a (read .account) one os (instrument i) on long, ← words-potential m (read .held) a (read .account) one os (instrument i) on short)
 
-  pub group-told : (g : ℕ) (p : GroupPosition) → InGroup (partOf m ordersWord 1024) (wordAt m countWord) (partOf m (balanceRow a) 33) (partOf m rosterWord 76) a g p → p .long .0 ∷ p .short .0 ∷ [] ≡ groupReport m a g
+  pub group-told : (g : ℕ) (p : GroupPosition) → InGroup (partOf m ordersWord 512) (wordAt m countWord) (partOf m (balanceRow a) 33) (partOf m rosterWord 76) a g p → p .long .0 ∷ p .short .0 ∷ [] ≡ groupReport m a g
   unfolding groupReport positionIn openOrders derivatives
   group-told g p told =
-      let os = ordersFrom (partOf m ordersWord 1024) 0 (wordAt m countWord) in
+      let os = ordersFrom (partOf m ordersWord 512) 0 (wordAt m countWord) in
       rw (told .its-long, told .its-short, words-potential m (read .held) a (read .account) one os (group g) tt long, words-potential m (read .held) a (read .account) one os (group g) tt short)
 
 -- ---- what the questions tell

@@ -40,7 +40,7 @@ fn instrument_report(m: &[u8], account: u64, instrument: u64) -> [i64; 3]
     ensures { λ r. ⌜ r ≡ instrumentReport (now (m .entry)) account instrument ⌝ }
 {
     let at = listed_position(
-        part(m, ORDERS, 1024),
+        part(m, ORDERS, 512),
         word(m, COUNT) as usize,
         part(m, BALANCES + account as usize * 32, 33),
         account,
@@ -58,7 +58,7 @@ fn group_report(m: &[u8], account: u64, group: u64) -> [i64; 2]
     ensures { λ r. ⌜ r ≡ groupReport (now (m .entry)) account group ⌝ }
 {
     let at = group_position(
-        part(m, ORDERS, 1024),
+        part(m, ORDERS, 512),
         word(m, COUNT) as usize,
         part(m, BALANCES + account as usize * 32, 33),
         part(m, ROSTER, 76),

@@ -152,7 +152,7 @@ module _ (r : Roster) (trading : ℕ → Bool) (s : List ℕ) (n : ℕ) (cells :
           }
 
 -- ---- of a memory: s is its part with the records, n its count
-module _ (m s : List ℕ) (n : ℕ) (count : n ≡ wordAt m countWord) (records : s ≡ partOf m ordersWord 1024) where
+module _ (m s : List ℕ) (n : ℕ) (count : n ≡ wordAt m countWord) (records : s ≡ partOf m ordersWord 512) where
   pub of-memory : (t : Bool) → t ≡ (ascend 0 (ordersFrom s 0 n) && recordsSound (rosterOf m) (tradingOf m) s 0 n) → t ≡ (ascend 0 (openOrders m) && ordersSound m)
   unfolding openOrders ordersSound
   of-memory t e = rw (← count, ← records) e
@@ -161,5 +161,5 @@ module _ (m s : List ℕ) (n : ℕ) (count : n ≡ wordAt m countWord) (records 
   unfolding openOrders
   gathered-memory cells g = rw (← count, ← records) g
 
-  pub records-long : 65536 ≤ length m → length s ≡ 8192
-  records-long h = ap length records ∙ length-part m ordersWord 1024 (omega arith)
+  pub records-long : 65536 ≤ length m → length s ≡ 4096
+  records-long h = ap length records ∙ length-part m ordersWord 512 (omega arith)

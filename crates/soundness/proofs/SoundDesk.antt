@@ -23,24 +23,24 @@ use Rattle.soundness.proofs.PositionFacts.{positions-out, positions-in}
 
 pub open-count : (m : List ℕ) → length (openOrders m) ≡ wordAt m countWord
 unfolding openOrders
-open-count m = length-orders (partOf m ordersWord 1024) 0 (wordAt m countWord)
+open-count m = length-orders (partOf m ordersWord 512) 0 (wordAt m countWord)
 
 -- ---- out
 module _ (m : List ℕ) (c : Conditions m) where
-  fit : (p : ℕ) → p < wordAt m countWord → Fit (rosterOf m) (tradingOf m) (orderAt (partOf m ordersWord 1024) p)
+  fit : (p : ℕ) → p < wordAt m countWord → Fit (rosterOf m) (tradingOf m) (orderAt (partOf m ordersWord 512) p)
   unfolding ordersSound
-  fit p h = records-out (partOf m ordersWord 1024) (rosterOf m) (tradingOf m) 0 (wordAt m countWord) (c .orders) p (omega arith) (omega arith)
+  fit p h = records-out (partOf m ordersWord 512) (rosterOf m) (tradingOf m) 0 (wordAt m countWord) (c .orders) p (omega arith) (omega arith)
 
   member-fits : (o : Order) → List·Memᴰ o (openOrders m) → OrderFits (rosterOf m) o
   unfolding openOrders
   member-fits =
-      each-member (partOf m ordersWord 1024) (OrderFits (rosterOf m)) 0 (wordAt m countWord)
+      each-member (partOf m ordersWord 512) (OrderFits (rosterOf m)) 0 (wordAt m countWord)
       (λ q a b. let f = fit q (omega arith) in record { account = f .account; instrument = f .instrument; total = f .total; remains = f .remains })
 
   member-marked : (o : Order) → List·Memᴰ o (openOrders m) → tradingOf m (o .account) ≡ true
   unfolding openOrders
   member-marked =
-      each-member (partOf m ordersWord 1024) (λ o. tradingOf m (o .account) ≡ true) 0 (wordAt m countWord)
+      each-member (partOf m ordersWord 512) (λ o. tradingOf m (o .account) ≡ true) 0 (wordAt m countWord)
       (λ q a b. fit q (omega arith) .marked)
 
   shown : Sound derivatives (rosterOf m) (view m .book) (view m .trading)
@@ -68,17 +68,17 @@ sound-out m e =
 
 -- ---- in
 module _ (m : List ℕ) (h : Held m) where
-  pub all-fit : (p : ℕ) → p < wordAt m countWord → Fit (rosterOf m) (tradingOf m) (orderAt (partOf m ordersWord 1024) p)
+  pub all-fit : (p : ℕ) → p < wordAt m countWord → Fit (rosterOf m) (tradingOf m) (orderAt (partOf m ordersWord 512) p)
   unfolding view bookOf openOrders
   all-fit p l =
-      let s = partOf m ordersWord 1024 in
+      let s = partOf m ordersWord 512 in
       let k = order-member s 0 (wordAt m countWord) p (omega arith) (omega arith) in
       let f = h .book .fits (orderAt s p) k in
       record { account = f .account; instrument = f .instrument; total = f .total; remains = f .remains; marked = h .book .marked (orderAt s p) k }
 
   orders-in : ordersSound m ≡ true
   unfolding ordersSound
-  orders-in = records-in (partOf m ordersWord 1024) (rosterOf m) (tradingOf m) 0 (wordAt m countWord) (λ q a b. all-fit q (omega arith))
+  orders-in = records-in (partOf m ordersWord 512) (rosterOf m) (tradingOf m) 0 (wordAt m countWord) (λ q a b. all-fit q (omega arith))
 
   pub held-count : wordAt m countWord ≤ 256
   unfolding view bookOf

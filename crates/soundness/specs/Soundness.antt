@@ -69,7 +69,7 @@ recordsSound r trading m p (suc n) =
 -- its orders are in range
 unfoldable pub ordersSound : List ℕ → Bool
 ordersSound m =
-    recordsSound (rosterOf m) (tradingOf m) (partOf m ordersWord 1024) 0 (wordAt m countWord)
+    recordsSound (rosterOf m) (tradingOf m) (partOf m ordersWord 512) 0 (wordAt m countWord)
 
 -- S + B (long) and −S + V (short) are at most 1,000,000,000
 unfoldable pub positionSound : List ℕ → ℕ → ℕ → Way → Bool

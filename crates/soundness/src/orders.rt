@@ -57,7 +57,7 @@ pub fn gather(m: &[u8], cells: &mut [u64; 1089]) -> bool
     ensures { λ r. ⌜ (r ≡ (ascend 0 (openOrders (now (m .entry))) && ordersSound (now (m .entry)))) × (r ≡ true → Gathered (now (cells .exit)) (openOrders (now (m .entry)))) ⌝ }
 {
     let n = word(m, COUNT) as usize;
-    let orders = part(m, ORDERS, 1024);
+    let orders = part(m, ORDERS, 512);
     let mut last: u64 = 0;
     for p in 0..n {
         let o = load(orders, p);

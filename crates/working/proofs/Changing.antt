@@ -18,20 +18,24 @@ use Rattle.ledger.specs.declared.order.Order.{Order}
 use Rattle.ledger.specs.declared.order.Side.{Side}
 use Rattle.ledger.specs.declared.find.Found.the-variants.{At}
 use Rattle.ledger.specs.Orders.{remaining, filledBy, replacedTotal, placeFrom}
-use Rattle.ledger.specs.Records.{Packable, orderAt, ordersFrom}
+use Rattle.ledger.specs.Records.{Storable, orderAt, ordersFrom}
 use Rattle.ledger.proofs.Search.{found-place}
 use Rattle.book.specs.declared.Event.the-variants.{New, Replace, Cancel}
 use Rattle.book.specs.OpenOrders.{find, insert, change, kept}
 use Rattle.book.specs.Books.{newOrder}
+use Rattle.book.specs.Sound.{OrderFits}
 use Rattle.book.proofs.Shifts.{kept-none, kept-some}
+use Rattle.book.proofs.SoundOrders.{new-fits, replaced-fits}
 use Rattle.layout.specs.Layout.{memoryBytes, countWord}
-use Rattle.layout.specs.View.{openOrders}
+use Rattle.layout.specs.View.{rosterOf, openOrders}
+use Rattle.layout.specs.Judged.{judged}
 use Rattle.layout.specs.Stores.{orderIn, storeOrders, Records, without}
 use Rattle.layout.specs.FieldStores.{storeMark}
 use Rattle.layout.proofs.OrderRecords.{small-record}
 use Rattle.layout.proofs.ViewOrders.{change-leaves, change-becomes}
+use Rattle.soundness.specs.Held.{Held}
 use Rattle.working.specs.Working.{Ready, Stands, worked}
-use Rattle.working.proofs.Told.{records}
+use Rattle.working.proofs.Told.{records, storable, told}
 
 -- ---- the place
 named-inside : (m : List ℕ) (id p : ℕ) → placeFrom 0 id (openOrders m) ≡ At p → p < wordAt m countWord
@@ -64,26 +68,26 @@ pub loadable : (m : List ℕ) (id p : ℕ) → Records m → placeFrom 0 id (ope
 loadable m id p r found = let inside = named-inside m id p found in omega (arith, r .long, r .count)
 
 -- ---- NEW
--- in place of the order found, one of its account and instrument can be stored
-module _ (m : List ℕ) (id p : ℕ) (o y : Order) (bytes : Bytes m) (rs : Records m) (found : placeFrom 0 id (openOrders m) ≡ At p) (loaded : o ≡ orderIn m p) where
-  storable : y .account ≡ o .account → y .instrument ≡ o .instrument → Records m × (p < wordAt m countWord) × Packable (y .account) (y .instrument)
-  storable a i =
-      let here = at-place m id p rs found in
-      (here .0, here .1, rw (a, i, loaded) (small-record m p (omega (arith, here .1, rs .count)) bytes .packable))
-
-  pub replaced-storable : (n : ℕ) → y ≡ replacedTotal o n → Records m × (p < wordAt m countWord) × Packable (y .account) (y .instrument)
-  unfolding replacedTotal
-  replaced-storable n made = storable (rw made) (rw made)
-
-  pub filled-storable : (n : ℕ) → y ≡ filledBy o n → Records m × (p < wordAt m countWord) × Packable (y .account) (y .instrument)
-  unfolding filledBy
-  filled-storable n made = storable (rw made) (rw made)
+pub new-storable : (m : List ℕ) (held : Held m) (s : Side) (a i id : ℕ) (n : ℤ) → SFits w64 n → judged m (New s a i id n) ≡ 0 → Storable (record { id = id; account = a; instrument = i; side = s; total = natAbs (toZ w64 (ofZ w64 n)); filled = 0 })
+unfolding newOrder
+new-storable m held s a i id n fits passes =
+    let t = told m held (New s a i id n) passes in
+    rw (toZ-ofZ w64 n fits) (storable m held (newOrder s a i id n) (new-fits (rosterOf m) s a i id n (t .0) (t .1) (t .2 .1)))
 
 pub joined : (m l x : List ℕ) (s : Side) (a i id : ℕ) (n : ℤ) → SFits w64 n → l ≡ storeOrders m (insert (record { id = id; account = a; instrument = i; side = s; total = natAbs (toZ w64 (ofZ w64 n)); filled = 0 }) (openOrders m)) → x ≡ storeMark l a → x ≡ worked m (New s a i id n)
 unfolding worked newOrder
 joined m l x s a i id n fits stored marked = marked ∙ rw (stored, toZ-ofZ w64 n fits)
 
 -- ---- REPLACE
+pub replaced-storable : (m : List ℕ) (id : ℕ) (n : ℤ) (p : ℕ) (o y : Order) → Ready m (Replace id n) p → SFits w64 n → o ≡ orderIn m p → y ≡ replacedTotal o (natAbs (toZ w64 (ofZ w64 n))) → Records m × (p < wordAt m countWord) × Storable y
+replaced-storable m id n p o y ready fits loaded made =
+    let t = told m (ready .held) (Replace id n) (ready .accepted) in
+    let found = t .0 .found in
+    let same : t .0 .order ≡ o = cc (named-found m id p (ready .named)) in
+    let new : OrderFits (rosterOf m) (replacedTotal o (natAbs n)) = rw (← same) (replaced-fits (rosterOf m) (t .0 .order) (natAbs n) (t .0 .fits) (t .1 .1) (t .2)) in
+    let here = at-place m id p (records m (ready .held)) (ready .named) in
+    (here .0, here .1, rw (made, toZ-ofZ w64 n fits) (storable m (ready .held) (replacedTotal o (natAbs n)) new))
+
 pub replaced : (m x : List ℕ) (id : ℕ) (n : ℤ) (p : ℕ) (o y : Order) → Bytes m → Ready m (Replace id n) p → SFits w64 n → o ≡ orderIn m p → y ≡ replacedTotal o (natAbs (toZ w64 (ofZ w64 n))) → x ≡ storeOrders m (set (openOrders m) p y) → x ≡ worked m (Replace id n)
 unfolding worked
 replaced m x id n p o y bytes ready fits loaded made stored =
@@ -106,6 +110,15 @@ module _ {m : List ℕ} {p : ℕ} {o : Order} {n : ℕ} (bytes : Bytes m) (stand
 
   here : filledBy (orderIn m p) n ≡ next
   here = sym (made ∙ ap (λ x. filledBy x n) (stands .loaded))
+
+  pub filled-storable : r ≢ 0 → Records m × (p < wordAt m countWord) × Storable next
+  unfolding filledBy remaining
+  filled-storable some-left =
+      let at = at-place m (o .id) p (stands .records) (stands .found) in
+      let was : Storable o = rw (stands .loaded) (small-record m p (omega (arith, at .1, stands .records .count)) bytes .detail) in
+      let rest : remaining (filledBy o n) ≢ 0 = λ e. some-left (read ∙ ap remaining made ∙ e) in
+      let new : Storable (filledBy o n) = record { packable = was .packable; part = omega (arith, rest); filled = stands .small; remaining = omega (arith, was .remaining) } in
+      (at .0, at .1, rw made new)
 
   pub filled-leaves : r ≡ 0 → storeOrders m (without p (openOrders m)) ≡ storeOrders m (change (o .id) fills (openOrders m))
   filled-leaves none-left =

@@ -12,7 +12,6 @@ use Rattle.words.specs.Fields.{u64At}
 use Rattle.words.specs.Words.{wordAt, partOf}
 use Rattle.words.proofs.Numbers.{number-below}
 use Rattle.ledger.specs.declared.order.Order.{Order}
-use Rattle.ledger.specs.Orders.{remaining}
 use Rattle.limits.specs.Lines.{Line, GroupLine}
 use Rattle.book.specs.declared.Event.{Event}
 use Rattle.book.specs.declared.Event.the-variants.{Limit, Balance, Block, New, Replace, Cancel, Fill, Junk}
@@ -34,7 +33,7 @@ use Rattle.layout.proofs.StoreWords.{SmallLine, SmallGroupLine}
 use Rattle.soundness.specs.Held.{Held}
 use Rattle.soundness.proofs.OrderFacts.{each-member}
 use Rattle.soundness.proofs.SoundDesk.{held-count}
-use Rattle.working.proofs.Told.{Found, sound, packable, passed, told}
+use Rattle.working.proofs.Told.{Found, sound, storable, passed, told}
 
 -- ---- lines in range
 pub small-line : (x : Option Line) → ((l : Line) → x ≡ some l → LineFits 1000000000 l) → SmallLine x
@@ -86,7 +85,7 @@ module _ (m : List ℕ) (bytes : Bytes m) (held : Held m) where
   open-ids : (o : Order) → List·Memᴰ o (openOrders m) → o .id < 2 ^ 64
   unfolding openOrders
   open-ids =
-      each-member (partOf m ordersWord 1024) (λ o. o .id < 2 ^ 64) 0 (wordAt m countWord)
+      each-member (partOf m ordersWord 512) (λ o. o .id < 2 ^ 64) 0 (wordAt m countWord)
       (λ q a b. small-record m q (omega (arith, held-count m held)) bytes .id)
 
   changed-ids : (id : ℕ) (f : Order → List Order) → ((o : Order) → Became o (f o)) → Found m id → (x : Order) → List·Memᴰ x (change id f (openOrders m)) → x .id < 2 ^ 64
@@ -108,10 +107,8 @@ module _ (m : List ℕ) (bytes : Bytes m) (held : Held m) where
   ids-after Junk sized passes = open-ids
 
   pub small-after : (e : Event) → Sized e → judged m e ≡ 0 → SmallOrders (work (derivatives .unit) (bookOf m) e .orders)
-  unfolding remaining
   small-after e sized passes =
       members-small (work (derivatives .unit) (bookOf m) e .orders)
       (λ x k.
       let f = fits-after derivatives (rosterOf m) (bookOf m) (tradingOf m) (sound m held) e (passed m e passes) x k in
-      let r = sound m held .roster in
-      record { id = ids-after e sized passes x k; packable = packable m held (x .account) (x .instrument) (f .account) (f .instrument); total = omega arith; filled = omega arith })
+      record { id = ids-after e sized passes x k; detail = storable m held x f })

@@ -5,7 +5,7 @@ use mathlib.Core.Bool.{true}
 use mathlib.Core.List.{List}
 use mathlib.Core.Option.{some}
 use native.Mathlib.Omega.{arith}
-use lib.Dec.{leb}
+use lib.Dec.{leb, ltb}
 use lib.IntN.{ℤ, pos, negℤ, natAbs}
 use lib.ListN.{length}
 use lib.Signed.{_≤ℤ_}
@@ -16,7 +16,7 @@ use Rattle.words.specs.Words.{wordAt}
 use Rattle.ledger.specs.declared.order.Order.{Order}
 use Rattle.ledger.specs.Orders.{remaining}
 use Rattle.ledger.specs.Roster.{Roster, Numbered}
-use Rattle.ledger.specs.Records.{Packable}
+use Rattle.ledger.specs.Records.{Storable}
 use Rattle.limits.specs.Lines.{isSet}
 use Rattle.book.specs.declared.LimitLine.{LimitLine}
 use Rattle.book.specs.declared.LimitLine.the-variants.{Own, Default, OfGroup}
@@ -68,7 +68,7 @@ Told m (Balance a i z) =
 Told m (Block what z) = BlockTold (rosterOf m) what
 Told m (New s a i id n) =
     Numbered (rosterOf m .accounts) a × Numbered (rosterOf m .instruments) i × Quantity n × (wordAt m countWord < 256)
-Told m (Replace id n) = Found m id × Quantity n
+Told m (Replace id n) = (f : Found m id) × Quantity n × (f .order .filled < natAbs n)
 Told m (Cancel id) = Found m id
 Told m (Fill id n) = (f : Found m id) × Quantity n × (natAbs n ≤ remaining (f .order))
 Told m Junk = Unit
@@ -92,11 +92,17 @@ module _ (m : List ℕ) (held : Held m) where
   pub records : Records m
   records = record { long = held .long; count = held-count m held }
 
-  -- a record can hold an order of its accounts and instruments
-  pub packable : (a i : ℕ) → Numbered (rosterOf m .accounts) a → Numbered (rosterOf m .instruments) i → Packable a i
-  packable a i on-a on-i =
+  -- a record can hold an order in range
+  pub storable : (o : Order) → OrderFits (rosterOf m) o → Storable o
+  unfolding remaining
+  storable o fits =
       let sized = laid .sized in
-      ((on-a .0, omega arith), (on-i .0, omega arith))
+      record {
+        packable = ((fits .account .0, omega arith), (fits .instrument .0, omega arith));
+        part = omega arith;
+        filled = omega arith;
+        remaining = omega arith;
+      }
 
 pub passed : (m : List ℕ) (e : Event) → judged m e ≡ 0 → Passed derivatives (rosterOf m) (bookOf m) (tradingOf m) e
 unfolding judged
@@ -143,7 +149,8 @@ module _ (m : List ℕ) (held : Held m) where
       (between-numbered (rosterOf m .accounts) a (ok .account), between-numbered (rosterOf m .instruments) i (ok .item), quantity n (ok .figures), omega (arith, open-count m))
   told (Replace id n) passes =
       let ok = passed m (Replace id n) passes in
-      (found-open id (ok .found), quantity n (ok .figures))
+      let f = found-open id (ok .found) in
+      (f, quantity n (ok .figures), ltb-true (f .order .filled) (natAbs n) (test-found (λ o. ltb (o .filled) (natAbs n)) (find id (openOrders m)) (f .order) (f .found) (ok .quantity)))
   told (Cancel id) passes = found-open id (passed m (Cancel id) passes .found)
   told (Fill id n) passes =
       let ok = passed m (Fill id n) passes in

@@ -1,5 +1,5 @@
 -- The memory after an accepted event, by an equation for each kind, and the contracts bought and sold that it moved.
-use Prim.Native.Nat.{ℕ, _+_, _^_, _<_}
+use Prim.Native.Nat.{ℕ, _+_, _<_}
 use mathlib.Core.Path.{_≡_}
 use mathlib.Core.Bool.{Bool, not}
 use mathlib.Core.List.{List, [], _∷_}
@@ -33,12 +33,12 @@ pub record Ready (m : List ℕ) (e : Event) (p : ℕ) : Type 0 where
   pub accepted : judged m e ≡ 0
   pub named : NamedAt e (openOrders m) p
 
--- the open order o is found at place p, and what is filled of it with n more fits a word
+-- the open order o is found at place p, and what is filled of it with n more fits its record
 pub record Stands (m : List ℕ) (p : ℕ) (o : Order) (n : ℕ) : Type 0 where
   pub records : Records m
   pub found : placeFrom 0 (o .id) (openOrders m) ≡ At p
   pub loaded : o ≡ orderIn m p
-  pub small : o .filled + n < 2 ^ 64
+  pub small : o .filled + n < 134217728
 
 abbrev pub lineStored : List ℕ → ℕ → LimitLine → List ℕ
 lineStored m a (Own i f) = storeOwn m a i (lineOf f)

@@ -129,7 +129,7 @@ module _ {M : Type 1} (𝓤 : URA M) (H : Heap 𝓤) (A : Atoms 𝓤) (W : Given
       suffices ! _ (ends-at 𝓤 H A load-into.ended stayed (load-into.clauses 𝓤 H A at-mem run) W (((κ, (κ′, tt)), (q, (q′, tt)), bounds, arg, vals), tt) vunit tt (zs, (tt, (tt, tt))) (len, (tt, (tt, tt)))) $ says ! e $
       nothing ! $ move ! (2 ∷ 0 ∷ []) $ join ! $ move ! (1 ∷ 0 ∷ []) $ join ! $ frame ! $ fjoin3 ! $ feqI ! (List Val) (vunit ∷ []) (vunit ∷ []) refl $ move ! (1 ∷ 0 ∷ []) $ done !
 
-  module _ (room : Room OrderR (length ys)) (bytes-fit : length ms < 2 ^ 64) (n-fits : n < 2 ^ 64) (within : n ≤ length ys) (long : n * 32 ≤ length ms) where
+  module _ (room : Room OrderR (length ys)) (bytes-fit : length ms < 2 ^ 64) (n-fits : n < 2 ^ 64) (within : n ≤ length ys) (long : n * 16 ≤ length ms) where
     abbrev to-load : ℕ → Load 𝓤 H A at-mem run .Ghost
     to-load p = (((κ′, tt), (q′, tt), tt, (y, (p, tt)), (vals .1 .0, (vint w64 p ∷ [], tt))), tt)
 
@@ -260,7 +260,7 @@ module _ {M : Type 1} (𝓤 : URA M) (H : Heap 𝓤) (A : Atoms 𝓤) (W : Given
   load-into-walks : Walks 𝓤 H A load-into.ended stayed (WpFn 𝓤 H (𝓣 .C) (𝓣 .Λ) code.function) (load-into.clauses 𝓤 H A mem run)
   load-into-walks = walked 𝓤 H A load-into.ended stayed (load-into.clauses 𝓤 H A mem run) (WpFn 𝓤 H (𝓣 .C) (𝓣 .Λ) code.function)
       (λ κs. (slice-vals, (slice-vals, (uint-vals w64, tt)))) (λ κs. (mut-slice-tells (named 0) (κs .0) OrderR, (shr-slice-tells (named 1) (κs .1 .0) u8, (uint-tells w64, tt))))
-      (λ κs qs bounds a g are. needs 𝓤 ((a .1 .1 .0 ≤ length (now (a .0))) × (a .1 .1 .0 * 32 ≤ length (now (a .1 .0)))) _ (λ pre.
+      (λ κs qs bounds a g are. needs 𝓤 ((a .1 .1 .0 ≤ length (now (a .0))) × (a .1 .1 .0 * 16 ≤ length (now (a .1 .0)))) _ (λ pre.
       walk 𝓤 H A W mem run (κs .0) (κs .1 .0) bounds (qs .0) (qs .1 .0) (a .0 .ptr .0) (a .0 .ptr .1) (a .0 .name) (a .0 .now) (a .1 .0 .ptr .0) (a .1 .0 .ptr .1) (a .1 .0 .name) (a .1 .0 .now) (a .1 .1 .0)
       (are .0 .0 .1) (are .1 .0 .0 .1 .0) (are .1 .1 .0 .1) (pre .0) (pre .1) 𝓣 known-load known-put))
 

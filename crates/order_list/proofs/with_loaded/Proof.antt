@@ -101,14 +101,14 @@ module _ {M : Type 1} (𝓤 : URA M) (H : Heap 𝓤) (A : Atoms 𝓤) (W : Given
     abbrev to-load : ℕ → GName → LoadInto 𝓤 H A mem run .Ghost
     to-load ν δ = (((ν ∷ [], (κ, tt)), (fullShare, (q, tt)), tt, (x δ, (y, (n, tt))), (sliceVal (l₄, 0) 256 ∷ [], (vals .1 .0, (vint w64 n ∷ [], tt)))), tt)
 
-    goes : length xs ≡ 256 → n < 2 ^ 64 → n ≤ 256 → n * 32 ≤ length ms → (ν : ℕ) (δ : GName) → ent 𝓤 (sep 𝓤 (sep 𝓤 (A .lft (ν ∷ []) fullShare) (A .lft κ q)) (sep 𝓤 (sem 𝓤 H A (lent ν δ)) (sem 𝓤 H A records))) (LoadInto 𝓤 H A mem run .pre (to-load ν δ))
+    goes : length xs ≡ 256 → n < 2 ^ 64 → n ≤ 256 → n * 16 ≤ length ms → (ν : ℕ) (δ : GName) → ent 𝓤 (sep 𝓤 (sep 𝓤 (A .lft (ν ∷ []) fullShare) (A .lft κ q)) (sep 𝓤 (sem 𝓤 H A (lent ν δ)) (sem 𝓤 H A records))) (LoadInto 𝓤 H A mem run .pre (to-load ν δ))
     goes len n-fits within long ν δ =
         qed W ((‵ (flft (ν ∷ []) fullShare) ⊛ ‵ (flft κ q)) ∷ ‵ (lent ν δ) ∷ ‵ records ∷ []) ∵ says ! (subst (λ (m : ℕ). n ≤ m) (sym len) within, long) $ split ! $
         nothing ! $ move ! (2 ∷ 0 ∷ []) $ join ! $ move ! (1 ∷ 0 ∷ []) $ join ! $ frame ! $
         nothing ! $ owned ! usize (Is usize) (uint-makes 𝓤 H A W w64) n _ (refl, n-fits) $ fjoin ! $ move ! (2 ∷ 0 ∷ []) $ fjoin ! $ move ! (1 ∷ 0 ∷ []) $ fjoin ! $ done !
 
   module _ (C : Calls 𝓤 H) (Λ : Loops 𝓤 H) (fm : FmC 𝓤 H (W .laws) C) (known : Triple 𝓤 (C #order-list·load-into) (LoadInto 𝓤 H A mem run)) where
-    walk : Is (ListR 256) xs (list-val xs ∷ []) → length xs ≡ 256 → length ms < 2 ^ 64 → n < 2 ^ 64 → n ≤ 256 → n * 32 ≤ length ms
+    walk : Is (ListR 256) xs (list-val xs ∷ []) → length xs ≡ 256 → length ms < 2 ^ 64 → n < 2 ^ 64 → n ≤ 256 → n * 16 ≤ length ms
         → ent 𝓤 (onEntry 𝓤 H A with-loaded.signature (κ, tt) (q, tt) arg vals) (WpFn 𝓤 H C Λ code.function (list-val xs ∷ sliceVal (b, o) (length ms) ∷ vint w64 n ∷ []) Post)
     walk is len bytes-fit n-fits within long =
         qed W ((‵ (flft κ q) ⊛ ‵ ftrue) ∷ ‵ (owns (ListR 256 ∷ ShrSlice (named 0) κ u8 ∷ usize ∷ []) arg vals) ∷ []) ∵ enter ! C Λ code.function (list-val xs ∷ sliceVal (b, o) (length ms) ∷ vint w64 n ∷ []) _ $
@@ -143,7 +143,7 @@ module _ {M : Type 1} (𝓤 : URA M) (H : Heap 𝓤) (A : Atoms 𝓤) (W : Given
   with-loaded-walks : Walks 𝓤 H A with-loaded.ended stayed (WpFn 𝓤 H (𝓣 .C) (𝓣 .Λ) code.function) (with-loaded.clauses 𝓤 H A mem run)
   with-loaded-walks = walked 𝓤 H A with-loaded.ended stayed (with-loaded.clauses 𝓤 H A mem run) (WpFn 𝓤 H (𝓣 .C) (𝓣 .Λ) code.function)
       (λ κs. ((λ z. list-val z ∷ []), (slice-vals, (uint-vals w64, tt)))) (λ κs. (list-tells 256, (shr-slice-tells (named 0) (κs .0) u8, (uint-tells w64, tt))))
-      (λ κs qs bounds a g are. needs 𝓤 ((a .1 .1 .0 ≤ 256) × (a .1 .1 .0 * 32 ≤ length (now (a .1 .0)))) _ (λ pre.
+      (λ κs qs bounds a g are. needs 𝓤 ((a .1 .1 .0 ≤ 256) × (a .1 .1 .0 * 16 ≤ length (now (a .1 .0)))) _ (λ pre.
       walk 𝓤 H A W mem run (κs .0) (qs .0) (a .0) (a .1 .0 .ptr .0) (a .1 .0 .ptr .1) (a .1 .0 .name) (a .1 .0 .now) (a .1 .1 .0) (𝓣 .C) (𝓣 .Λ) (fmOf 𝓤 H (W .laws) 𝓣) known (are .0) (are .0 .1 .0 .1) (are .1 .0 .0 .1 .0) (are .1 .1 .0 .1) (pre .0) (pre .1)))
 
   with-loaded-meets : Meets 𝓤 H A with-loaded.signature (WpFn 𝓤 H (𝓣 .C) (𝓣 .Λ) code.function) (with-loaded.spec 𝓤 H A mem run)

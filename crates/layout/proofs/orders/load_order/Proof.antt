@@ -10,7 +10,7 @@ use Rattle.layout.proofs.orders.load_order.Tie as tie
 load-requires : tie.Need-load-requires
 load-requires c κs =
     let start = c .before .before in
-    omega (arith, ap length (c .part .ensures), length-part (start .args .m .now) 4224 1024 (omega arith))
+    omega (arith, ap length (c .part .ensures), length-part (start .args .m .now) 4224 512 (omega arith))
 
 returns : tie.Need-returns
 returns c =

@@ -1,10 +1,10 @@
 use borrow.Author.Needs.{needs}
-use Rattle.ledger.specs.Records.{orderAt}
+use Rattle.ledger.specs.Records.{orderOf, orderAt}
 use Rattle.ledger.proofs.records.load.Statement.{statement}
 use Rattle.ledger.proofs.records.load.Tie as tie
 
 returns : tie.Need-returns
-unfolding orderAt
+unfolding orderAt orderOf
 returns c = cc
 
 pub load-spec : {M : Type 1} → statement M
@@ -19,7 +19,4 @@ load-spec =
     (λ c. search needs)
     (λ c κs. search needs)
     (λ c. search needs)
-    (λ c κs. search needs)
-    (λ c. search needs)
-    (λ c κs. search needs)
     returns)

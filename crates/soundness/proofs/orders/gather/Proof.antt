@@ -16,14 +16,14 @@ use Rattle.soundness.proofs.orders.gather.Tie as tie
 abbrev Inv-loop : tie.InvT-loop
 Inv-loop m cells₀ n orders last₀ p₀ cells last p =
     (n ≡ wordAt m countWord)
-    × (orders ≡ partOf m ordersWord 1024)
+    × (orders ≡ partOf m ordersWord 512)
     × Passed (rosterOf m) (tradingOf m) orders n cells last p
 
 abbrev μ-loop : tie.MeasureT-loop
 μ-loop m cells₀ n orders last₀ p₀ cells last p = n - p
 
 -- the records are there
-long : (c : tie.In-loop Inv-loop μ-loop) → let at = c .before in (length (at .before .part .result .now) ≡ 8192) × (at .loop .p < 256)
+long : (c : tie.In-loop Inv-loop μ-loop) → let at = c .before in (length (at .before .part .result .now) ≡ 4096) × (at .loop .p < 256)
 long c =
     let at = c .before in
     let s = at .before .before .before .before in

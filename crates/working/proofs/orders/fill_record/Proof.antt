@@ -11,10 +11,9 @@ remove-order-requires c κs =
 
 replace-order-requires : tie.Need-replace-order-requires
 replace-order-requires c κs =
-    let made = c .before .before .before in
-    let known = made .before in
-    let stands = known .before .pre in
-    filled-storable _ _ _ _ _ (λ i. known .slice-known .given i .fits) (stands .records) (stands .found) (stands .loaded) _ (made .filled-by .ensures)
+    let tested = c .before in
+    let made = tested .before .before in
+    filled-storable (λ i. made .before .slice-known .given i .fits) (made .before .before .pre) (made .filled-by .ensures) (tested .before .remaining .ensures) (tested .if1 .left)
 
 returns : tie.Need-returns
 returns c =

@@ -1,8 +1,8 @@
 use native.Mathlib.Omega.{arith}
 use borrow.Author.Needs.{needs}
-use Rattle.working.proofs.Told.{records, packable, told}
+use Rattle.working.proofs.Told.{records, told}
 use Rattle.working.proofs.Rooms.{room, cast-fits}
-use Rattle.working.proofs.Changing.{joined}
+use Rattle.working.proofs.Changing.{new-storable, joined}
 use Rattle.working.proofs.orders.work_new.Statement.{statement}
 use Rattle.working.proofs.orders.work_new.Tie as tie
 
@@ -13,9 +13,10 @@ cast-t11 c =
 
 insert-order-requires : tie.Need-insert-order-requires
 insert-order-requires c κs =
-    let ready = c .before .before .pre in
+    let start = c .before .before in
+    let ready = start .pre in
     let t = told _ (ready .held) _ (ready .accepted) in
-    (records _ (ready .held), t .3, ready .named, packable _ (ready .held) _ _ (t .0) (t .1))
+    (records _ (ready .held), t .3, ready .named, new-storable _ (ready .held) _ _ _ _ _ (start .fits .quantity) (ready .accepted))
 
 set-mark-requires : tie.Need-set-mark-requires
 set-mark-requires c κs = let r = room (c .before .before .before .before .before .before .pre) in omega arith

@@ -18,9 +18,8 @@ cast-replaced-total c =
 replace-order-requires : tie.Need-replace-order-requires
 replace-order-requires c κs =
     let loaded = c .before .before in
-    let known = loaded .before .before in
-    let ready = known .before .pre in
-    replaced-storable _ _ _ _ _ (λ i. known .slice-known .given i .fits) (records _ (ready .held)) (ready .named) (loaded .load-order .ensures) _ (c .replaced-total .ensures)
+    let start = loaded .before .before .before in
+    replaced-storable _ _ _ _ _ _ (start .pre) (start .fits .total) (loaded .load-order .ensures) (c .replaced-total .ensures)
 
 returns : tie.Need-returns
 returns c =

@@ -1,0 +1,39 @@
+use native.Mathlib.Omega.{arith}
+use borrow.Author.Needs.{needs}
+use Rattle.ledger.specs.Orders.{remaining}
+use Rattle.ledger.specs.Records.{detail}
+use Rattle.ledger.proofs.Packing.{packed-below, detail-below}
+use Rattle.ledger.proofs.records.detail.Statement.{statement}
+use Rattle.ledger.proofs.records.detail.Tie as tie
+
+add-result : tie.Need-add-result
+add-result c =
+    let start = c .before .before in
+    let o = start .args .o in
+    omega (arith, c .before .pack .ensures, packed-below (o .account) (o .instrument) (start .pre .packable) (o .side))
+
+mul-result-2 : tie.Need-mul-result-2
+unfolding remaining
+mul-result-2 c = omega arith
+
+add-result-2 : tie.Need-add-result-2
+unfolding detail remaining
+add-result-2 c =
+    let start = c .before .before .before in
+    omega (arith, c .before .before .pack .ensures, detail-below (start .args .o) (start .pre))
+
+returns : tie.Need-returns
+unfolding detail remaining
+returns c = cc
+
+pub detail-spec : {M : Type 1} → statement M
+detail-spec =
+    tie.close
+    (tie.spec
+    (λ c κs. search needs)
+    (λ c. search needs)
+    add-result
+    (λ c. search needs)
+    mul-result-2
+    add-result-2
+    returns)
