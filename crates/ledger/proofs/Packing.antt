@@ -12,7 +12,7 @@ use Rattle.ledger.specs.Orders.{remaining}
 use Rattle.ledger.specs.Records.{packed, Packable, packedSide, packedAccount, packedInstrument, detail, detailFilled, detailRemaining, Storable, orderOf}
 
 -- ---- side, account and instrument
-packed-again : (w : ℕ) → packed (packedSide w) (packedAccount w) (packedInstrument w) ≡ w % 1024
+pub packed-again : (w : ℕ) → packed (packedSide w) (packedAccount w) (packedInstrument w) ≡ w % 1024
 unfolding packedSide packed
 packed-again w = by (ℕ-discrete (w / 32 % 2) 0)
   where

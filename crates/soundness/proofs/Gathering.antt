@@ -1,37 +1,42 @@
 -- The cells in which B and V of all accounts are gathered, order by order.
-use Prim.Native.Nat.{ℕ, _+_, _*_, _≤_, _<_}
+use Prim.Native.Nat.{ℕ, suc, _+_, _*_, _-_, _^_, _≤_, _<_}
 use mathlib.Core.Path.{_≡_, refl, _∙_, sym, ap}
 use mathlib.Core.Logic.{_≢_}
-use mathlib.Core.Bool.{Bool, true, false, _&&_}
+use mathlib.Core.Bool.{true, false, true≢false, _&&_}
 use mathlib.Core.List.{List}
 use native.Mathlib.Decide.{ℕ-discrete}
 use native.Mathlib.Omega.{arith}
+use lib.Dec.{ltb}
+use lib.Bits.{bitOr}
+use borrow.Author.Tests.{lt-ltb, le-ltb}
 use lib.ListN.{length, getD, set, replicate, length-set, length-replicate}
 use lib.Seq.{getD-set-same, getD-set-other}
 use lib.IntN.{pos, _+ℤ_, +ℤ-idl}
 use Rattle.words.specs.Words.{wordAt, partOf}
-use Rattle.words.proofs.Parts.{length-part}
 use Rattle.ledger.specs.declared.order.Order.{Order}
 use Rattle.ledger.specs.declared.order.Side.{Side}
 use Rattle.ledger.specs.declared.order.Side.the-variants.{Buy, Sell}
 use Rattle.ledger.specs.Orders.{remaining}
-use Rattle.ledger.specs.Roster.{Roster, Numbered}
-use Rattle.ledger.specs.Records.{orderAt, ordersFrom}
+use Rattle.ledger.specs.Roster.{Numbered}
+use Rattle.ledger.specs.Records.{orderOf, orderAt, ordersFrom}
+use Rattle.ledger.proofs.Packing.{word-storable}
 use Rattle.ledger.specs.Derivatives.{counted}
 use Rattle.positions.specs.Gathered.{cell as cellOf}
 use Rattle.positions.proofs.Gathering.{same-itself, empty-at}
 use Rattle.positions.proofs.Counting.{counted-other-account, counted-other-instrument, counted-other-side, counted-own, left, counted-more, counted-all}
 use Rattle.layout.specs.Layout.{countWord, ordersWord}
-use Rattle.layout.specs.View.{rosterOf, tradingOf, openOrders}
-use Rattle.soundness.specs.Soundness.{ascend, orderSound, recordsSound, ordersSound}
-use Rattle.soundness.specs.Cells.{cell, added, Empty, Gathered}
-use Rattle.soundness.proofs.Records.{order-out, remaining-small, checked, checked-all, checked-end, checked-id, checked-order, checked-on}
+use Rattle.layout.specs.View.{openOrders}
+use Rattle.soundness.specs.Soundness.{ascend}
+use Rattle.soundness.specs.Cells.{cell, added, Empty, Sums}
+use Rattle.soundness.specs.Each.{Tells, Each, Remains, Within}
+use Rattle.soundness.proofs.Telling.{tells-yes, tells-no, below, each-in, each-out}
+use Rattle.soundness.proofs.Details.{remains-some, joined-before, joined-here}
 
 pub cell-inside : (s : Side) (a i : ℕ) → a ≤ 16 → i ≤ 32 → cell s a i < 1089
 cell-inside Buy a i h l = omega arith
 cell-inside Sell a i h l = omega arith
 
--- an account's cells stand 32 behind those of the account before it
+-- an account's cells stand 64 behind those of the account before it
 pub cell-place : (s : Side) (a i j : ℕ) → j ≡ cellOf s i → a * 64 + j ≡ cell s a i
 cell-place Buy a i j e = omega arith
 cell-place Sell a i j e = omega arith
@@ -91,75 +96,105 @@ module _ (cells : List ℕ) (o : Order) (size : length cells ≡ 1089) (account 
   added-length = simp length-set size
 
   -- and no cell by more than what remains of it
-  added-small : (most : ℕ) → ((j : ℕ) → getD cells j 0 ≤ most) → remaining o ≤ 1000000 → (j : ℕ) → getD (added cells o) j 0 ≤ most + 1000000
+  added-small : (most more : ℕ) → ((j : ℕ) → getD cells j 0 ≤ most) → remaining o ≤ more → (j : ℕ) → getD (added cells o) j 0 ≤ most + more
   unfolding added own
-  added-small most small rest j = by (ℕ-discrete j own)
+  added-small most more small rest j = by (ℕ-discrete j own)
     where
-      by : Dec (j ≡ cell (o .side) (o .account) (o .instrument)) → getD (set cells (cell (o .side) (o .account) (o .instrument)) (getD cells (cell (o .side) (o .account) (o .instrument)) 0 + remaining o)) j 0 ≤ most + 1000000
+      by : Dec (j ≡ cell (o .side) (o .account) (o .instrument)) → getD (set cells (cell (o .side) (o .account) (o .instrument)) (getD cells (cell (o .side) (o .account) (o .instrument)) 0 + remaining o)) j 0 ≤ most + more
       by (yes e) = rw (e, getD-set-same cells own (getD cells own 0 + remaining o) 0 own-inside) (omega (arith, small own))
       by (no apart) = rw (getD-set-other cells own j (getD cells own 0 + remaining o) 0 apart) (omega (arith, small j))
 
 -- ---- the records below p: what is gathered and what is left make the whole
-pub record Passed (r : Roster) (trading : ℕ → Bool) (s : List ℕ) (n : ℕ) (cells : List ℕ) (last p : ℕ) : Type 0 where
+pub record Passed (s : List ℕ) (n : ℕ) (cells : List ℕ) (last all p : ℕ) : Type 0 where
   pub upto : p ≤ n
-  pub same : checked r trading s n 0 0 ≡ checked r trading s n last p
+  pub ids : ascend 0 (ordersFrom s 0 n) ≡ ascend last (ordersFrom s p (n - p))
+  pub remain : (q : ℕ) → q < p → Remains (orderAt s q)
+  pub within : (q : ℕ) → q < p → Within all (orderAt s q)
   pub size : length cells ≡ 1089
-  pub small : (j : ℕ) → getD cells j 0 ≤ p * 1000000
+  pub small : (j : ℕ) → getD cells j 0 ≤ p * 134217728
   pub sums : (v : Side) (a i : ℕ) → Numbered 16 a → Numbered 32 i → pos (getD cells (cell v a i) 0) +ℤ left s n v a i p ≡ left s n v a i 0
 
-module _ (r : Roster) (trading : ℕ → Bool) (s : List ℕ) (n : ℕ) (cells : List ℕ) where
-  pub passed-none : Empty cells → Passed r trading s n cells 0 0
+module _ (s : List ℕ) (n : ℕ) (cells : List ℕ) where
+  pub passed-none : Empty cells → Passed s n cells 0 0 0
   passed-none e =
+      let whole : n - 0 ≡ n = omega arith in
       record {
         upto = omega arith;
-        same = refl;
+        ids = rw whole;
+        remain = λ q h. absurd (omega arith);
+        within = λ q h. absurd (omega arith);
         size = e .size;
         small = λ j. omega (arith, e .zero j);
         sums = λ v a i h l. rw (e .zero (cell v a i)) (+ℤ-idl (left s n v a i 0));
       }
 
-  module _ (last p : ℕ) (past : Passed r trading s n cells last p) where
-    whole : (t : Bool) → checked r trading s n last p ≡ t → t ≡ (ascend 0 (ordersFrom s 0 n) && recordsSound r trading s 0 n)
-    whole t e = sym e ∙ sym (past .same) ∙ checked-all r trading s n
+  module _ (last all p : ℕ) (past : Passed s n cells last all p) where
+    pub passed-all : n ≤ p → (ascend 0 (ordersFrom s 0 n) ≡ true) × Sums cells (ordersFrom s 0 n)
+    unfolding ordersFrom ascend
+    passed-all h =
+        let none : n - p ≡ 0 = omega arith in
+        (past .ids ∙ rw none,
+        record { size = past .size; sums = λ v a i k l. counted-all s n v a i (getD cells (cell v a i) 0) p h (past .sums v a i k l) })
 
-    pub passed-all : n ≤ 256 → n ≤ p → (true ≡ (ascend 0 (ordersFrom s 0 n) && recordsSound r trading s 0 n)) × Gathered cells (ordersFrom s 0 n)
-    passed-all few h = (
-      whole true (checked-end r trading s n last p h),
-      record {
-        sums = record { size = past .size; sums = λ v a i k l. counted-all s n v a i (getD cells (cell v a i) 0) p h (past .sums v a i k l) };
-        small = λ j. omega (arith, past .small j, past .upto);
-      },
-    )
+    -- the next record: its id and its detail
+    module _ (id w : ℕ) (h : p < n) (is-id : id ≡ wordAt s (p * 2)) (is-detail : w ≡ wordAt s (p * 2 + 1)) where
+      here : orderOf id w ≡ orderAt s p
+      unfolding orderAt
+      here = rw (is-id, is-detail)
 
-    module _ (o : Order) (h : p < n) (here : o ≡ orderAt s p) where
-      pub passed-id : o .id ≤ last → false ≡ (ascend 0 (ordersFrom s 0 n) && recordsSound r trading s 0 n)
-      passed-id below = whole false (checked-id r trading s n last p o h here below)
+      turn : ascend last (ordersFrom s p (n - p)) ≡ (ltb last id && ascend id (ordersFrom s (p + 1) (n - (p + 1))))
+      unfolding ordersFrom ascend orderAt orderOf
+      turn =
+          let e : n - p ≡ suc (n - (p + 1)) = omega arith in
+          rw (e, ← is-id)
 
-      pub passed-order : orderSound r trading o ≡ false → false ≡ (ascend 0 (ordersFrom s 0 n) && recordsSound r trading s 0 n)
-      passed-order refused = whole false (checked-order r trading s n last p o h here refused)
+      pub passed-id : id ≤ last → ascend 0 (ordersFrom s 0 n) ≡ false
+      passed-id low = past .ids ∙ turn ∙ rw (le-ltb last id low)
 
-      pub passed-more : r .accounts ≤ 16 → r .instruments ≤ 32 → last < o .id → orderSound r trading o ≡ true → (cells′ : List ℕ) → cells′ ≡ added cells o → Passed r trading s n cells′ (o .id) (p + 1)
-      passed-more few narrow above sound cells′ e =
-          let fit = order-out r trading o sound in
-          let account : Numbered 16 (o .account) = (fit .account .0, omega (arith, fit .account .1)) in
-          let instrument : Numbered 32 (o .instrument) = (fit .instrument .0, omega (arith, fit .instrument .1)) in
+      pub passed-nothing : w < 137438953472 → remaining (orderAt s p) ≡ 0
+      unfolding remaining orderOf
+      passed-nothing less = rw (← here) (omega arith)
+
+      pub passed-more : last < id → 137438953472 ≤ w → w < 2 ^ 64 → (cells′ : List ℕ) → cells′ ≡ added cells (orderOf id w) → Passed s n cells′ id (bitOr all w) (p + 1)
+      passed-more above some word cells′ e =
+          let o = orderOf id w in
+          let fits = word-storable id w word in
+          let account = fits .packable .0 in
+          let instrument = fits .packable .1 in
           record {
             upto = omega arith;
-            same = past .same ∙ checked-on r trading s n last p o h here above sound;
+            ids = past .ids ∙ turn ∙ rw (lt-ltb last id above);
+            remain = below (λ q. Remains (orderAt s q)) p (past .remain) (rw (← here) (remains-some id w some));
+            within = below (λ q. Within (bitOr all w) (orderAt s q)) p (λ q l. joined-before all w (orderAt s q) (past .within q l)) (rw (← here) (joined-here all id w));
             size = rw e (added-length cells o (past .size) account instrument);
-            small = λ j. rw e (omega (arith, added-small cells o (past .size) account instrument (p * 1000000) (past .small) (remaining-small r trading o fit) j));
+            small = λ j. rw e (omega (arith, added-small cells o (past .size) account instrument (p * 134217728) 134217728 (past .small) (omega (arith, fits .remaining)) j));
             sums = λ v a i k l. rw (e, added-at cells o (past .size) account instrument v a i k l) (counted-more s n v a i (getD cells (cell v a i) 0) p (counted o v a i) o h here refl (past .sums v a i k l));
           }
 
--- ---- of a memory: s is its part with the records, n its count
+-- ---- a memory: s is its part with the records, n its count
 module _ (m s : List ℕ) (n : ℕ) (count : n ≡ wordAt m countWord) (records : s ≡ partOf m ordersWord 512) where
-  pub of-memory : (t : Bool) → t ≡ (ascend 0 (ordersFrom s 0 n) && recordsSound (rosterOf m) (tradingOf m) s 0 n) → t ≡ (ascend 0 (openOrders m) && ordersSound m)
-  unfolding openOrders ordersSound
-  of-memory t e = rw (← count, ← records) e
+  abbrev pub InOrder : Type 0
+  InOrder = (ascend 0 (openOrders m) ≡ true) × Each m Remains
 
-  pub gathered-memory : (cells : List ℕ) → Gathered cells (ordersFrom s 0 n) → Gathered cells (openOrders m)
+  ids-same : ascend 0 (ordersFrom s 0 n) ≡ ascend 0 (openOrders m)
   unfolding openOrders
-  gathered-memory cells g = rw (← count, ← records) g
+  ids-same = rw (count, records)
 
-  pub records-long : 65536 ≤ length m → length s ≡ 4096
-  records-long h = ap length records ∙ length-part m ordersWord 512 (omega arith)
+  pub ids-refused : ascend 0 (ordersFrom s 0 n) ≡ false → Tells false InOrder
+  ids-refused e = tells-no (λ h. true≢false (sym (h .0) ∙ sym ids-same ∙ e))
+
+  pub record-refused : (p : ℕ) → p < n → remaining (orderAt s p) ≡ 0 → Tells false InOrder
+  record-refused p h none =
+      tells-no (λ k. let some : Remains (orderAt s p) = each-out m s n count records Remains (k .1) p h in absurd (omega arith))
+
+  module _ (cells : List ℕ) (last all p : ℕ) (past : Passed s n cells last all p) (end : n ≤ p) where
+    pub all-told : Tells true InOrder
+    all-told =
+        tells-yes (sym ids-same ∙ passed-all s n cells last all p past end .0, each-in m s n count records Remains (λ q l. past .remain q (omega arith)))
+
+    pub all-within : Each m (Within all)
+    all-within = each-in m s n count records (Within all) (λ q l. past .within q (omega arith))
+
+    pub all-gathered : Sums cells (openOrders m)
+    unfolding openOrders
+    all-gathered = rw (← count, ← records) (passed-all s n cells last all p past end .1)

@@ -8,10 +8,10 @@ use lib.Bits.{bitOr, or-add-and, and-le-l, and-le-r}
 use Rattle.integers.specs.Parts.{signed, difference-parts, magnitude-parts}
 use Rattle.integers.specs.TwosComplement.{signedOf, signed-small, signed-large}
 
-or-left : (a b : ℕ) → a ≤ bitOr a b
+pub or-left : (a b : ℕ) → a ≤ bitOr a b
 or-left a b = omega (arith, or-add-and a b, and-le-r a b)
 
-or-right : (a b : ℕ) → b ≤ bitOr a b
+pub or-right : (a b : ℕ) → b ≤ bitOr a b
 or-right a b = omega (arith, or-add-and a b, and-le-l a b)
 
 -- one number more: r is at least f of the j numbers from k on, x at least f of the next

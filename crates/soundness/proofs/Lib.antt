@@ -3,6 +3,8 @@ mod Joining
 pub mod Asked
 pub mod RosterLaws
 pub mod Records
+mod Details
+mod Telling
 pub mod Gathering
 mod Places
 mod Whole
@@ -10,6 +12,7 @@ pub mod Questions
 pub mod RosterFacts
 pub mod LineFacts
 pub mod OrderFacts
+mod OrdersTold
 pub mod PositionFacts
 pub mod SoundDesk
 pub mod Bounded

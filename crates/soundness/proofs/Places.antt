@@ -13,6 +13,7 @@ use mir.ValLaws.{toZ-pos, toZ-ofZ}
 use Rattle.integers.specs.Magnitude.{sized, magnitude-difference}
 use Rattle.integers.specs.Parts.{signed, sum-parts, difference-parts, negation-parts, magnitude-parts}
 use Rattle.words.specs.Words.{signedAt}
+use Rattle.ledger.specs.declared.order.Side.{Side}
 use Rattle.ledger.specs.declared.order.Side.the-variants.{Buy, Sell}
 use Rattle.ledger.specs.Roster.{Numbered}
 use Rattle.ledger.specs.Positions.{Way, long, short, toward, sideTo, ofInstrument}
@@ -77,6 +78,9 @@ small-within long s x h l = omega (signed, magnitude-parts s, sum-parts s (pos x
 small-within short s x h l = omega (signed, magnitude-parts s, negation-parts s, sum-parts (negℤ s) (pos x))
 
 module _ (m cells : List ℕ) (a i : ℕ) (readable : Readable m) (gathered : Gathered cells (openOrders m)) (h : Numbered (rosterOf m .accounts) a) (l : Numbered (rosterOf m .instruments) i) where
+  pub cell-small : (s : Side) → getD cells (cell s a i) 0 ≤ 256000000
+  cell-small s = gathered .small s a i (h .0, omega (arith, readable .accounts)) (l .0, omega (arith, readable .instruments))
+
   position-cell : (w : Way) → positionSound m a i w ≡ leZ (toward w (signedAt m (balanceRow a + i)) +ℤ pos (getD cells (cell (sideTo w) a i) 0)) (pos 1000000000)
   unfolding positionSound ofInstrument
   position-cell w =
@@ -98,7 +102,7 @@ module _ (m cells : List ℕ) (a i : ℕ) (readable : Readable m) (gathered : Ga
   unfolding placeSound
   place-small small =
       let s = signedAt m (balanceRow a + i) in
-      let within : (w : Way) → leZ (toward w s +ℤ pos (getD cells (cell (sideTo w) a i) 0)) (pos 1000000000) ≡ true = λ w. small-within w s (getD cells (cell (sideTo w) a i) 0) small (gathered .small (cell (sideTo w) a i)) in
+      let within : (w : Way) → leZ (toward w s +ℤ pos (getD cells (cell (sideTo w) a i) 0)) (pos 1000000000) ≡ true = λ w. small-within w s (getD cells (cell (sideTo w) a i) 0) small (cell-small (sideTo w)) in
       and-true (positionSound m a i long) (positionSound m a i short) (position-cell long ∙ within long) (position-cell short ∙ within short)
 
 -- ---- the row of account a, of which no balance is larger than r and 1

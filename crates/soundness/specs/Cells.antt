@@ -45,4 +45,4 @@ pub record Sums (cells : List ℕ) (orders : List Order) : Type 0 where
 -- and none holds more than 256 orders of 1,000,000
 pub record Gathered (cells : List ℕ) (orders : List Order) : Type 0 where
   pub sums : Sums cells orders
-  pub small : (j : ℕ) → getD cells j 0 ≤ 256000000
+  pub small : (s : Side) (a i : ℕ) → Numbered 16 a → Numbered 32 i → getD cells (cell s a i) 0 ≤ 256000000

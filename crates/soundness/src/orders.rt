@@ -1,14 +1,17 @@
-// The open orders that a memory holds: one pass that tests each record and gathers what remains of it.
+// The open orders that a memory holds. One pass over the records asks what each order alone can tell and gathers what remains of it; what is then
+// still open is asked of all at once, and where that does not tell, record by record.
 ghost use mathlib.Core.Path.{_≡_};
 ghost use mathlib.Core.Bool.{true, _&&_};
-ghost use Prim.Native.Nat.{ℕ, _+_, _≤_};
+ghost use Prim.Native.Nat.{ℕ, _≤_};
 ghost use lib.ListN.{length, getD};
 ghost use Rattle.words.specs.Words.{wordAt};
-ghost use Rattle.ledger.specs.Orders.{remaining};
+ghost use Rattle.ledger.specs.Roster.{Numbered};
+ghost use Rattle.ledger.specs.Records.{orderOf};
 ghost use Rattle.layout.specs.Layout.{countWord};
-ghost use Rattle.layout.specs.View.{rosterOf, tradingOf, openOrders};
-ghost use Rattle.soundness.specs.Soundness.{ascend, orderSound, ordersSound};
-ghost use Rattle.soundness.specs.Cells.{Readable, added, Empty, Gathered};
+ghost use Rattle.layout.specs.View.{tradingOf, openOrders};
+ghost use Rattle.soundness.specs.Soundness.{ascend, ordersSound};
+ghost use Rattle.soundness.specs.Cells.{Readable, added, Empty, Sums, Gathered};
+ghost use Rattle.soundness.specs.Each.{Tells, Each, Remains, TotalFits, Marked, Within};
 use crate::ranges::between;
 use crate::roster::accounts;
 use crate::roster::instruments;
@@ -17,14 +20,102 @@ use layout::table::MARKS;
 use layout::table::ORDERS;
 use ledger::order::Order;
 use ledger::records::load;
-use positions::cell;
 use words::part;
 use words::word;
 
-// Is the order in range, with something remaining, and its account marked as trading? Where something remains its total is not 0.
-fn order_is_sound(m: &[u8], o: Order) -> bool
+// What the pass tells: do the ids ascend, and does something remain of each order? And a detail with the bits of all.
+struct Pass {
+    sound: bool,
+    details: u64,
+}
+
+// Adds what remains of the order with detail `w` to its cell, whose number the detail has.
+fn add_to(cells: &mut [u64; 1089], w: u64)
+    requires { ⌜ (length (now cells) ≡ 1089) × ((j : ℕ) → getD (now cells) j 0 ≤ 34359738368) ⌝ }
+    ensures { λ r. ⌜ ((id : ℕ) → now (cells .exit) ≡ added (now (cells .entry)) (orderOf id w)) ⌝ }
+{
+    let j = 65 + (w % 1024) as usize;
+    cells[j] += w / 137438953472;
+}
+
+// The pass, which gathers B and V of all accounts and instruments into the cells.
+fn gather_all(m: &[u8], cells: &mut [u64; 1089]) -> Pass
+    requires { ⌜ Readable (now m) × (wordAt (now m) countWord ≤ 256) × Empty (now cells) ⌝ }
+    ensures sound { λ r. ⌜ Tells (r .sound) ((ascend 0 (openOrders (now (m .entry))) ≡ true) × Each (now (m .entry)) Remains) ⌝ }
+    ensures details { λ r. ⌜ (r .sound ≡ true → Each (now (m .entry)) (Within (r .details))) ⌝ }
+    ensures sums { λ r. ⌜ (r .sound ≡ true → Sums (now (cells .exit)) (openOrders (now (m .entry)))) ⌝ }
+{
+    let n = word(m, COUNT) as usize;
+    let orders = part(m, ORDERS, 512);
+    let mut last: u64 = 0;
+    let mut all: u64 = 0;
+    for p in 0..n {
+        let id = word(orders, p * 2);
+        let w = word(orders, p * 2 + 1);
+        if id <= last {
+            return Pass {
+                sound: false,
+                details: 0,
+            };
+        }
+        if w < 137438953472 {
+            return Pass {
+                sound: false,
+                details: 0,
+            };
+        }
+        last = id;
+        all = all | w;
+        add_to(cells, w);
+    }
+    Pass {
+        sound: true,
+        details: all,
+    }
+}
+
+// Is every total in range? All at once by the detail with the bits of all, and where that does not tell, one by one.
+fn totals_fit(m: &[u8], details: u64) -> bool
+    requires { ⌜ Readable (now m) × (wordAt (now m) countWord ≤ 256) × Each (now m) (Within details) ⌝ }
+    ensures { λ r. ⌜ Tells r (Each (now (m .entry)) TotalFits) ⌝ }
+{
+    if details / 1024 % 134217728 + details / 137438953472 <= 1000000 {
+        return true;
+    }
+    let n = word(m, COUNT) as usize;
+    let orders = part(m, ORDERS, 512);
+    for p in 0..n {
+        let o = load(orders, p);
+        if o.total > 1000000 {
+            return false;
+        }
+    }
+    true
+}
+
+// Does every account trade that an order can name, and is every instrument on the roster that it can name?
+fn all_trade(m: &[u8]) -> bool
     requires { ⌜ Readable (now m) ⌝ }
-    ensures { λ r. ⌜ r ≡ orderSound (rosterOf (now (m .entry))) (tradingOf (now (m .entry))) o ⌝ }
+    ensures { λ r. ⌜ (r ≡ true → (o : Order) → Numbered 16 (o .account) → Numbered 32 (o .instrument) → Marked (now (m .entry)) o) ⌝ }
+{
+    if accounts(m) < 16 {
+        return false;
+    }
+    if instruments(m) < 32 {
+        return false;
+    }
+    for a in 0..16 {
+        if word(m, MARKS + 1 + a) == 0 {
+            return false;
+        }
+    }
+    true
+}
+
+// Are the order's account and instrument on the roster, and is the account marked as trading?
+fn is_marked(m: &[u8], o: Order) -> bool
+    requires { ⌜ Readable (now m) ⌝ }
+    ensures { λ r. ⌜ Tells r (Marked (now (m .entry)) o) ⌝ }
 {
     if !between(1, accounts(m), o.account) {
         return false;
@@ -32,23 +123,25 @@ fn order_is_sound(m: &[u8], o: Order) -> bool
     if !between(1, instruments(m), o.instrument) {
         return false;
     }
-    if o.total > 1000000 {
-        return false;
-    }
-    if o.filled >= o.total {
-        return false;
-    }
     word(m, MARKS + o.account as usize) != 0
 }
 
-// Adds what remains of the order to its cell.
-fn add_to(cells: &mut [u64; 1089], o: Order)
-    requires { ⌜ (length (now cells) ≡ 1089) × (o .account ≤ 16) × (o .instrument ≤ 32) × (1 ≤ remaining o) × (remaining o ≤ 1000000) × ((j : ℕ) → getD (now cells) j 0 ≤ 1000000000) ⌝ }
-    ensures { λ r. ⌜ now (cells .exit) ≡ added (now (cells .entry)) o ⌝ }
+// Is that so of every order? Of all at once where all accounts trade, else of one after the other.
+fn all_marked(m: &[u8]) -> bool
+    requires { ⌜ Readable (now m) × (wordAt (now m) countWord ≤ 256) ⌝ }
+    ensures { λ r. ⌜ Tells r (Each (now (m .entry)) (Marked (now (m .entry)))) ⌝ }
 {
-    let side = o.side;
-    let j = o.account as usize * 64 + cell(side, o.instrument);
-    cells[j] += o.total - o.filled;
+    if all_trade(m) {
+        return true;
+    }
+    let n = word(m, COUNT) as usize;
+    let orders = part(m, ORDERS, 512);
+    for p in 0..n {
+        if !is_marked(m, load(orders, p)) {
+            return false;
+        }
+    }
+    true
 }
 
 // Do the ids ascend and is each order sound? If so, B and V of all accounts and instruments are in the cells.
@@ -56,19 +149,12 @@ pub fn gather(m: &[u8], cells: &mut [u64; 1089]) -> bool
     requires { ⌜ Readable (now m) × (wordAt (now m) countWord ≤ 256) × Empty (now cells) ⌝ }
     ensures { λ r. ⌜ (r ≡ (ascend 0 (openOrders (now (m .entry))) && ordersSound (now (m .entry)))) × (r ≡ true → Gathered (now (cells .exit)) (openOrders (now (m .entry)))) ⌝ }
 {
-    let n = word(m, COUNT) as usize;
-    let orders = part(m, ORDERS, 512);
-    let mut last: u64 = 0;
-    for p in 0..n {
-        let o = load(orders, p);
-        if o.id <= last {
-            return false;
-        }
-        if !order_is_sound(m, o) {
-            return false;
-        }
-        last = o.id;
-        add_to(cells, o);
+    let passed = gather_all(m, cells);
+    if !passed.sound {
+        return false;
     }
-    true
+    if !totals_fit(m, passed.details) {
+        return false;
+    }
+    all_marked(m)
 }

@@ -1,0 +1,84 @@
+use Prim.Native.Nat.{_-_, _<_}
+use mathlib.Core.Path.{_≡_}
+use mathlib.Core.Bool.{false≢true}
+use native.Mathlib.Omega.{arith}
+use lib.ListN.{length}
+use Rattle.words.specs.Words.{wordAt, partOf}
+use Rattle.layout.specs.Layout.{countWord, ordersWord}
+use Rattle.soundness.proofs.Telling.{records-long}
+use Rattle.soundness.proofs.Gathering.{Passed, passed-none, passed-id, passed-nothing, passed-more, ids-refused, record-refused, all-told, all-within, all-gathered}
+use Rattle.soundness.proofs.orders.gather_all.Statement.{statement}
+use Rattle.soundness.proofs.orders.gather_all.Tie as tie
+
+abbrev Inv-loop : tie.InvT-loop
+Inv-loop m cells₀ n orders last₀ all₀ p₀ cells last all p =
+    (n ≡ wordAt m countWord)
+    × (orders ≡ partOf m ordersWord 512)
+    × Passed orders n cells last all p
+
+abbrev μ-loop : tie.MeasureT-loop
+μ-loop m cells₀ n orders last₀ all₀ p₀ cells last all p = n - p
+
+-- the records are there
+long : (c : tie.In-loop Inv-loop μ-loop) → let at = c .before in (length (at .before .part .result .now) ≡ 4096) × (at .loop .p < 256)
+long c =
+    let at = c .before in
+    let s = at .before .before .before .before in
+    (records-long _ _ _ (at .loop .inv .0) (at .loop .inv .1) (s .pre .0 .long), omega (arith, at .loop .inv .0, s .pre .1))
+
+returns : tie.Need-returns Inv-loop μ-loop
+returns c =
+    let at = c .before .before .before .before in
+    let ids = passed-id _ _ _ _ _ (at .loop .p) (at .loop .inv .2) _ _ (omega arith) (c .before .before .word2 .ensures) (c .before .word3 .ensures) (c .if1 .taken) in
+    (ids-refused _ _ _ (at .loop .inv .0) (at .loop .inv .1) ids, (λ e. absurd (false≢true e), λ e. absurd (false≢true e)))
+
+returns-2 : tie.Need-returns-2 Inv-loop μ-loop
+returns-2 c =
+    let at = c .before .before .before .before .before in
+    let none = passed-nothing _ _ _ _ _ (at .loop .p) (at .loop .inv .2) _ _ (omega arith) (c .before .before .before .word2 .ensures) (c .before .before .word3 .ensures) (c .if2 .taken) in
+    (record-refused _ _ _ (at .loop .inv .0) (at .loop .inv .1) (at .loop .p) (omega arith) none, (λ e. absurd (false≢true e), λ e. absurd (false≢true e)))
+
+add-to-requires : tie.Need-add-to-requires Inv-loop μ-loop
+add-to-requires c κs =
+    let at = c .before .before .before .before .before .before in
+    let past = at .loop .inv .2 in
+    let s = at .before .before .before .before in
+    (past .size, λ j. omega (arith, past .small j, at .loop .inv .0, s .pre .1, past .upto))
+
+loop-again : tie.Need-loop-again Inv-loop μ-loop
+loop-again c =
+    let two = c .before .before in
+    let read = two .before .before in
+    let at = read .before .before .before in
+    (at .loop .inv .0, at .loop .inv .1,
+    passed-more _ _ _ _ _ (at .loop .p) (at .loop .inv .2) _ _ (omega arith) (read .before .word2 .ensures) (read .word3 .ensures) (two .before .if1 .left) (two .if2 .left) (read .word3 .ok) _ (c .add-to .ensures _))
+
+returns-3 : tie.Need-returns-3 Inv-loop μ-loop
+returns-3 c =
+    let at = c .before in
+    let n = at .loop .inv .0 in
+    let s = at .loop .inv .1 in
+    let past = at .loop .inv .2 in
+    (all-told _ _ _ n s _ _ _ _ past (omega arith), (λ e. all-within _ _ _ n s _ _ _ _ past (omega arith), λ e. all-gathered _ _ _ n s _ _ _ _ past (omega arith)))
+
+pub gather-all-spec : {M : Type 1} → statement M
+gather-all-spec =
+    tie.close
+    (tie.spec
+    Inv-loop
+    μ-loop
+    (λ c κs. omega (arith, c .before .pre .0 .long))
+    (λ c κs. omega (arith, c .before .before .pre .0 .long))
+    (λ c. (c .before .word .ensures, c .part .ensures, passed-none _ _ _ (c .before .before .before .pre .2)))
+    (λ c. omega (arith, long c))
+    (λ c κs. omega (arith, long c))
+    (λ c. omega (arith, long (c .before)))
+    (λ c. omega (arith, long (c .before)))
+    (λ c κs. omega (arith, long (c .before)))
+    returns
+    returns-2
+    add-to-requires
+    (λ c. omega (arith, long (c .before .before .before .before .before .before)))
+    (λ c. omega arith)
+    loop-again
+    returns-3)
