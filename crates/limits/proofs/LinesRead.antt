@@ -11,7 +11,7 @@ use Rattle.words.specs.Bytes.{Bytes}
 use Rattle.words.specs.Fields.{u32At}
 use Rattle.words.specs.Words.{wordAt, partOf}
 use Rattle.words.proofs.Memory.{word-below}
-use Rattle.words.proofs.Halves.{lower-field, upper-field}
+use Rattle.words.proofs.HalfWords.{lower-field, upper-field}
 use Rattle.words.proofs.Parts.{length-part, word-part}
 use Rattle.ledger.specs.declared.order.Order.{Order}
 use Rattle.ledger.specs.declared.order.Side.{Side}
