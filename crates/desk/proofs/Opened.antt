@@ -1,5 +1,5 @@
 -- An opened desk is sound, and shows the beginning of the plain book.
-use Prim.Native.Nat.{ℕ, _+_, _≤_, _<_}
+use Prim.Native.Nat.{ℕ, _+_, _*_, _≤_, _<_}
 use mathlib.Core.Path.{_≡_}
 use mathlib.Core.Bool.{_&&_}
 use mathlib.Core.List.{List}
@@ -7,13 +7,15 @@ use native.Mathlib.Omega.{arith}
 use lib.ListN.{length}
 use borrow.Author.Tests.{eq-eqb}
 use lib.Dec.{eqb}
+use Rattle.limits.specs.InBytes.{lineAt, groupLineAt}
 use Rattle.limits.proofs.Answers.{both-true, and-true, pass-each, zero-pass}
 use Rattle.book.specs.Market.{derivatives}
 use Rattle.book.specs.Sound.{RosterFits, LineFits, GroupLineFits}
 use Rattle.book.specs.Kept.{begun}
 use Rattle.book.proofs.Plain.{sound-begun}
+use Rattle.layout.specs.Layout.{ownRow, defaultRow, groupRow}
 use Rattle.layout.specs.Rosters.{sizesFit, namesFit, weightsFit}
-use Rattle.layout.specs.View.{rosterOf, lineAt, groupLineAt, view}
+use Rattle.layout.specs.View.{rosterOf, view}
 use Rattle.opening.specs.Questions.{rosterFrom, rosterLength, lengthsFit, openingQuestions, openingAnswer}
 use Rattle.opening.specs.Opening.{opened, afterOpening}
 use Rattle.opening.proofs.Opened.{Accepted, accepted-out, kind-opened, blank-opened, roster-opened, sized-opened, view-opened, length-opened}
@@ -38,28 +40,27 @@ module _ (m s : List ℕ) (zero : openingAnswer m s ≡ 0) where
       rw (roster-opened m s ok) at (roster-out (opened m s) (rw (roster-opened m s ok) (and-true (sizesFit r && namesFit r) (weightsFit r) (and-true (sizesFit r) (namesFit r) sizes (yes-each .1 .1 .0)) (yes-each .1 .1 .1 .0))))
 
   -- the figures of every line are 0
-  line-blank : (k : ℕ) → 77 ≤ k → k + 3 < 8192 → LineFits 1000000000 (lineAt (opened m s) k)
+  line-blank : (k : ℕ) → 77 ≤ k → k + 1 < 8192 → LineFits 1000000000 (lineAt (opened m s) k)
+  unfolding lineAt
   line-blank k low high =
       let z = blank-opened m s ok in
-      record {
-        tci = omega (arith, z k (omega arith) (omega arith));
-        tvi = omega (arith, z (k + 1) (omega arith) (omega arith));
-        lci = omega (arith, z (k + 2) (omega arith) (omega arith));
-        lvi = omega (arith, z (k + 3) (omega arith) (omega arith));
-      }
+      let first = z k (omega arith) (omega arith) in
+      let second = z (k + 1) (omega arith) (omega arith) in
+      record { tci = omega arith; tvi = omega arith; lci = omega arith; lvi = omega arith }
 
-  group-line-blank : (k : ℕ) → 77 ≤ k → k + 1 < 8192 → GroupLineFits 1000000000 (groupLineAt (opened m s) k)
+  group-line-blank : (k : ℕ) → 77 ≤ k → k < 8192 → GroupLineFits 1000000000 (groupLineAt (opened m s) k)
+  unfolding groupLineAt
   group-line-blank k low high =
-      let z = blank-opened m s ok in
-      record { lcc = omega (arith, z k (omega arith) (omega arith)); lvc = omega (arith, z (k + 1) (omega arith) (omega arith)) }
+      let word = blank-opened m s ok k (omega arith) (omega arith) in
+      record { lcc = omega arith; lvc = omega arith }
 
   figures : Figures (opened m s)
   figures =
       let sized = sized-opened m s ok in
       record {
-        own = λ a i on-a on-i. line-blank _ (omega arith) (omega arith);
-        default = λ a c on-a on-c. line-blank _ (omega arith) (omega arith);
-        ofGroup = λ a g on-a on-g. group-line-blank _ (omega arith) (omega arith);
+        own = λ a i on-a on-i. line-blank (ownRow a + i * 2) (omega arith) (omega arith);
+        default = λ a c on-a on-c. line-blank (defaultRow a + c * 2) (omega arith) (omega arith);
+        ofGroup = λ a g on-a on-g. group-line-blank (groupRow a + g) (omega arith) (omega arith);
       }
 
   pub held-opened : Held (afterOpening m s)

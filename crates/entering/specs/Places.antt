@@ -23,10 +23,10 @@ pub record GroupOf (m : List ℕ) (contract group : ℕ) : Type 0 where
 -- the bytes of an order's line in force, and of its group's line
 unfoldable pub lineBytes : List ℕ → Order → List ℕ
 lineBytes m o =
-    linePart (partOf m (ownRow (o .account)) 132) (partOf m (defaultRow (o .account)) 36) (wordAt m (ownSetRow (o .account) + o .instrument)) (o .instrument) (rosterOf m .contractOf (o .instrument))
+    linePart (partOf m (ownRow (o .account)) 66) (partOf m (defaultRow (o .account)) 18) (wordAt m (ownSetRow (o .account) + o .instrument)) (o .instrument) (rosterOf m .contractOf (o .instrument))
 
 unfoldable pub groupBytes : List ℕ → Order → List ℕ
-groupBytes m o = partOf (partOf m (groupRow (o .account)) 10) (groupOfInstrument (rosterOf m) (o .instrument) * 2) 2
+groupBytes m o = partOf (partOf m (groupRow (o .account)) 5) (groupOfInstrument (rosterOf m) (o .instrument)) 1
 
 -- B and V of account a, of those of all accounts
 unfoldable pub cellsOf : List ℕ → ℕ → List ℕ

@@ -102,8 +102,8 @@ fn line_of<'a>(m: &'a [u8], o: Order, contract: usize) -> &'a [u8]
 {
     let account = o.account as usize;
     let instrument = o.instrument as usize;
-    let own = part(m, OWN_LINES + account * 128, 132);
-    let default = part(m, DEFAULT_LINES + account * 32, 36);
+    let own = part(m, OWN_LINES + account * 84, 66);
+    let default = part(m, DEFAULT_LINES + account * 84, 18);
     let set = word(m, OWN_SET + account * 32 + instrument);
     line_in_force(own, default, set, instrument, contract)
 }
@@ -151,8 +151,8 @@ fn positions_of(
     let own = cells_of(cells, account);
     let balances = part(m, BALANCES + account * 32, 33);
     let roster = part(m, ROSTER, 76);
-    let of_groups = part(m, GROUP_LINES + account * 8, 10);
-    let of_group = part(of_groups, group_of(m, contract) * 2, 2);
+    let of_groups = part(m, GROUP_LINES + account * 84, 5);
+    let of_group = part(of_groups, group_of(m, contract), 1);
     position_answer(positions_within(own, balances, roster, line, of_group, o, added))
 }
 

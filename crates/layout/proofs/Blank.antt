@@ -11,12 +11,13 @@ use Rattle.integers.specs.TwosComplement.{signedOf, signed-small}
 use Rattle.words.specs.Words.{wordAt, signedAt}
 use Rattle.ledger.specs.Roster.{Numbered}
 use Rattle.ledger.specs.Records.{ordersFrom}
+use Rattle.limits.specs.InBytes.{lineAt, groupLineAt}
 use Rattle.book.specs.Decoding.{between}
 use Rattle.book.specs.Books.{emptyBook}
 use Rattle.book.specs.Kept.{begun}
 use Rattle.book.proofs.Tables.{between-numbered}
 use Rattle.layout.specs.Layout.{countWord, markWord, accountBlockWord, instrumentBlockWord, groupBlockRow, balanceRow, ownSetRow, defaultSetRow, groupSetRow, ownRow, defaultRow, groupRow}
-use Rattle.layout.specs.View.{rosterOf, flag, onRoster, lineAt, groupLineAt, linesOf, balancesOf, blocksOf, openOrders, bookOf, tradingOf, view}
+use Rattle.layout.specs.View.{rosterOf, flag, onRoster, linesOf, balancesOf, blocksOf, openOrders, bookOf, tradingOf, view}
 use Rattle.layout.proofs.RosterLaws.{Sized}
 use Rattle.layout.proofs.GuardedTables.{on-each, same-lines, same-blocks, same-view}
 
@@ -46,9 +47,9 @@ module _ (m : List ℕ) (sized : Sized (rosterOf m)) (zero : (k : ℕ) → 112 �
   lines-blank =
       fun-ext
       (λ a. same-lines _ _ _ _ _ _
-      (fun-ext (λ i. unset (rosterOf m .instruments) a i (ownSetRow a + i) (lineAt m (ownRow a + i * 4)) (λ on-a on-i. omega arith)))
-      (fun-ext (λ c. unset (rosterOf m .contracts) a c (defaultSetRow a + c) (lineAt m (defaultRow a + c * 4)) (λ on-a on-c. omega arith)))
-      (fun-ext (λ g. unset (rosterOf m .groups) a g (groupSetRow a + g) (groupLineAt m (groupRow a + g * 2)) (λ on-a on-g. omega arith))))
+      (fun-ext (λ i. unset (rosterOf m .instruments) a i (ownSetRow a + i) (lineAt m (ownRow a + i * 2)) (λ on-a on-i. omega arith)))
+      (fun-ext (λ c. unset (rosterOf m .contracts) a c (defaultSetRow a + c) (lineAt m (defaultRow a + c * 2)) (λ on-a on-c. omega arith)))
+      (fun-ext (λ g. unset (rosterOf m .groups) a g (groupSetRow a + g) (groupLineAt m (groupRow a + g)) (λ on-a on-g. omega arith))))
 
   blocks-blank : blocksOf m ≡ emptyBook .blocks
   unfolding blocksOf emptyBook

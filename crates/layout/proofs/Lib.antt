@@ -6,7 +6,6 @@ pub mod Stored
 pub mod Apart
 pub mod Shifting
 pub mod Ranking
-pub mod Figures
 pub mod LinesInRows
 pub mod BookLists
 pub mod SameFields

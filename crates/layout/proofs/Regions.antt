@@ -1,7 +1,8 @@
--- The table of the layout: each field stands in a region of its own, the regions follow each other inside 8,192 words, and
--- no two fields share a word.
+-- The table of the layout: each field stands in a region of its own, the three kinds of line in one, the regions follow each
+-- other inside 8,192 words, and no two fields share a word.
 use Prim.Native.Nat.{ℕ, _+_, _*_, _≤_, _<_}
 use mathlib.Core.Path.{_≡_}
+use mathlib.Core.Logic.{_≢_}
 use native.Mathlib.Omega.{arith}
 use Rattle.ledger.specs.Roster.{Numbered}
 use Rattle.layout.specs.Layout.{memoryBytes, memoryWords, kindWord, rosterWord, countWord, markWord, accountBlockWord, instrumentBlockWord, groupBlockRow, balanceRow, ownSetRow, defaultSetRow, groupSetRow, ownRow, defaultRow, groupRow}
@@ -24,9 +25,9 @@ pub record Placed (a i c g p : ℕ) : Type 0 where
   pub ownSet : In 768 1280 (ownSetRow a + i)
   pub defaultSet : In 1280 1408 (defaultSetRow a + c)
   pub groupSet : In 1408 1472 (groupSetRow a + g)
-  pub own : In 1536 3584 (ownRow a + i * 4) × In 1536 3584 (ownRow a + i * 4 + 3)
-  pub default : In 3584 4096 (defaultRow a + c * 4) × In 3584 4096 (defaultRow a + c * 4 + 3)
-  pub ofGroup : In 4096 4224 (groupRow a + g * 2) × In 4096 4224 (groupRow a + g * 2 + 1)
+  pub own : In 1536 2880 (ownRow a + i * 2) × In 1536 2880 (ownRow a + i * 2 + 1)
+  pub default : In 1536 2880 (defaultRow a + c * 2) × In 1536 2880 (defaultRow a + c * 2 + 1)
+  pub ofGroup : In 1536 2880 (groupRow a + g)
   pub order : In 4224 4736 (orderWord p) × In 4224 4736 (orderWord p + 1)
   pub inside : (4736 ≤ memoryWords) × (memoryWords * 8 ≤ memoryBytes)
 
@@ -55,14 +56,14 @@ placed a i c g p on-a on-i on-c on-g h =
 pub record Apart (a b i k : ℕ) : Type 0 where
   pub balance : balanceRow a + i ≡ balanceRow b + k → (a ≡ b) × (i ≡ k)
   pub ownSet : ownSetRow a + i ≡ ownSetRow b + k → (a ≡ b) × (i ≡ k)
-  pub own : (x y : ℕ) → x < 4 → y < 4 → ownRow a + i * 4 + x ≡ ownRow b + k * 4 + y → (a ≡ b) × (i ≡ k)
+  pub own : (x y : ℕ) → x < 2 → y < 2 → ownRow a + i * 2 + x ≡ ownRow b + k * 2 + y → (a ≡ b) × (i ≡ k)
 
 pub record ApartOf (a b c d g h : ℕ) : Type 0 where
   pub defaultSet : defaultSetRow a + c ≡ defaultSetRow b + d → (a ≡ b) × (c ≡ d)
-  pub default : (x y : ℕ) → x < 4 → y < 4 → defaultRow a + c * 4 + x ≡ defaultRow b + d * 4 + y → (a ≡ b) × (c ≡ d)
+  pub default : (x y : ℕ) → x < 2 → y < 2 → defaultRow a + c * 2 + x ≡ defaultRow b + d * 2 + y → (a ≡ b) × (c ≡ d)
   pub groupBlock : groupBlockRow a + g ≡ groupBlockRow b + h → (a ≡ b) × (g ≡ h)
   pub groupSet : groupSetRow a + g ≡ groupSetRow b + h → (a ≡ b) × (g ≡ h)
-  pub ofGroup : (x y : ℕ) → x < 2 → y < 2 → groupRow a + g * 2 + x ≡ groupRow b + h * 2 + y → (a ≡ b) × (g ≡ h)
+  pub ofGroup : groupRow a + g ≡ groupRow b + h → (a ≡ b) × (g ≡ h)
 
 pub apart : (a b i k : ℕ) → Numbered 32 i → Numbered 32 k → Apart a b i k
 apart a b i k on-i on-k =
@@ -79,5 +80,19 @@ apart-of a b c d g h on-c on-d on-g on-h =
       default = λ x y p q e. omega arith;
       groupBlock = λ e. omega arith;
       groupSet = λ e. omega arith;
-      ofGroup = λ x y p q e. omega arith;
+      ofGroup = λ e. omega arith;
+    }
+
+-- lines of two kinds have no word in common
+pub record ApartKinds (a b i c g : ℕ) : Type 0 where
+  pub ownDefault : (x y : ℕ) → x < 2 → y < 2 → ownRow a + i * 2 + x ≢ defaultRow b + c * 2 + y
+  pub ownGroup : (x : ℕ) → x < 2 → ownRow a + i * 2 + x ≢ groupRow b + g
+  pub defaultGroup : (x : ℕ) → x < 2 → defaultRow a + c * 2 + x ≢ groupRow b + g
+
+pub apart-kinds : (a b i c g : ℕ) → Numbered 32 i → Numbered 8 c → Numbered 4 g → ApartKinds a b i c g
+apart-kinds a b i c g on-i on-c on-g =
+    record {
+      ownDefault = λ x y p q e. omega arith;
+      ownGroup = λ x p e. omega arith;
+      defaultGroup = λ x p e. omega arith;
     }

@@ -10,10 +10,12 @@ use lib.IntN.{ℤ, pos}
 use lib.ListN.{length}
 use Rattle.integers.specs.TwosComplement.{signedOf}
 use Rattle.words.specs.Words.{wordAt, signedAt}
+use Rattle.ledger.specs.Roster.{Numbered}
 use Rattle.limits.specs.Lines.{Line, GroupLine, Lines}
+use Rattle.limits.specs.InBytes.{lineAt, groupLineAt}
 use Rattle.book.specs.Books.{Blocks}
 use Rattle.layout.specs.Layout.{countWord, markWord, accountBlockWord, instrumentBlockWord, groupBlockRow, balanceRow, ownSetRow, defaultSetRow, groupSetRow, ownRow, defaultRow, groupRow}
-use Rattle.layout.specs.View.{rosterOf, flag, lineAt, groupLineAt, linesOf, balancesOf, blocksOf, openOrders, tradingOf}
+use Rattle.layout.specs.View.{rosterOf, flag, linesOf, balancesOf, blocksOf, openOrders, tradingOf}
 use Rattle.layout.specs.Stores.{ordersIn}
 use Rattle.layout.proofs.RosterLaws.{Sized}
 use Rattle.layout.proofs.GuardedTables.{tableOf, table-same, rowOf, row-same, same-blocks}
@@ -37,13 +39,13 @@ abbrev pub groupBlockAt : List ℕ → ℕ → ℕ → Bool
 groupBlockAt m a g = flag m (groupBlockRow a + g)
 
 abbrev pub ownAt : List ℕ → ℕ → ℕ → Option Line
-ownAt m a i = cond (flag m (ownSetRow a + i)) (some (lineAt m (ownRow a + i * 4))) none
+ownAt m a i = cond (flag m (ownSetRow a + i)) (some (lineAt m (ownRow a + i * 2))) none
 
 abbrev pub defaultAt : List ℕ → ℕ → ℕ → Option Line
-defaultAt m a c = cond (flag m (defaultSetRow a + c)) (some (lineAt m (defaultRow a + c * 4))) none
+defaultAt m a c = cond (flag m (defaultSetRow a + c)) (some (lineAt m (defaultRow a + c * 2))) none
 
 abbrev pub ofGroupAt : List ℕ → ℕ → ℕ → Option GroupLine
-ofGroupAt m a g = cond (flag m (groupSetRow a + g)) (some (groupLineAt m (groupRow a + g * 2))) none
+ofGroupAt m a g = cond (flag m (groupSetRow a + g)) (some (groupLineAt m (groupRow a + g))) none
 
 abbrev pub linesBy : (ℕ → ℕ → Option Line) → (ℕ → ℕ → Option Line) → (ℕ → ℕ → Option GroupLine) → ℕ → Lines
 linesBy own default ofGroup a = record { ownOf = own a; defaultOf = default a; lineOfGroup = ofGroup a }
@@ -55,23 +57,15 @@ blocksBy account instrument group = record { account = account; instrument = ins
 pub same-flag : (l m : List ℕ) (k : ℕ) → wordAt l k ≡ wordAt m k → flag l k ≡ flag m k
 same-flag l m k e = ap (λ n. not (eqb n 0)) e
 
-pub same-line : (l m : List ℕ) (k : ℕ) → wordAt l k ≡ wordAt m k → wordAt l (k + 1) ≡ wordAt m (k + 1) → wordAt l (k + 2) ≡ wordAt m (k + 2) → wordAt l (k + 3) ≡ wordAt m (k + 3) → lineAt l k ≡ lineAt m k
-same-line l m k a b c d = rw (a, b, c, d)
-
-pub same-group-line : (l m : List ℕ) (k : ℕ) → wordAt l k ≡ wordAt m k → wordAt l (k + 1) ≡ wordAt m (k + 1) → groupLineAt l k ≡ groupLineAt m k
-same-group-line l m k a b = rw (a, b)
-
 -- a line, set or not
-pub same-own : (l m : List ℕ) (s k : ℕ) → wordAt l s ≡ wordAt m s → ((j : ℕ) → k ≤ j → j < k + 4 → wordAt l j ≡ wordAt m j) → _≡_ {A = Option Line} (cond (flag l s) (some (lineAt l k)) none) (cond (flag m s) (some (lineAt m k)) none)
+pub same-own : (l m : List ℕ) (s k : ℕ) → wordAt l s ≡ wordAt m s → Same k (k + 2) l m → _≡_ {A = Option Line} (cond (flag l s) (some (lineAt l k)) none) (cond (flag m s) (some (lineAt m k)) none)
+unfolding lineAt
 same-own l m s k e same =
-    rw (
-      same-flag l m s e,
-      same-line l m k (same k (omega arith) (omega arith)) (same (k + 1) (omega arith) (omega arith)) (same (k + 2) (omega arith) (omega arith)) (same (k + 3) (omega arith) (omega arith)),
-    )
+    rw (same-flag l m s e, same k (omega arith) (omega arith), same (k + 1) (omega arith) (omega arith))
 
-pub same-of-group : (l m : List ℕ) (s k : ℕ) → wordAt l s ≡ wordAt m s → ((j : ℕ) → k ≤ j → j < k + 2 → wordAt l j ≡ wordAt m j) → _≡_ {A = Option GroupLine} (cond (flag l s) (some (groupLineAt l k)) none) (cond (flag m s) (some (groupLineAt m k)) none)
-same-of-group l m s k e same =
-    rw (same-flag l m s e, same-group-line l m k (same k (omega arith) (omega arith)) (same (k + 1) (omega arith) (omega arith)))
+pub same-of-group : (l m : List ℕ) (s k : ℕ) → wordAt l s ≡ wordAt m s → wordAt l k ≡ wordAt m k → _≡_ {A = Option GroupLine} (cond (flag l s) (some (groupLineAt l k)) none) (cond (flag m s) (some (groupLineAt m k)) none)
+unfolding groupLineAt
+same-of-group l m s k e same = rw (same-flag l m s e, same)
 
 -- ---- the fields
 module _ (l m : List ℕ) (held : Held m) (roster : rosterOf l ≡ rosterOf m) where
@@ -83,23 +77,23 @@ module _ (l m : List ℕ) (held : Held m) (roster : rosterOf l ≡ rosterOf m) w
       ∙ table-same (rosterOf m .accounts) (rosterOf m .instruments) (pos 0) (balanceAt m) (balanceAt l)
       (λ a i on-a on-i. ap (signedOf 64) (same (balanceRow a + i) (omega arith) (omega arith)))
 
-  pub own-same : Same 768 1280 l m → Same 1536 3584 l m → tableOf (rosterOf m .accounts) (rosterOf m .instruments) none (ownAt l) ≡ tableOf (rosterOf m .accounts) (rosterOf m .instruments) none (ownAt m)
+  pub own-same : Same 768 1280 l m → ((a i : ℕ) → Numbered (rosterOf m .accounts) a → Numbered (rosterOf m .instruments) i → Same (ownRow a + i * 2) (ownRow a + i * 2 + 2) l m) → tableOf (rosterOf m .accounts) (rosterOf m .instruments) none (ownAt l) ≡ tableOf (rosterOf m .accounts) (rosterOf m .instruments) none (ownAt m)
   own-same sets figures =
       let sized = held .sized in
       table-same (rosterOf m .accounts) (rosterOf m .instruments) none (ownAt m) (ownAt l)
-      (λ a i on-a on-i. same-own l m (ownSetRow a + i) (ownRow a + i * 4) (sets (ownSetRow a + i) (omega arith) (omega arith)) (λ j low high. figures j (omega arith) (omega arith)))
+      (λ a i on-a on-i. same-own l m (ownSetRow a + i) (ownRow a + i * 2) (sets (ownSetRow a + i) (omega arith) (omega arith)) (figures a i on-a on-i))
 
-  pub default-same : Same 1280 1408 l m → Same 3584 4096 l m → tableOf (rosterOf m .accounts) (rosterOf m .contracts) none (defaultAt l) ≡ tableOf (rosterOf m .accounts) (rosterOf m .contracts) none (defaultAt m)
+  pub default-same : Same 1280 1408 l m → ((a c : ℕ) → Numbered (rosterOf m .accounts) a → Numbered (rosterOf m .contracts) c → Same (defaultRow a + c * 2) (defaultRow a + c * 2 + 2) l m) → tableOf (rosterOf m .accounts) (rosterOf m .contracts) none (defaultAt l) ≡ tableOf (rosterOf m .accounts) (rosterOf m .contracts) none (defaultAt m)
   default-same sets figures =
       let sized = held .sized in
       table-same (rosterOf m .accounts) (rosterOf m .contracts) none (defaultAt m) (defaultAt l)
-      (λ a c on-a on-c. same-own l m (defaultSetRow a + c) (defaultRow a + c * 4) (sets (defaultSetRow a + c) (omega arith) (omega arith)) (λ j low high. figures j (omega arith) (omega arith)))
+      (λ a c on-a on-c. same-own l m (defaultSetRow a + c) (defaultRow a + c * 2) (sets (defaultSetRow a + c) (omega arith) (omega arith)) (figures a c on-a on-c))
 
-  pub of-group-same : Same 1408 1472 l m → Same 4096 4224 l m → tableOf (rosterOf m .accounts) (rosterOf m .groups) none (ofGroupAt l) ≡ tableOf (rosterOf m .accounts) (rosterOf m .groups) none (ofGroupAt m)
+  pub of-group-same : Same 1408 1472 l m → ((a g : ℕ) → Numbered (rosterOf m .accounts) a → Numbered (rosterOf m .groups) g → wordAt l (groupRow a + g) ≡ wordAt m (groupRow a + g)) → tableOf (rosterOf m .accounts) (rosterOf m .groups) none (ofGroupAt l) ≡ tableOf (rosterOf m .accounts) (rosterOf m .groups) none (ofGroupAt m)
   of-group-same sets figures =
       let sized = held .sized in
       table-same (rosterOf m .accounts) (rosterOf m .groups) none (ofGroupAt m) (ofGroupAt l)
-      (λ a g on-a on-g. same-of-group l m (groupSetRow a + g) (groupRow a + g * 2) (sets (groupSetRow a + g) (omega arith) (omega arith)) (λ j low high. figures j (omega arith) (omega arith)))
+      (λ a g on-a on-g. same-of-group l m (groupSetRow a + g) (groupRow a + g) (sets (groupSetRow a + g) (omega arith) (omega arith)) (figures a g on-a on-g))
 
   -- the lines, from their three tables
   pub lines-are : linesOf l ≡ (λ a. linesBy (tableOf (rosterOf m .accounts) (rosterOf m .instruments) none (ownAt l)) (tableOf (rosterOf m .accounts) (rosterOf m .contracts) none (defaultAt l)) (tableOf (rosterOf m .accounts) (rosterOf m .groups) none (ofGroupAt l)) a)
@@ -142,13 +136,14 @@ module _ (l m : List ℕ) (held : Held m) (roster : rosterOf l ≡ rosterOf m) w
 
 -- ---- what memories that have the other words in common have in common
 module _ (l m : List ℕ) (held : Held m) (roster : rosterOf l ≡ rosterOf m) where
-  pub lines-same : Same 768 1472 l m → Same 1536 4224 l m → linesOf l ≡ linesOf m
+  pub lines-same : Same 768 1472 l m → Same 1536 2880 l m → linesOf l ≡ linesOf m
   lines-same sets figures =
+      let sized = held .sized in
       lines-are l m held roster
       ∙ rw (
-        own-same l m held roster (λ k low high. sets k (omega arith) (omega arith)) (λ k low high. figures k (omega arith) (omega arith)),
-        default-same l m held roster (λ k low high. sets k (omega arith) (omega arith)) (λ k low high. figures k (omega arith) (omega arith)),
-        of-group-same l m held roster (λ k low high. sets k (omega arith) (omega arith)) (λ k low high. figures k (omega arith) (omega arith)),
+        own-same l m held roster (λ k low high. sets k (omega arith) (omega arith)) (λ a i on-a on-i k low high. figures k (omega arith) (omega arith)),
+        default-same l m held roster (λ k low high. sets k (omega arith) (omega arith)) (λ a c on-a on-c k low high. figures k (omega arith) (omega arith)),
+        of-group-same l m held roster (λ k low high. sets k (omega arith) (omega arith)) (λ a g on-a on-g. figures (groupRow a + g) (omega arith) (omega arith)),
       )
       (sym (lines-are m m held refl))
 

@@ -11,10 +11,12 @@ use lib.ListN.{length, getD}
 use Rattle.integers.specs.TwosComplement.{bitsOf}
 use Rattle.words.specs.Words.{AreWords, wordAt, putWord, putSigned, putWords}
 use Rattle.words.proofs.Memory.{word-put-same, word-put-other}
+use Rattle.words.proofs.HalfWords.{lower-halves, upper-halves, halves-below}
 use Rattle.words.proofs.Runs.{length-puts, word-puts-same, word-puts-other}
 use Rattle.limits.specs.Lines.{Line, GroupLine}
-use Rattle.layout.specs.View.{flag, lineAt, groupLineAt}
-use Rattle.layout.specs.FieldStores.{bit, storeLine, storeGroupLine}
+use Rattle.limits.specs.InBytes.{lineAt, groupLineAt}
+use Rattle.layout.specs.View.{flag}
+use Rattle.layout.specs.FieldStores.{bit, lineWords, groupLineWords, storeLine, storeGroupLine}
 use Rattle.layout.proofs.SameFields.{Same}
 
 -- every word but word j is the same
@@ -37,68 +39,65 @@ flag-bit m j true fits = rw (word-put-same m j 1 fits (omega arith))
 flag-bit m j false fits = rw (word-put-same m j 0 fits (omega arith))
 
 -- ---- a line
--- the figures are words
+-- its figures fit halves of words
 unfoldable pub SmallLine : Option Line → Type 0
 SmallLine none = Unit
-SmallLine (some l) = (l .tci < 2 ^ 64) × (l .tvi < 2 ^ 64) × (l .lci < 2 ^ 64) × (l .lvi < 2 ^ 64)
+SmallLine (some l) = (l .tci < 2 ^ 32) × (l .tvi < 2 ^ 32) × (l .lci < 2 ^ 32) × (l .lvi < 2 ^ 32)
 
 unfoldable pub SmallGroupLine : Option GroupLine → Type 0
 SmallGroupLine none = Unit
-SmallGroupLine (some l) = (l .lcc < 2 ^ 64) × (l .lvc < 2 ^ 64)
-
-four-words : (a b c d : ℕ) → a < 2 ^ 64 → b < 2 ^ 64 → c < 2 ^ 64 → d < 2 ^ 64 → AreWords (a ∷ b ∷ c ∷ d ∷ [])
-four-words a b c d ha hb hc hd zero = ha
-four-words a b c d ha hb hc hd (suc zero) = hb
-four-words a b c d ha hb hc hd (suc (suc zero)) = hc
-four-words a b c d ha hb hc hd (suc (suc (suc zero))) = hd
-four-words a b c d ha hb hc hd (suc (suc (suc (suc i)))) = omega arith
+SmallGroupLine (some l) = (l .lcc < 2 ^ 32) × (l .lvc < 2 ^ 32)
 
 two-words : (a b : ℕ) → a < 2 ^ 64 → b < 2 ^ 64 → AreWords (a ∷ b ∷ [])
 two-words a b ha hb zero = ha
 two-words a b ha hb (suc zero) = hb
 two-words a b ha hb (suc (suc i)) = omega arith
 
+one-word : (a : ℕ) → a < 2 ^ 64 → AreWords (a ∷ [])
+one-word a ha zero = ha
+one-word a ha (suc i) = omega arith
+
 module _ (m : List ℕ) (s k : ℕ) where
   -- a word of neither is as it was
-  pub line-elsewhere : (x : Option Line) (j : ℕ) → j ≢ s → (k ≤ j → j < k + 4 → ⊥) → wordAt (storeLine m s k x) j ≡ wordAt m j
+  elsewhere : (vs : List ℕ) (j : ℕ) → j ≢ s → (k ≤ j → j < k + length vs → ⊥) → wordAt (putWord (putWords m k vs) s 1) j ≡ wordAt m j
+  elsewhere vs j other outside =
+      word-put-other (putWords m k vs) s 1 j other
+      ∙ word-puts-other m k vs j (λ i h e. outside (omega arith) (omega arith))
+
+  pub line-elsewhere : (x : Option Line) (j : ℕ) → j ≢ s → (k ≤ j → j < k + 2 → ⊥) → wordAt (storeLine m s k x) j ≡ wordAt m j
   line-elsewhere none j other outside = word-put-other m s 0 j other
-  line-elsewhere (some l) j other outside =
-      let fs : List ℕ = l .tci ∷ l .tvi ∷ l .lci ∷ l .lvi ∷ [] in
-      word-put-other (putWords m k fs) s 1 j other
-      ∙ word-puts-other m k fs j (λ i h e. outside (omega arith) (omega arith))
+  line-elsewhere (some l) j other outside = elsewhere (lineWords l) j other outside
+
+  pub group-line-elsewhere : (x : Option GroupLine) (j : ℕ) → j ≢ s → (k ≤ j → j < k + 1 → ⊥) → wordAt (storeGroupLine m s k x) j ≡ wordAt m j
+  group-line-elsewhere none j other outside = word-put-other m s 0 j other
+  group-line-elsewhere (some l) j other outside = elsewhere (groupLineWords l) j other outside
+
+  -- what was stored is read back
+  module _ (vs : List ℕ) (words : AreWords vs) (fits : s * 8 + 8 ≤ length m) (room : (k + length vs) * 8 ≤ length m) (apart : k ≤ s → s < k + length vs → ⊥) where
+    set-back : flag (putWord (putWords m k vs) s 1) s ≡ true
+    set-back = flag-bit (putWords m k vs) s true (omega (arith, length-puts m k vs))
+
+    word-back : (j : ℕ) → j < length vs → wordAt (putWord (putWords m k vs) s 1) (k + j) ≡ getD vs j 0
+    word-back j h =
+        word-put-other (putWords m k vs) s 1 (k + j) (λ e. apart (omega arith) (omega arith))
+        ∙ word-puts-same m k vs j room words h
+
+    first-back : 0 < length vs → wordAt (putWord (putWords m k vs) s 1) k ≡ getD vs 0 0
+    first-back h = ap (wordAt (putWord (putWords m k vs) s 1)) (omega arith) ∙ word-back 0 h
 
   -- the line is read back
-  pub line-back : (x : Option Line) → SmallLine x → s * 8 + 8 ≤ length m → (k + 4) * 8 ≤ length m → (k ≤ s → s < k + 4 → ⊥) → _≡_ {A = Option Line} (cond (flag (storeLine m s k x) s) (some (lineAt (storeLine m s k x) k)) none) x
-  unfolding SmallLine
+  pub line-back : (x : Option Line) → SmallLine x → s * 8 + 8 ≤ length m → (k + 2) * 8 ≤ length m → (k ≤ s → s < k + 2 → ⊥) → _≡_ {A = Option Line} (cond (flag (storeLine m s k x) s) (some (lineAt (storeLine m s k x) k)) none) x
+  unfolding SmallLine lineAt
   line-back none small fits room apart =
       ap (λ t. cond t (some (lineAt (putWord m s 0) k)) none) (flag-bit m s false fits)
   line-back (some l) small fits room apart =
-      let fs : List ℕ = l .tci ∷ l .tvi ∷ l .lci ∷ l .lvi ∷ [] in
-      let laid : List ℕ = putWords m k fs in
-      let word : (j : ℕ) → j < 4 → wordAt (putWord laid s 1) (k + j) ≡ getD fs j 0 =
-      λ j h. word-put-other laid s 1 (k + j) (λ e. apart (omega arith) (omega arith))
-      ∙ word-puts-same m k fs j room (four-words (l .tci) (l .tvi) (l .lci) (l .lvi) (small .0) (small .1) (small .2) (small .3)) h in
-      let first : wordAt (putWord laid s 1) k ≡ l .tci = ap (wordAt (putWord laid s 1)) (omega arith) ∙ word 0 (omega arith) in
-      let set-now : flag (putWord laid s 1) s ≡ true = flag-bit laid s true (omega (arith, length-puts m k fs)) in
-      rw (set-now, first, word 1 (omega arith), word 2 (omega arith), word 3 (omega arith))
+      let words : AreWords (lineWords l) = two-words _ _ (halves-below (l .tci) (l .tvi) (small .0) (small .1)) (halves-below (l .lci) (l .lvi) (small .2) (small .3)) in
+      rw (set-back (lineWords l) words fits room apart, first-back (lineWords l) words fits room apart (omega arith), word-back (lineWords l) words fits room apart 1 (omega arith), lower-halves (l .tci) (l .tvi) (small .0), upper-halves (l .tci) (l .tvi) (small .0), lower-halves (l .lci) (l .lvi) (small .2), upper-halves (l .lci) (l .lvi) (small .2))
 
-  pub group-line-elsewhere : (x : Option GroupLine) (j : ℕ) → j ≢ s → (k ≤ j → j < k + 2 → ⊥) → wordAt (storeGroupLine m s k x) j ≡ wordAt m j
-  group-line-elsewhere none j other outside = word-put-other m s 0 j other
-  group-line-elsewhere (some l) j other outside =
-      let fs : List ℕ = l .lcc ∷ l .lvc ∷ [] in
-      word-put-other (putWords m k fs) s 1 j other
-      ∙ word-puts-other m k fs j (λ i h e. outside (omega arith) (omega arith))
-
-  pub group-line-back : (x : Option GroupLine) → SmallGroupLine x → s * 8 + 8 ≤ length m → (k + 2) * 8 ≤ length m → (k ≤ s → s < k + 2 → ⊥) → _≡_ {A = Option GroupLine} (cond (flag (storeGroupLine m s k x) s) (some (groupLineAt (storeGroupLine m s k x) k)) none) x
-  unfolding SmallGroupLine
+  pub group-line-back : (x : Option GroupLine) → SmallGroupLine x → s * 8 + 8 ≤ length m → (k + 1) * 8 ≤ length m → (k ≤ s → s < k + 1 → ⊥) → _≡_ {A = Option GroupLine} (cond (flag (storeGroupLine m s k x) s) (some (groupLineAt (storeGroupLine m s k x) k)) none) x
+  unfolding SmallGroupLine groupLineAt
   group-line-back none small fits room apart =
       ap (λ t. cond t (some (groupLineAt (putWord m s 0) k)) none) (flag-bit m s false fits)
   group-line-back (some l) small fits room apart =
-      let fs : List ℕ = l .lcc ∷ l .lvc ∷ [] in
-      let laid : List ℕ = putWords m k fs in
-      let word : (j : ℕ) → j < 2 → wordAt (putWord laid s 1) (k + j) ≡ getD fs j 0 =
-      λ j h. word-put-other laid s 1 (k + j) (λ e. apart (omega arith) (omega arith))
-      ∙ word-puts-same m k fs j room (two-words (l .lcc) (l .lvc) (small .0) (small .1)) h in
-      let first : wordAt (putWord laid s 1) k ≡ l .lcc = ap (wordAt (putWord laid s 1)) (omega arith) ∙ word 0 (omega arith) in
-      let set-now : flag (putWord laid s 1) s ≡ true = flag-bit laid s true (omega (arith, length-puts m k fs)) in
-      rw (set-now, first, word 1 (omega arith))
+      let words : AreWords (groupLineWords l) = one-word _ (halves-below (l .lcc) (l .lvc) (small .0) (small .1)) in
+      rw (set-back (groupLineWords l) words fits room apart, first-back (groupLineWords l) words fits room apart (omega arith), lower-halves (l .lcc) (l .lvc) (small .0), upper-halves (l .lcc) (l .lvc) (small .0))

@@ -26,8 +26,8 @@ module _ (m : List ℕ) (held : Held m) (a i : ℕ) (f : Figures) (small : Small
   abbrev own : List ℕ
   own = storeOwn m a i (lineOf f)
 
-  own-word : (j : ℕ) → j ≢ ownSetRow a + i → (ownRow a + i * 4 ≤ j → j < ownRow a + i * 4 + 4 → ⊥) → wordAt own j ≡ wordAt m j
-  own-word = line-elsewhere m (ownSetRow a + i) (ownRow a + i * 4) (lineOf f)
+  own-word : (j : ℕ) → j ≢ ownSetRow a + i → (ownRow a + i * 2 ≤ j → j < ownRow a + i * 2 + 2 → ⊥) → wordAt own j ≡ wordAt m j
+  own-word = line-elsewhere m (ownSetRow a + i) (ownRow a + i * 2) (lineOf f)
 
   own-before : Same 1 768 own m
   own-before k low high =
@@ -48,19 +48,19 @@ module _ (m : List ℕ) (held : Held m) (a i : ℕ) (f : Figures) (small : Small
       lines-view own m held own-before own-after unit a (Own i f)
       (changed-own m held a on-a own roster-own i f
       (table-at (rosterOf m .accounts) (rosterOf m .instruments) none (ownAt m) (ownAt own) a i (lineOf f) on-a on-i
-      (line-back m (ownSetRow a + i) (ownRow a + i * 4) (lineOf f) small (omega (arith, held .long)) (omega (arith, held .long)) (λ b c. omega arith))
-      (λ b k on-b on-k apart. same-own own m (ownSetRow b + k) (ownRow b + k * 4) (own-word (ownSetRow b + k) (λ e. apart (omega arith) (omega arith)) (λ d e. omega arith))
+      (line-back m (ownSetRow a + i) (ownRow a + i * 2) (lineOf f) small (omega (arith, held .long)) (omega (arith, held .long)) (λ b c. omega arith))
+      (λ b k on-b on-k apart. same-own own m (ownSetRow b + k) (ownRow b + k * 2) (own-word (ownSetRow b + k) (λ e. apart (omega arith) (omega arith)) (λ d e. omega arith))
       (λ j low high. own-word j (λ e. omega arith) (λ d e. apart (omega arith) (omega arith)))))
-      (default-same own m held roster-own (λ k low high. own-word k (λ e. omega arith) (λ b c. omega arith)) (λ k low high. own-word k (λ e. omega arith) (λ b c. omega arith)))
-      (of-group-same own m held roster-own (λ k low high. own-word k (λ e. omega arith) (λ b c. omega arith)) (λ k low high. own-word k (λ e. omega arith) (λ b c. omega arith))))
+      (default-same own m held roster-own (λ k low high. own-word k (λ e. omega arith) (λ b c. omega arith)) (λ b k on-b on-k j low high. own-word j (λ e. omega arith) (λ d e. omega arith)))
+      (of-group-same own m held roster-own (λ k low high. own-word k (λ e. omega arith) (λ b c. omega arith)) (λ b k on-b on-k. own-word (groupRow b + k) (λ e. omega arith) (λ d e. omega arith))))
 
 -- ---- a contract's default line
 module _ (m : List ℕ) (held : Held m) (a c : ℕ) (f : Figures) (small : SmallLine (lineOf f)) (on-a : Numbered (rosterOf m .accounts) a) (on-c : Numbered (rosterOf m .contracts) c) where
   abbrev default : List ℕ
   default = storeDefault m a c (lineOf f)
 
-  default-word : (j : ℕ) → j ≢ defaultSetRow a + c → (defaultRow a + c * 4 ≤ j → j < defaultRow a + c * 4 + 4 → ⊥) → wordAt default j ≡ wordAt m j
-  default-word = line-elsewhere m (defaultSetRow a + c) (defaultRow a + c * 4) (lineOf f)
+  default-word : (j : ℕ) → j ≢ defaultSetRow a + c → (defaultRow a + c * 2 ≤ j → j < defaultRow a + c * 2 + 2 → ⊥) → wordAt default j ≡ wordAt m j
+  default-word = line-elsewhere m (defaultSetRow a + c) (defaultRow a + c * 2) (lineOf f)
 
   default-before : Same 1 768 default m
   default-before k low high =
@@ -80,20 +80,20 @@ module _ (m : List ℕ) (held : Held m) (a c : ℕ) (f : Figures) (small : Small
       let sized = held .sized in
       lines-view default m held default-before default-after unit a (Default c f)
       (changed-default m held a on-a default roster-default c f
-      (own-same default m held roster-default (λ k low high. default-word k (λ e. omega arith) (λ b c. omega arith)) (λ k low high. default-word k (λ e. omega arith) (λ b c. omega arith)))
+      (own-same default m held roster-default (λ k low high. default-word k (λ e. omega arith) (λ b c. omega arith)) (λ b k on-b on-k j low high. default-word j (λ e. omega arith) (λ d e. omega arith)))
       (table-at (rosterOf m .accounts) (rosterOf m .contracts) none (defaultAt m) (defaultAt default) a c (lineOf f) on-a on-c
-      (line-back m (defaultSetRow a + c) (defaultRow a + c * 4) (lineOf f) small (omega (arith, held .long)) (omega (arith, held .long)) (λ b c. omega arith))
-      (λ b k on-b on-k apart. same-own default m (defaultSetRow b + k) (defaultRow b + k * 4) (default-word (defaultSetRow b + k) (λ e. apart (omega arith) (omega arith)) (λ d e. omega arith))
+      (line-back m (defaultSetRow a + c) (defaultRow a + c * 2) (lineOf f) small (omega (arith, held .long)) (omega (arith, held .long)) (λ b c. omega arith))
+      (λ b k on-b on-k apart. same-own default m (defaultSetRow b + k) (defaultRow b + k * 2) (default-word (defaultSetRow b + k) (λ e. apart (omega arith) (omega arith)) (λ d e. omega arith))
       (λ j low high. default-word j (λ e. omega arith) (λ d e. apart (omega arith) (omega arith)))))
-      (of-group-same default m held roster-default (λ k low high. default-word k (λ e. omega arith) (λ b c. omega arith)) (λ k low high. default-word k (λ e. omega arith) (λ b c. omega arith))))
+      (of-group-same default m held roster-default (λ k low high. default-word k (λ e. omega arith) (λ b c. omega arith)) (λ b k on-b on-k. default-word (groupRow b + k) (λ e. omega arith) (λ d e. omega arith))))
 
 -- ---- a group's line
 module _ (m : List ℕ) (held : Held m) (a g : ℕ) (x y : ℤ) (small : SmallGroupLine (groupLineOf x y)) (on-a : Numbered (rosterOf m .accounts) a) (on-g : Numbered (rosterOf m .groups) g) where
   abbrev of-group : List ℕ
   of-group = storeOfGroup m a g (groupLineOf x y)
 
-  of-group-word : (j : ℕ) → j ≢ groupSetRow a + g → (groupRow a + g * 2 ≤ j → j < groupRow a + g * 2 + 2 → ⊥) → wordAt of-group j ≡ wordAt m j
-  of-group-word = group-line-elsewhere m (groupSetRow a + g) (groupRow a + g * 2) (groupLineOf x y)
+  of-group-word : (j : ℕ) → j ≢ groupSetRow a + g → (groupRow a + g ≤ j → j < groupRow a + g + 1 → ⊥) → wordAt of-group j ≡ wordAt m j
+  of-group-word = group-line-elsewhere m (groupSetRow a + g) (groupRow a + g) (groupLineOf x y)
 
   of-group-before : Same 1 768 of-group m
   of-group-before k low high =
@@ -113,9 +113,9 @@ module _ (m : List ℕ) (held : Held m) (a g : ℕ) (x y : ℤ) (small : SmallGr
       let sized = held .sized in
       lines-view of-group m held of-group-before of-group-after unit a (OfGroup g x y)
       (changed-of-group m held a on-a of-group roster-of-group g x y
-      (own-same of-group m held roster-of-group (λ k low high. of-group-word k (λ e. omega arith) (λ b c. omega arith)) (λ k low high. of-group-word k (λ e. omega arith) (λ b c. omega arith)))
-      (default-same of-group m held roster-of-group (λ k low high. of-group-word k (λ e. omega arith) (λ b c. omega arith)) (λ k low high. of-group-word k (λ e. omega arith) (λ b c. omega arith)))
+      (own-same of-group m held roster-of-group (λ k low high. of-group-word k (λ e. omega arith) (λ b c. omega arith)) (λ b k on-b on-k j low high. of-group-word j (λ e. omega arith) (λ d e. omega arith)))
+      (default-same of-group m held roster-of-group (λ k low high. of-group-word k (λ e. omega arith) (λ b c. omega arith)) (λ b k on-b on-k j low high. of-group-word j (λ e. omega arith) (λ d e. omega arith)))
       (table-at (rosterOf m .accounts) (rosterOf m .groups) none (ofGroupAt m) (ofGroupAt of-group) a g (groupLineOf x y) on-a on-g
-      (group-line-back m (groupSetRow a + g) (groupRow a + g * 2) (groupLineOf x y) small (omega (arith, held .long)) (omega (arith, held .long)) (λ b c. omega arith))
-      (λ b k on-b on-k apart. same-of-group of-group m (groupSetRow b + k) (groupRow b + k * 2) (of-group-word (groupSetRow b + k) (λ e. apart (omega arith) (omega arith)) (λ d e. omega arith))
-      (λ j low high. of-group-word j (λ e. omega arith) (λ d e. apart (omega arith) (omega arith))))))
+      (group-line-back m (groupSetRow a + g) (groupRow a + g) (groupLineOf x y) small (omega (arith, held .long)) (omega (arith, held .long)) (λ b c. omega arith))
+      (λ b k on-b on-k apart. same-of-group of-group m (groupSetRow b + k) (groupRow b + k) (of-group-word (groupSetRow b + k) (λ e. apart (omega arith) (omega arith)) (λ d e. omega arith))
+      (of-group-word (groupRow b + k) (λ e. omega arith) (λ d e. apart (omega arith) (omega arith))))))

@@ -44,7 +44,7 @@ module _ (m : List ℕ) (os : List Order) (held : Held m) (few : length os ≤ 2
       let l : List ℕ = storeOrders m os in
       same-view _ _ _ _ _ _ _ _ _ _
       (balances-same l m held roster-orders (elsewhere 256 768 (λ a b. omega arith) (omega arith)))
-      (lines-same l m held roster-orders (elsewhere 768 1472 (λ a b. omega arith) (omega arith)) (elsewhere 1536 4224 (λ a b. omega arith) (omega arith)))
+      (lines-same l m held roster-orders (elsewhere 768 1472 (λ a b. omega arith) (omega arith)) (elsewhere 1536 2880 (λ a b. omega arith) (omega arith)))
       (blocks-same l m held roster-orders (elsewhere 144 256 (λ a b. omega arith) (omega arith)))
       (orders-store m os few (held .long) small)
       (marks-same l m held roster-orders (elsewhere 128 144 (λ a b. omega arith) (omega arith)))

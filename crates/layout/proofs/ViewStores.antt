@@ -27,7 +27,7 @@ module _ (l m : List ℕ) (held : Held m) (j : ℕ) (others : Except j l m) (fro
 
   pub one-lines : linesOf l ≡ linesOf m
   one-lines =
-      lines-same l m held one-roster (except-same l m j 768 1472 others (λ low high. omega arith)) (except-same l m j 1536 4224 others (λ low high. omega arith))
+      lines-same l m held one-roster (except-same l m j 768 1472 others (λ low high. omega arith)) (except-same l m j 1536 2880 others (λ low high. omega arith))
 
   pub one-orders : openOrders l ≡ openOrders m
   one-orders =

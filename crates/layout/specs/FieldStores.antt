@@ -4,7 +4,7 @@ use mathlib.Core.Bool.{Bool, cond}
 use mathlib.Core.List.{List, [], _∷_}
 use mathlib.Core.Option.{Option, none, some}
 use lib.IntN.{ℤ}
-use Rattle.words.specs.Words.{putWord, putSigned, putWords}
+use Rattle.words.specs.Words.{putWord, putSigned, halves, putWords}
 use Rattle.limits.specs.Lines.{Line, GroupLine}
 use Rattle.layout.specs.Layout.{markWord, accountBlockWord, instrumentBlockWord, groupBlockRow, balanceRow, ownSetRow, defaultSetRow, groupSetRow, ownRow, defaultRow, groupRow}
 
@@ -33,21 +33,28 @@ lineWith tci tvi lci lvi = record { tci = tci; tvi = tvi; lci = lci; lvi = lvi }
 abbrev pub groupLineWith : ℕ → ℕ → GroupLine
 groupLineWith lcc lvc = record { lcc = lcc; lvc = lvc }
 
--- a line's figures in the words from k on, and that it is set in word s; a line that is not set keeps its figures' words
+-- a line's words: two figures in each
+abbrev pub lineWords : Line → List ℕ
+lineWords l = halves (l .tci) (l .tvi) ∷ halves (l .lci) (l .lvi) ∷ []
+
+abbrev pub groupLineWords : GroupLine → List ℕ
+groupLineWords l = halves (l .lcc) (l .lvc) ∷ []
+
+-- the words from k on, and that the line is set in word s; a line that is not set keeps its words
 abbrev pub storeLine : List ℕ → ℕ → ℕ → Option Line → List ℕ
 storeLine m s k none = putWord m s 0
-storeLine m s k (some l) = putWord (putWords m k (l .tci ∷ l .tvi ∷ l .lci ∷ l .lvi ∷ [])) s 1
+storeLine m s k (some l) = putWord (putWords m k (lineWords l)) s 1
 
 abbrev pub storeGroupLine : List ℕ → ℕ → ℕ → Option GroupLine → List ℕ
 storeGroupLine m s k none = putWord m s 0
-storeGroupLine m s k (some l) = putWord (putWords m k (l .lcc ∷ l .lvc ∷ [])) s 1
+storeGroupLine m s k (some l) = putWord (putWords m k (groupLineWords l)) s 1
 
 -- the three kinds of line
 abbrev pub storeOwn : List ℕ → ℕ → ℕ → Option Line → List ℕ
-storeOwn m a i l = storeLine m (ownSetRow a + i) (ownRow a + i * 4) l
+storeOwn m a i l = storeLine m (ownSetRow a + i) (ownRow a + i * 2) l
 
 abbrev pub storeDefault : List ℕ → ℕ → ℕ → Option Line → List ℕ
-storeDefault m a c l = storeLine m (defaultSetRow a + c) (defaultRow a + c * 4) l
+storeDefault m a c l = storeLine m (defaultSetRow a + c) (defaultRow a + c * 2) l
 
 abbrev pub storeOfGroup : List ℕ → ℕ → ℕ → Option GroupLine → List ℕ
-storeOfGroup m a g l = storeGroupLine m (groupSetRow a + g) (groupRow a + g * 2) l
+storeOfGroup m a g l = storeGroupLine m (groupSetRow a + g) (groupRow a + g) l

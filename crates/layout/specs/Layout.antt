@@ -14,9 +14,9 @@
 --   768..1279     own line set                                     16 × 32
 --   1280..1407    default line set                                 16 × 8
 --   1408..1471    group line set                                   16 × 4
---   1536..3583    own lines: TCI TVI LCI LVI                       16 × 32 × 4
---   3584..4095    default lines: TCI TVI LCI LVI                   16 × 8 × 4
---   4096..4223    group lines: LCC LVC                             16 × 4 × 2
+--   1536..2879    lines, a row for each account: own, default      16 × 84
+--                 (TCI TVI, LCI LVI), then group (LCC LVC)         84 = 32 × 2 + 8 × 2 + 4
+--   2880..4223    spare: lines of a desk in money                  16 × 168 from 1536 on
 --   4224..4735    order records: id, detail                        256 × 2
 --   4736..6271    spare
 --   6272..7295    spare: contracts bought and sold                 16 × 32 × 2
@@ -67,12 +67,13 @@ defaultSetRow a = 1271 + a * 8
 abbrev pub groupSetRow : ℕ → ℕ
 groupSetRow a = 1403 + a * 4
 
--- the rows of lines: words 4 n to 4 n + 3 of a row are line n, of a row of group lines 2 n and 2 n + 1
+-- the lines of an account in one row: words 2 n and 2 n + 1 from `ownRow` or `defaultRow` on are line n, word n from
+-- `groupRow` on is group line n
 abbrev pub ownRow : ℕ → ℕ
-ownRow a = 1404 + a * 128
+ownRow a = 1450 + a * 84
 
 abbrev pub defaultRow : ℕ → ℕ
-defaultRow a = 3548 + a * 32
+defaultRow a = 1514 + a * 84
 
 abbrev pub groupRow : ℕ → ℕ
-groupRow a = 4086 + a * 8
+groupRow a = 1531 + a * 84

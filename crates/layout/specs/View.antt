@@ -9,7 +9,8 @@ use Rattle.words.specs.Words.{wordAt, signedAt, partOf}
 use Rattle.ledger.specs.Roster.{Roster}
 use Rattle.ledger.specs.declared.order.Order.{Order}
 use Rattle.ledger.specs.Records.{rosterIn, ordersFrom}
-use Rattle.limits.specs.Lines.{Line, GroupLine, Lines}
+use Rattle.limits.specs.Lines.{Lines}
+use Rattle.limits.specs.InBytes.{lineAt, groupLineAt}
 use Rattle.book.specs.Decoding.{between}
 use Rattle.book.specs.Books.{Blocks, Book}
 use Rattle.book.specs.Kept.{Kept}
@@ -26,14 +27,6 @@ rosterOf m =
 abbrev pub flag : List ℕ → ℕ → Bool
 flag m k = not (eqb (wordAt m k) 0)
 
--- the line in the four words from word k on, and the group line in two
-abbrev pub lineAt : List ℕ → ℕ → Line
-lineAt m k =
-    record { tci = wordAt m k; tvi = wordAt m (k + 1); lci = wordAt m (k + 2); lvi = wordAt m (k + 3) }
-
-abbrev pub groupLineAt : List ℕ → ℕ → GroupLine
-groupLineAt m k = record { lcc = wordAt m k; lvc = wordAt m (k + 1) }
-
 -- what a place of an account says, where account and number are on the roster
 abbrev pub onRoster : {A : Type 0} → ℕ → ℕ → ℕ → ℕ → A → A → A
 onRoster accounts numbers a n x otherwise = cond (between 1 accounts a && between 1 numbers n) x otherwise
@@ -43,11 +36,11 @@ linesOf m a =
     let r = rosterOf m in
     record {
       ownOf =
-          λ i. onRoster (r .accounts) (r .instruments) a i (cond (flag m (ownSetRow a + i)) (some (lineAt m (ownRow a + i * 4))) none) none;
+          λ i. onRoster (r .accounts) (r .instruments) a i (cond (flag m (ownSetRow a + i)) (some (lineAt m (ownRow a + i * 2))) none) none;
       defaultOf =
-          λ c. onRoster (r .accounts) (r .contracts) a c (cond (flag m (defaultSetRow a + c)) (some (lineAt m (defaultRow a + c * 4))) none) none;
+          λ c. onRoster (r .accounts) (r .contracts) a c (cond (flag m (defaultSetRow a + c)) (some (lineAt m (defaultRow a + c * 2))) none) none;
       lineOfGroup =
-          λ g. onRoster (r .accounts) (r .groups) a g (cond (flag m (groupSetRow a + g)) (some (groupLineAt m (groupRow a + g * 2))) none) none;
+          λ g. onRoster (r .accounts) (r .groups) a g (cond (flag m (groupSetRow a + g)) (some (groupLineAt m (groupRow a + g))) none) none;
     }
 
 -- S, signed

@@ -16,6 +16,7 @@ use crate::table::INSTRUMENT_BLOCKS;
 use crate::table::MARKS;
 use crate::table::OWN_LINES;
 use crate::table::OWN_SET;
+use words::halves;
 use words::set_signed_word;
 use words::set_word;
 
@@ -66,27 +67,25 @@ pub fn block_group(m: &mut [u8], a: usize, g: usize, on: bool)
     set_word(m, GROUP_BLOCKS + a * 4 + g, bit_of(on));
 }
 
-// Sets the line whose figures stand from word `k` on, and whether it is set in word `s`.
-fn put_line(m: &mut [u8], s: usize, k: usize, tci: u64, tvi: u64, lci: u64, lvi: u64)
-    requires { ⌜ (s * 8 + 8 ≤ length (now m)) × (k * 8 + 32 ≤ length (now m)) ⌝ }
+// Sets the line whose figures stand in words `k` and `k + 1`, and that it is set in word `s`.
+fn put_line(m: &mut [u8], s: usize, k: usize, tci: u32, tvi: u32, lci: u32, lvi: u32)
+    requires { ⌜ (s * 8 + 8 ≤ length (now m)) × (k * 8 + 16 ≤ length (now m)) ⌝ }
     ensures { λ r. ⌜ now (m .exit) ≡ storeLine (now (m .entry)) s k (some (lineWith tci tvi lci lvi)) ⌝ }
 {
-    set_word(m, k, tci);
-    set_word(m, k + 1, tvi);
-    set_word(m, k + 2, lci);
-    set_word(m, k + 3, lvi);
+    set_word(m, k, halves(tci, tvi));
+    set_word(m, k + 1, halves(lci, lvi));
     set_word(m, s, 1);
 }
 
 // Sets an instrument's own line.
-pub fn set_own(m: &mut [u8], a: usize, i: usize, tci: u64, tvi: u64, lci: u64, lvi: u64)
+pub fn set_own(m: &mut [u8], a: usize, i: usize, tci: u32, tvi: u32, lci: u32, lvi: u32)
     requires { ⌜ (memoryBytes ≤ length (now m)) × (a ≤ 16) × (i ≤ 32) ⌝ }
     ensures { λ r. ⌜ now (m .exit) ≡ storeOwn (now (m .entry)) a i (some (lineWith tci tvi lci lvi)) ⌝ }
 {
     put_line(
         m,
         OWN_SET + a * 32 + i,
-        OWN_LINES + a * 128 + i * 4,
+        OWN_LINES + a * 84 + i * 2,
         tci,
         tvi,
         lci,
@@ -103,14 +102,14 @@ pub fn unset_own(m: &mut [u8], a: usize, i: usize)
 }
 
 // Sets a contract's default line.
-pub fn set_default(m: &mut [u8], a: usize, c: usize, tci: u64, tvi: u64, lci: u64, lvi: u64)
+pub fn set_default(m: &mut [u8], a: usize, c: usize, tci: u32, tvi: u32, lci: u32, lvi: u32)
     requires { ⌜ (memoryBytes ≤ length (now m)) × (a ≤ 16) × (c ≤ 8) ⌝ }
     ensures { λ r. ⌜ now (m .exit) ≡ storeDefault (now (m .entry)) a c (some (lineWith tci tvi lci lvi)) ⌝ }
 {
     put_line(
         m,
         DEFAULT_SET + a * 8 + c,
-        DEFAULT_LINES + a * 32 + c * 4,
+        DEFAULT_LINES + a * 84 + c * 2,
         tci,
         tvi,
         lci,
@@ -127,13 +126,11 @@ pub fn unset_default(m: &mut [u8], a: usize, c: usize)
 }
 
 // Sets a group's line.
-pub fn set_of_group(m: &mut [u8], a: usize, g: usize, lcc: u64, lvc: u64)
+pub fn set_of_group(m: &mut [u8], a: usize, g: usize, lcc: u32, lvc: u32)
     requires { ⌜ (memoryBytes ≤ length (now m)) × (a ≤ 16) × (g ≤ 4) ⌝ }
     ensures { λ r. ⌜ now (m .exit) ≡ storeOfGroup (now (m .entry)) a g (some (groupLineWith lcc lvc)) ⌝ }
 {
-    let k = GROUP_LINES + a * 8 + g * 2;
-    set_word(m, k, lcc);
-    set_word(m, k + 1, lvc);
+    set_word(m, GROUP_LINES + a * 84 + g, halves(lcc, lvc));
     set_word(m, GROUP_SET + a * 4 + g, 1);
 }
 

@@ -41,10 +41,10 @@ pub const DEFAULT_SET: usize = 1271;
 
 pub const GROUP_SET: usize = 1403;
 
-pub const OWN_LINES: usize = 1404;
+pub const OWN_LINES: usize = 1450;
 
-pub const DEFAULT_LINES: usize = 3548;
+pub const DEFAULT_LINES: usize = 1514;
 
-pub const GROUP_LINES: usize = 4086;
+pub const GROUP_LINES: usize = 1531;
 
 pub const ORDERS: usize = 4224;

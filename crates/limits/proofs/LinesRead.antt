@@ -1,5 +1,5 @@
 -- Laws of lines in lent bytes: a side's figure, the part that holds the line in force, and which lines are set.
-use Prim.Native.Nat.{ℕ, _+_, _*_, _≤_, _<_}
+use Prim.Native.Nat.{ℕ, _+_, _*_, _^_, _≤_, _<_}
 use mathlib.Core.Path.{_≡_, refl, _∙_}
 use mathlib.Core.Bool.{Bool, true, false, cond, false≢true}
 use mathlib.Core.List.{List}
@@ -7,7 +7,11 @@ use mathlib.Core.Option.{Option, none, some}
 use native.Mathlib.Nat.{add-zero}
 use native.Mathlib.Omega.{arith}
 use lib.ListN.{length}
+use Rattle.words.specs.Bytes.{Bytes}
+use Rattle.words.specs.Fields.{u32At}
 use Rattle.words.specs.Words.{wordAt, partOf}
+use Rattle.words.proofs.Memory.{word-below}
+use Rattle.words.proofs.HalfWords.{lower-field, upper-field}
 use Rattle.words.proofs.Parts.{length-part, word-part}
 use Rattle.ledger.specs.declared.order.Order.{Order}
 use Rattle.ledger.specs.declared.order.Side.{Side}
@@ -15,75 +19,66 @@ use Rattle.ledger.specs.declared.order.Side.the-variants.{Buy, Sell}
 use Rattle.ledger.specs.Roster.{Roster, groupOfInstrument}
 use Rattle.ledger.specs.Positions.{wayOf}
 use Rattle.limits.specs.Lines.{Line, largestOrder, largestPosition, largestOfGroup, orElse, lineInForce, isSet}
-use Rattle.limits.specs.InBytes.{lineAt, groupLineAt, sideWord, saysSet, whereSet, linesIn, linePart}
-use Rattle.limits.specs.Bounds.{LineBounds, GroupLineBounds, SetWords, InForce, OfGroup}
+use Rattle.limits.specs.InBytes.{lineAt, groupLineAt, sideByte, saysSet, whereSet, linesIn, linePart}
+use Rattle.limits.specs.Bounds.{SetWords, InForce, OfGroup}
 
 -- ---- a side's figure
-pub side-below : (s : Side) → sideWord s < 2
+pub side-below : (s : Side) → sideByte s ≤ 4
 side-below Buy = omega arith
 side-below Sell = omega arith
 
-module _ (m : List ℕ) where
-  pub order-figure : (s : Side) → wordAt m (sideWord s) ≡ largestOrder s (lineAt m 0)
+module _ (m : List ℕ) (bytes : Bytes m) where
+  pub order-figure : (s : Side) → u32At m (sideByte s) ≡ largestOrder s (lineAt m 0)
   unfolding lineAt
-  order-figure Buy = refl
-  order-figure Sell = refl
+  order-figure Buy = lower-field m 0 bytes
+  order-figure Sell = upper-field m 0 bytes
 
-  pub position-figure : (s : Side) → wordAt m (2 + sideWord s) ≡ largestPosition (wayOf s) (lineAt m 0)
+  pub position-figure : (s : Side) → u32At m (8 + sideByte s) ≡ largestPosition (wayOf s) (lineAt m 0)
   unfolding lineAt
-  position-figure Buy = refl
-  position-figure Sell = refl
+  position-figure Buy = lower-field m 1 bytes
+  position-figure Sell = upper-field m 1 bytes
 
-  pub group-figure : (s : Side) → wordAt m (sideWord s) ≡ largestOfGroup (wayOf s) (groupLineAt m 0)
+  pub group-figure : (s : Side) → u32At m (sideByte s) ≡ largestOfGroup (wayOf s) (groupLineAt m 0)
   unfolding groupLineAt
-  group-figure Buy = refl
-  group-figure Sell = refl
+  group-figure Buy = lower-field m 0 bytes
+  group-figure Sell = upper-field m 0 bytes
 
-pub group-figure-small : (m : List ℕ) (s : Side) → GroupLineBounds m → largestOfGroup (wayOf s) (groupLineAt m 0) ≤ 100000000000
-group-figure-small m s bounds = rw (← group-figure m s) (bounds .small (sideWord s) (side-below s))
+  pub group-figure-small : (s : Side) → largestOfGroup (wayOf s) (groupLineAt m 0) < 2 ^ 32
+  unfolding groupLineAt
+  group-figure-small Buy = omega arith
+  group-figure-small Sell = omega (arith, word-below m 0 bytes)
 
 -- ---- a part that holds one line
 module _ (m : List ℕ) (k : ℕ) where
-  pub line-in-part : lineAt (partOf m (k * 4) 4) 0 ≡ lineAt m k
-  unfolding lineAt
-  line-in-part =
-      let first : wordAt (partOf m (k * 4) 4) 0 ≡ wordAt m (k * 4) = word-part m (k * 4) 4 0 (omega arith) ∙ rw (add-zero (k * 4)) in
-      rw (first, word-part m (k * 4) 4 1 (omega arith), word-part m (k * 4) 4 2 (omega arith), word-part m (k * 4) 4 3 (omega arith))
+  first-in-part : (n : ℕ) → 0 < n → wordAt (partOf m k n) 0 ≡ wordAt m k
+  first-in-part n h = word-part m k n 0 h ∙ rw (add-zero k)
 
-  pub group-line-in-part : groupLineAt (partOf m (k * 2) 2) 0 ≡ groupLineAt m k
+  pub line-in-part : lineAt (partOf m k 2) 0 ≡ lineAt m k
+  unfolding lineAt
+  line-in-part = rw (first-in-part 2 (omega arith), word-part m k 2 1 (omega arith))
+
+  pub group-line-in-part : groupLineAt (partOf m k 1) 0 ≡ groupLineAt m k
   unfolding groupLineAt
-  group-line-in-part =
-      let first : wordAt (partOf m (k * 2) 2) 0 ≡ wordAt m (k * 2) = word-part m (k * 2) 2 0 (omega arith) ∙ rw (add-zero (k * 2)) in
-      rw (first, word-part m (k * 2) 2 1 (omega arith))
+  group-line-in-part = rw (first-in-part 1 (omega arith))
 
 -- ---- the part of the line in force
 module _ (own default : List ℕ) (set i c : ℕ) where
-  pub own-part : saysSet set ≡ true → partOf own (i * 4) 4 ≡ linePart own default set i c
+  pub own-part : saysSet set ≡ true → partOf own (i * 2) 2 ≡ linePart own default set i c
   unfolding linePart
   own-part e = rw e
 
-  pub default-part : saysSet set ≡ false → partOf default (c * 4) 4 ≡ linePart own default set i c
+  pub default-part : saysSet set ≡ false → partOf default (c * 2) 2 ≡ linePart own default set i c
   unfolding linePart
   default-part e = rw e
 
-  module _ (own-long : i * 32 + 32 ≤ length own) (default-long : c * 32 + 32 ≤ length default) where
-    pub length-in-force : length (linePart own default set i c) ≡ 32
+  module _ (own-long : i * 16 + 16 ≤ length own) (default-long : c * 16 + 16 ≤ length default) where
+    pub length-in-force : length (linePart own default set i c) ≡ 16
     unfolding linePart
     length-in-force = by (saysSet set)
       where
-        by : (t : Bool) → length (cond t (partOf own (i * 4) 4) (partOf default (c * 4) 4)) ≡ 32
-        by true = length-part own (i * 4) 4 (omega arith)
-        by false = length-part default (c * 4) 4 (omega arith)
-
-    -- its figures are small where those of both lines are
-    pub small-in-force : ((k : ℕ) → k < 4 → wordAt own (i * 4 + k) ≤ 100000000000) → ((k : ℕ) → k < 4 → wordAt default (c * 4 + k) ≤ 100000000000) → LineBounds (linePart own default set i c)
-    unfolding linePart
-    small-in-force own-small default-small =
-        record { long = omega (arith, length-in-force); small = λ k h. by k h (saysSet set) }
-      where
-        by : (k : ℕ) → k < 4 → (t : Bool) → wordAt (cond t (partOf own (i * 4) 4) (partOf default (c * 4) 4)) k ≤ 100000000000
-        by k h true = rw (word-part own (i * 4) 4 k h) (own-small k h)
-        by k h false = rw (word-part default (c * 4) 4 k h) (default-small k h)
+        by : (t : Bool) → length (cond t (partOf own (i * 2) 2) (partOf default (c * 2) 2)) ≡ 16
+        by true = length-part own (i * 2) 2 (omega arith)
+        by false = length-part default (c * 2) 2 (omega arith)
 
 -- ---- which lines are set
 set-by-word : {A : Type 0} (w : ℕ) (l : A) → isSet (whereSet w l) ≡ saysSet w
@@ -124,11 +119,11 @@ module _ (own ownSet default defaultSet ofGroup groupSet : List ℕ) (r : Roster
   unfolding linesIn lineInForce linePart whereSet
   in-force =
       whole (saysSet (wordAt ownSet (o .instrument))) (saysSet (wordAt defaultSet (r .contractOf (o .instrument)))) _ _ _ _
-      (line-in-part own (o .instrument))
-      (line-in-part default (r .contractOf (o .instrument)))
+      (line-in-part own (o .instrument * 2))
+      (line-in-part default (r .contractOf (o .instrument) * 2))
 
   -- the group's line, where it is set, stands in its part
-  pub of-group : isSet (linesIn own ownSet default defaultSet ofGroup groupSet .lineOfGroup (groupOfInstrument r (o .instrument))) ≡ true → OfGroup r (linesIn own ownSet default defaultSet ofGroup groupSet) o (partOf ofGroup (groupOfInstrument r (o .instrument) * 2) 2)
+  pub of-group : isSet (linesIn own ownSet default defaultSet ofGroup groupSet .lineOfGroup (groupOfInstrument r (o .instrument))) ≡ true → OfGroup r (linesIn own ownSet default defaultSet ofGroup groupSet) o (partOf ofGroup (groupOfInstrument r (o .instrument)) 1)
   unfolding linesIn
   of-group e =
       rw (group-line-in-part ofGroup (groupOfInstrument r (o .instrument))) (where-set (wordAt groupSet (groupOfInstrument r (o .instrument))) (groupLineAt ofGroup (groupOfInstrument r (o .instrument))) e)

@@ -1,10 +1,8 @@
 -- What the questions need of the lent bytes, and which lines stand in them.
-use Prim.Native.Nat.{ℕ, _≤_, _<_}
+use Prim.Native.Nat.{ℕ, _≤_}
 use mathlib.Core.Path.{_≡_}
 use mathlib.Core.List.{List}
 use mathlib.Core.Option.{some}
-use lib.ListN.{length}
-use Rattle.words.specs.Words.{wordAt}
 use Rattle.ledger.specs.declared.order.Order.{Order}
 use Rattle.ledger.specs.Roster.{Roster, Numbered, groupOfInstrument}
 use Rattle.ledger.specs.Records.{rosterIn}
@@ -13,14 +11,6 @@ use Rattle.limits.specs.Lines.{Lines, lineInForce, isSet}
 use Rattle.limits.specs.InBytes.{lineAt, groupLineAt, saysSet}
 
 -- ---- what is there, and how large
-pub record LineBounds (line : List ℕ) : Type 0 where
-  pub long : 32 ≤ length line
-  pub small : (k : ℕ) → k < 4 → wordAt line k ≤ 100000000000
-
-pub record GroupLineBounds (line : List ℕ) : Type 0 where
-  pub long : 16 ≤ length line
-  pub small : (k : ℕ) → k < 2 → wordAt line k ≤ 100000000000
-
 -- for an event that adds `added` contracts to what remains of order o
 pub record EventBounds (cells balances roster : List ℕ) (o : Order) (added : ℕ) : Type 0 where
   pub positions : WeighBounds cells balances roster

@@ -1,32 +1,32 @@
--- Lines in lent bytes: four words for a line, two for a group's, and a word of its own that says whether a line is set.
+-- Lines in lent bytes: two words for a line, one for a group's, and a word of its own that says whether a line is set.
 use Prim.Native.Nat.{ℕ, _+_, _*_}
 use mathlib.Core.Bool.{Bool, not, cond}
 use mathlib.Core.List.{List}
 use mathlib.Core.Option.{Option, none, some}
 use lib.Dec.{eqb}
-use Rattle.words.specs.Words.{wordAt, partOf}
+use Rattle.words.specs.Words.{wordAt, lower, upper, partOf}
 use Rattle.ledger.specs.declared.order.Side.{Side}
 use Rattle.ledger.specs.declared.order.Side.the-variants.{Buy, Sell}
 use Rattle.limits.specs.Lines.{Line, GroupLine, Lines}
 
--- line k: TCI, TVI, LCI, LVI
+-- two figures to a word, of 32 bits each: the buy's or long one in the lower half, the sell's or short one in the upper.
+-- The line in words k and k + 1, and the group line in word k
 unfoldable pub lineAt : List ℕ → ℕ → Line
 lineAt m k =
     record {
-      tci = wordAt m (k * 4);
-      tvi = wordAt m (k * 4 + 1);
-      lci = wordAt m (k * 4 + 2);
-      lvi = wordAt m (k * 4 + 3);
+      tci = lower (wordAt m k);
+      tvi = upper (wordAt m k);
+      lci = lower (wordAt m (k + 1));
+      lvi = upper (wordAt m (k + 1));
     }
 
--- group line g: LCC, LVC
 unfoldable pub groupLineAt : List ℕ → ℕ → GroupLine
-groupLineAt m g = record { lcc = wordAt m (g * 2); lvc = wordAt m (g * 2 + 1) }
+groupLineAt m k = record { lcc = lower (wordAt m k); lvc = upper (wordAt m k) }
 
--- of two figures that follow each other, which is the one of a side: the buy's or long one comes first
-abbrev pub sideWord : Side → ℕ
-sideWord Buy = 0
-sideWord Sell = 1
+-- the first byte in a word of a side's figure
+abbrev pub sideByte : Side → ℕ
+sideByte Buy = 0
+sideByte Sell = 4
 
 -- a line is set where its set word is not 0; a line of zeros may be set
 unfoldable pub saysSet : ℕ → Bool
@@ -40,11 +40,11 @@ whereSet w l = cond (saysSet w) (some l) none
 unfoldable pub linesIn : List ℕ → List ℕ → List ℕ → List ℕ → List ℕ → List ℕ → Lines
 linesIn own ownSet default defaultSet ofGroup groupSet =
     record {
-      ownOf = λ i. whereSet (wordAt ownSet i) (lineAt own i);
-      defaultOf = λ c. whereSet (wordAt defaultSet c) (lineAt default c);
+      ownOf = λ i. whereSet (wordAt ownSet i) (lineAt own (i * 2));
+      defaultOf = λ c. whereSet (wordAt defaultSet c) (lineAt default (c * 2));
       lineOfGroup = λ g. whereSet (wordAt groupSet g) (groupLineAt ofGroup g);
     }
 
 -- the bytes of the line in force of instrument i of contract c, by the own line's set word: the own line's or the default line's, whole
 unfoldable pub linePart : List ℕ → List ℕ → ℕ → ℕ → ℕ → List ℕ
-linePart own default ownSet i c = cond (saysSet ownSet) (partOf own (i * 4) 4) (partOf default (c * 4) 4)
+linePart own default ownSet i c = cond (saysSet ownSet) (partOf own (i * 2) 2) (partOf default (c * 2) 2)

@@ -1,16 +1,15 @@
-// Limit lines in lent bytes: four words for a line, two for a group's.
+// Limit lines in lent bytes: two words for a line, one for a group's, two figures to a word.
 ghost use mathlib.Core.Path.{_≡_};
 ghost use Prim.Native.Nat.{_+_, _*_, _≤_};
 ghost use lib.ListN.{length};
 ghost use lib.IntN.{pos};
 ghost use Rattle.ledger.specs.Positions.{wayOf};
 ghost use Rattle.limits.specs.Lines.{largestOrder, largestPosition, largestOfGroup};
-ghost use Rattle.limits.specs.InBytes.{lineAt, groupLineAt, sideWord, linePart};
-ghost use Rattle.limits.specs.Bounds.{LineBounds, GroupLineBounds};
+ghost use Rattle.limits.specs.InBytes.{lineAt, groupLineAt, sideByte, linePart};
 use ledger::order::Side;
 use ledger::units::Contracts;
+use words::fields::u32_at;
 use words::part;
-use words::word;
 
 // The four figures of the line in force: a part of the own lines where the own line's set word, `set`, is not 0, else of the default lines.
 pub fn line_in_force<'a>(
@@ -20,23 +19,23 @@ pub fn line_in_force<'a>(
     instrument: usize,
     contract: usize,
 ) -> &'a [u8]
-    requires { ⌜ (instrument * 32 + 32 ≤ length (now own)) × (contract * 32 + 32 ≤ length (now default)) ⌝ }
+    requires { ⌜ (instrument * 16 + 16 ≤ length (now own)) × (contract * 16 + 16 ≤ length (now default)) ⌝ }
     ensures { λ r. ⌜ now r ≡ linePart (now (own .entry)) (now (default .entry)) set instrument contract ⌝ }
 {
     if set != 0 {
-        part(own, instrument * 4, 4)
+        part(own, instrument * 2, 2)
     } else {
-        part(default, contract * 4, 4)
+        part(default, contract * 2, 2)
     }
 }
 
-// Of two figures that follow each other, the place of a side's.
-fn side_word(side: Side) -> usize
-    ensures { λ r. ⌜ r ≡ sideWord side ⌝ }
+// The first byte in a word of a side's figure.
+fn side_byte(side: Side) -> usize
+    ensures { λ r. ⌜ r ≡ sideByte side ⌝ }
 {
     match side {
         Side::Buy => 0,
-        Side::Sell => 1,
+        Side::Sell => 4,
     }
 }
 
@@ -45,21 +44,21 @@ pub fn largest_order(line: &[u8], side: Side) -> u64
     requires { ⌜ 16 ≤ length (now line) ⌝ }
     ensures { λ r. ⌜ r ≡ largestOrder side (lineAt (now (line .entry)) 0) ⌝ }
 {
-    word(line, side_word(side))
+    u32_at(line, side_byte(side)) as u64
 }
 
 // LCI for Buy, LVI for Sell.
 pub fn largest_position(line: &[u8], side: Side) -> Contracts
-    requires { ⌜ LineBounds (now line) ⌝ }
+    requires { ⌜ 16 ≤ length (now line) ⌝ }
     ensures { λ r. ⌜ r .0 ≡ pos (largestPosition (wayOf side) (lineAt (now (line .entry)) 0)) ⌝ }
 {
-    Contracts(word(line, 2 + side_word(side)) as i64)
+    Contracts(u32_at(line, 8 + side_byte(side)) as i64)
 }
 
 // LCC for Buy, LVC for Sell.
 pub fn largest_of_group(line: &[u8], side: Side) -> Contracts
-    requires { ⌜ GroupLineBounds (now line) ⌝ }
+    requires { ⌜ 8 ≤ length (now line) ⌝ }
     ensures { λ r. ⌜ r .0 ≡ pos (largestOfGroup (wayOf side) (groupLineAt (now (line .entry)) 0)) ⌝ }
 {
-    Contracts(word(line, side_word(side)) as i64)
+    Contracts(u32_at(line, side_byte(side)) as i64)
 }

@@ -4,6 +4,7 @@ ghost use mathlib.Core.Path.{_≡_};
 ghost use mathlib.Core.List.{List};
 ghost use Prim.Native.Nat.{_≤_};
 ghost use lib.IntN.{pos, natAbs, _+ℤ_, _*ℤ_};
+ghost use lib.ListN.{length};
 ghost use Rattle.ledger.specs.Roster.{groupOfInstrument};
 ghost use Rattle.ledger.specs.Positions.{wayOf, wayBy};
 ghost use Rattle.ledger.specs.Records.{balancesIn, rosterIn};
@@ -15,7 +16,7 @@ ghost use Rattle.limits.specs.Questions.{firstNo};
 ghost use Rattle.limits.specs.Asked.{positionQuestions};
 ghost use Rattle.limits.specs.Raised.{Raised};
 ghost use Rattle.limits.specs.Numbers.{positionNumber, instrumentNumber, groupNumber};
-ghost use Rattle.limits.specs.Bounds.{LineBounds, GroupLineBounds, EventBounds, InForce, OfGroup};
+ghost use Rattle.limits.specs.Bounds.{EventBounds, InForce, OfGroup};
 use crate::lines::largest_of_group;
 use crate::lines::largest_position;
 use ledger::order::Order;
@@ -133,7 +134,7 @@ pub fn positions_within(
     o: Order,
     added: u64,
 ) -> PositionAnswer
-    requires { ⌜ EventBounds (now cells) (now balances) (now roster) o added × LineBounds (now line) × GroupLineBounds (now group) ⌝ }
+    requires { ⌜ EventBounds (now cells) (now balances) (now roster) o added × (16 ≤ length (now line)) × (8 ≤ length (now group)) ⌝ }
     ensures { λ a. ⌜
         (let r = rosterIn (now (roster .entry)) in
         (ls : Lines) (before after : List Order) →

@@ -15,7 +15,7 @@ ghost use Rattle.limits.specs.InBytes.{linePart};
 ghost use Rattle.limits.specs.Raised.{Raised};
 ghost use Rattle.limits.specs.Numbers.{existenceNumber, existenceQuestions, sizeNumber, sizeQuestions, positionNumber};
 ghost use Rattle.limits.specs.Bounds.{SetWords, InForce, OfGroup};
-ghost use Rattle.limits_probe.specs.Entered.{SmallWords, entered};
+ghost use Rattle.limits_probe.specs.Entered.{entered};
 use ledger::order::Order;
 use ledger::records::side_of;
 use ledger_probe::group_input_fits;
@@ -78,15 +78,15 @@ pub extern "C" fn probe_line<'a>(
     contract: usize,
     k: usize,
 ) -> u64
-    ensures { λ r. ⌜ (instrument * 32 + 32 ≤ length (now (own .entry)) → contract * 32 + 32 ≤ length (now (default .entry)) → k < 4 → r ≡ wordAt (linePart (now (own .entry)) (now (default .entry)) set instrument contract) k) ⌝ }
+    ensures { λ r. ⌜ (instrument * 16 + 16 ≤ length (now (own .entry)) → contract * 16 + 16 ≤ length (now (default .entry)) → k < 2 → r ≡ wordAt (linePart (now (own .entry)) (now (default .entry)) set instrument contract) k) ⌝ }
 {
-    if own.len() / 32 <= instrument {
+    if own.len() / 16 <= instrument {
         return 255;
     }
-    if default.len() / 32 <= contract {
+    if default.len() / 16 <= contract {
         return 255;
     }
-    if 4 <= k {
+    if 2 <= k {
         return 255;
     }
     word(line_in_force(own, default, set, instrument, contract), k)
@@ -108,21 +108,6 @@ pub extern "C" fn probe_size(line: &[u8], side: u64, total: u64) -> u64
         return 255;
     }
     size_number(order_size(line, side_of(side), total))
-}
-
-// Are the first `n` words there, and each at most 10^9?
-fn words_fit(line: &[u8], n: usize) -> bool
-    ensures { λ r. ⌜ (r ≡ true → SmallWords (now (line .entry)) n) ⌝ }
-{
-    if line.len() / 8 < n {
-        return false;
-    }
-    for k in 0..n {
-        if 1000000000 < word(line, k) {
-            return false;
-        }
-    }
-    true
 }
 
 // Is the instrument on the roster, from 1 to its number of instruments?
@@ -167,10 +152,10 @@ pub extern "C" fn probe_positions(
     if !on_roster(roster, instrument) {
         return 255;
     }
-    if !words_fit(line, 4) {
+    if line.len() < 16 {
         return 255;
     }
-    if !words_fit(group, 2) {
+    if group.len() < 8 {
         return 255;
     }
     if 1000000 < added {

@@ -7,16 +7,19 @@ use mathlib.Core.Option.{none, some}
 use native.Mathlib.Omega.{arith}
 use lib.Dec.{leb}
 use borrow.Author.Tests.{leb-true, le-leb}
-use Rattle.words.specs.Words.{wordAt}
+use Rattle.words.specs.Bytes.{Bytes}
+use Rattle.words.specs.Fields.{u32At}
+use Rattle.words.proofs.HalfWords.{lower-field, upper-field}
 use Rattle.ledger.specs.Roster.{Numbered}
 use Rattle.limits.specs.Lines.{Line, GroupLine}
+use Rattle.limits.specs.InBytes.{lineAt, groupLineAt}
 use Rattle.limits.proofs.Answers.{both-true}
 use Rattle.book.specs.Decoding.{between}
 use Rattle.book.specs.Sound.{LineFits, GroupLineFits, LinesFit}
 use Rattle.book.proofs.Tables.{between-numbered}
 use Rattle.layout.specs.Layout.{ownSetRow, defaultSetRow, groupSetRow, ownRow, defaultRow, groupRow}
 use Rattle.layout.specs.Rosters.{every}
-use Rattle.layout.specs.View.{rosterOf, flag, lineAt, groupLineAt, onRoster, linesOf}
+use Rattle.layout.specs.View.{rosterOf, flag, onRoster, linesOf}
 use Rattle.soundness.specs.Soundness.{lineInRange, groupLineInRange, accountLinesSound, linesSound}
 use Rattle.soundness.specs.Held.{Figures}
 use Rattle.soundness.proofs.Every.{every-out, every-in}
@@ -51,54 +54,45 @@ pub group-line-in : (l : GroupLine) → GroupLineFits 1000000000 l → groupLine
 unfolding groupLineInRange
 group-line-in l f = rw (le-leb (l .lcc) 1000000000 (f .lcc)) (le-leb (l .lvc) 1000000000 (f .lvc))
 
--- ---- the n words from word k on are in range
-abbrev pub Within : List ℕ → ℕ → ℕ → Type 0
-Within m k n = (p : ℕ) → k ≤ p → p < k + n → wordAt m p ≤ 1000000000
+-- ---- the 168 figures of an account's row, as numbers of 32 bits
+module _ (m : List ℕ) (bytes : Bytes m) (a : ℕ) (all : (p : ℕ) → (ownRow a + 2) * 2 ≤ p → p < (ownRow a + 2) * 2 + 168 → u32At m (p * 4) ≤ 1000000000) where
+  word-within : (k : ℕ) → ownRow a + 2 ≤ k → k < ownRow a + 86 → GroupLineFits 1000000000 (groupLineAt m k)
+  unfolding groupLineAt
+  word-within k low high =
+      let first : k * 2 * 4 ≡ k * 8 = omega arith in
+      let second : (k * 2 + 1) * 4 ≡ k * 8 + 4 = omega arith in
+      record {
+        lcc = rw (← lower-field m k bytes, ← first) (all (k * 2) (omega arith) (omega arith));
+        lvc = rw (← upper-field m k bytes, ← second) (all (k * 2 + 1) (omega arith) (omega arith));
+      }
 
--- a row of n lines in `size` such words
-module _ (m : List ℕ) (row n size : ℕ) where
-  row-within : n * 4 ≤ size → Within m (row + 4) size → every n (λ j. lineInRange (lineAt m (row + j * 4))) ≡ true
-  row-within part all =
-      every-in (λ j. lineInRange (lineAt m (row + j * 4))) n (λ j h. line-in (lineAt m (row + j * 4)) (fits j h))
-    where
-      fits : (j : ℕ) → Numbered n j → LineFits 1000000000 (lineAt m (row + j * 4))
-      fits j h =
-          record {
-            tci = all (row + j * 4) (omega arith) (omega arith);
-            tvi = all (row + j * 4 + 1) (omega arith) (omega arith);
-            lci = all (row + j * 4 + 2) (omega arith) (omega arith);
-            lvi = all (row + j * 4 + 3) (omega arith) (omega arith);
-          }
+  line-within : (k : ℕ) → ownRow a + 2 ≤ k → k + 1 < ownRow a + 86 → LineFits 1000000000 (lineAt m k)
+  unfolding lineAt groupLineAt
+  line-within k low high =
+      let x = word-within k low (omega arith) in
+      let y = word-within (k + 1) (omega arith) high in
+      record { tci = x .lcc; tvi = x .lvc; lci = y .lcc; lvi = y .lvc }
 
-  group-row-within : n * 2 ≤ size → Within m (row + 2) size → every n (λ j. groupLineInRange (groupLineAt m (row + j * 2))) ≡ true
-  group-row-within part all =
-      every-in (λ j. groupLineInRange (groupLineAt m (row + j * 2))) n (λ j h. group-line-in (groupLineAt m (row + j * 2)) (fits j h))
-    where
-      fits : (j : ℕ) → Numbered n j → GroupLineFits 1000000000 (groupLineAt m (row + j * 2))
-      fits j h =
-          record {
-            lcc = all (row + j * 2) (omega arith) (omega arith);
-            lvc = all (row + j * 2 + 1) (omega arith) (omega arith);
-          }
-
--- the three rows of an account, in x, y and z words
-module _ (m : List ℕ) (a x y z : ℕ) (own : Within m (ownRow a + 4) x) (default : Within m (defaultRow a + 4) y) (group : Within m (groupRow a + 2) z) where
-  pub rows-within : rosterOf m .instruments * 4 ≤ x → rosterOf m .contracts * 4 ≤ y → rosterOf m .groups * 2 ≤ z → accountLinesSound m a ≡ true
+  pub row-within : rosterOf m .instruments ≤ 32 → rosterOf m .contracts ≤ 8 → rosterOf m .groups ≤ 4 → accountLinesSound m a ≡ true
   unfolding accountLinesSound
-  rows-within i c g =
+  row-within instruments contracts groups =
       let r = rosterOf m in
-      rw (row-within m (ownRow a) (r .instruments) x i own, row-within m (defaultRow a) (r .contracts) y c default) (group-row-within m (groupRow a) (r .groups) z g group)
+      rw (
+        every-in (λ i. lineInRange (lineAt m (ownRow a + i * 2))) (r .instruments) (λ i h. line-in _ (line-within (ownRow a + i * 2) (omega arith) (omega arith))),
+        every-in (λ c. lineInRange (lineAt m (defaultRow a + c * 2))) (r .contracts) (λ c h. line-in _ (line-within (defaultRow a + c * 2) (omega arith) (omega arith))),
+      )
+      (every-in (λ g. groupLineInRange (groupLineAt m (groupRow a + g))) (r .groups) (λ g h. group-line-in _ (word-within (groupRow a + g) (omega arith) (omega arith))))
 
 -- ---- all lines of the roster
 module _ (m : List ℕ) where
   own-test : ℕ → ℕ → Bool
-  own-test a i = lineInRange (lineAt m (ownRow a + i * 4))
+  own-test a i = lineInRange (lineAt m (ownRow a + i * 2))
 
   default-test : ℕ → ℕ → Bool
-  default-test a c = lineInRange (lineAt m (defaultRow a + c * 4))
+  default-test a c = lineInRange (lineAt m (defaultRow a + c * 2))
 
   group-test : ℕ → ℕ → Bool
-  group-test a g = groupLineInRange (groupLineAt m (groupRow a + g * 2))
+  group-test a g = groupLineInRange (groupLineAt m (groupRow a + g))
 
   -- the three rows of an account
   rows : linesSound m ≡ true → (a : ℕ) → Numbered (rosterOf m .accounts) a → (every (rosterOf m .instruments) (own-test a) ≡ true) × (every (rosterOf m .contracts) (default-test a) ≡ true) × (every (rosterOf m .groups) (group-test a) ≡ true)
@@ -112,16 +106,16 @@ module _ (m : List ℕ) where
   unfolding own-test default-test group-test
   figures-out e =
       record {
-        own = λ a i h l. line-out (lineAt m (ownRow a + i * 4)) (every-out (own-test a) (rosterOf m .instruments) (rows e a h .0) i l);
-        default = λ a c h l. line-out (lineAt m (defaultRow a + c * 4)) (every-out (default-test a) (rosterOf m .contracts) (rows e a h .1) c l);
-        ofGroup = λ a g h l. group-line-out (groupLineAt m (groupRow a + g * 2)) (every-out (group-test a) (rosterOf m .groups) (rows e a h .2) g l);
+        own = λ a i h l. line-out (lineAt m (ownRow a + i * 2)) (every-out (own-test a) (rosterOf m .instruments) (rows e a h .0) i l);
+        default = λ a c h l. line-out (lineAt m (defaultRow a + c * 2)) (every-out (default-test a) (rosterOf m .contracts) (rows e a h .1) c l);
+        ofGroup = λ a g h l. group-line-out (groupLineAt m (groupRow a + g)) (every-out (group-test a) (rosterOf m .groups) (rows e a h .2) g l);
       }
 
   pub figures-in : Figures m → linesSound m ≡ true
   unfolding linesSound accountLinesSound own-test default-test group-test
   figures-in f =
       every-in (accountLinesSound m) (rosterOf m .accounts)
-      (λ a h. rw (every-in (own-test a) (rosterOf m .instruments) (λ i l. line-in (lineAt m (ownRow a + i * 4)) (f .own a i h l)), every-in (default-test a) (rosterOf m .contracts) (λ c l. line-in (lineAt m (defaultRow a + c * 4)) (f .default a c h l))) (every-in (group-test a) (rosterOf m .groups) (λ g l. group-line-in (groupLineAt m (groupRow a + g * 2)) (f .ofGroup a g h l))))
+      (λ a h. rw (every-in (own-test a) (rosterOf m .instruments) (λ i l. line-in (lineAt m (ownRow a + i * 2)) (f .own a i h l)), every-in (default-test a) (rosterOf m .contracts) (λ c l. line-in (lineAt m (defaultRow a + c * 2)) (f .default a c h l))) (every-in (group-test a) (rosterOf m .groups) (λ g l. group-line-in (groupLineAt m (groupRow a + g)) (f .ofGroup a g h l))))
 
   -- ---- those that are set
   set-on : {A : Type 0} (P : A → Type 0) (accounts numbers a n : ℕ) (t : Bool) (x l : A) → (Numbered accounts a → Numbered numbers n → P x) → onRoster accounts numbers a n (cond t (some x) none) none ≡ some l → P l
@@ -138,7 +132,7 @@ module _ (m : List ℕ) where
   lines-fit f a =
       let r = rosterOf m in
       record {
-        own = λ i l. set-on (LineFits 1000000000) (r .accounts) (r .instruments) a i (flag m (ownSetRow a + i)) (lineAt m (ownRow a + i * 4)) l (f .own a i);
-        default = λ c l. set-on (LineFits 1000000000) (r .accounts) (r .contracts) a c (flag m (defaultSetRow a + c)) (lineAt m (defaultRow a + c * 4)) l (f .default a c);
-        ofGroup = λ g l. set-on (GroupLineFits 1000000000) (r .accounts) (r .groups) a g (flag m (groupSetRow a + g)) (groupLineAt m (groupRow a + g * 2)) l (f .ofGroup a g);
+        own = λ i l. set-on (LineFits 1000000000) (r .accounts) (r .instruments) a i (flag m (ownSetRow a + i)) (lineAt m (ownRow a + i * 2)) l (f .own a i);
+        default = λ c l. set-on (LineFits 1000000000) (r .accounts) (r .contracts) a c (flag m (defaultSetRow a + c)) (lineAt m (defaultRow a + c * 2)) l (f .default a c);
+        ofGroup = λ g l. set-on (GroupLineFits 1000000000) (r .accounts) (r .groups) a g (flag m (groupSetRow a + g)) (groupLineAt m (groupRow a + g)) l (f .ofGroup a g);
       }

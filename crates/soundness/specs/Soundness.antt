@@ -13,11 +13,12 @@ use Rattle.ledger.specs.Records.{orderAt}
 use Rattle.ledger.specs.Roster.{Roster}
 use Rattle.ledger.specs.Positions.{Way, long, short, ofInstrument}
 use Rattle.limits.specs.Lines.{Line, GroupLine}
+use Rattle.limits.specs.InBytes.{lineAt, groupLineAt}
 use Rattle.book.specs.Decoding.{between}
 use Rattle.book.specs.Market.{derivatives}
 use Rattle.layout.specs.Layout.{kindWord, countWord, ordersWord, ownRow, defaultRow, groupRow}
 use Rattle.layout.specs.Rosters.{every, sizesFit, namesFit, weightsFit, longEnough}
-use Rattle.layout.specs.View.{rosterOf, balancesOf, openOrders, tradingOf, lineAt, groupLineAt}
+use Rattle.layout.specs.View.{rosterOf, balancesOf, openOrders, tradingOf}
 
 -- ids above `least`, strictly ascending: from 0 on they are non-zero and differ
 unfoldable pub ascend : ℕ → List Order → Bool
@@ -42,9 +43,9 @@ rosterSound m = sizesFit (rosterOf m) && namesFit (rosterOf m) && weightsFit (ro
 -- the lines of account a
 unfoldable pub accountLinesSound : List ℕ → ℕ → Bool
 accountLinesSound m a =
-    every (rosterOf m .instruments) (λ i. lineInRange (lineAt m (ownRow a + i * 4)))
-    && every (rosterOf m .contracts) (λ c. lineInRange (lineAt m (defaultRow a + c * 4)))
-    && every (rosterOf m .groups) (λ g. groupLineInRange (groupLineAt m (groupRow a + g * 2)))
+    every (rosterOf m .instruments) (λ i. lineInRange (lineAt m (ownRow a + i * 2)))
+    && every (rosterOf m .contracts) (λ c. lineInRange (lineAt m (defaultRow a + c * 2)))
+    && every (rosterOf m .groups) (λ g. groupLineInRange (groupLineAt m (groupRow a + g)))
 
 -- its lines are in range
 unfoldable pub linesSound : List ℕ → Bool

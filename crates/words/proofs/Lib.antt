@@ -2,6 +2,7 @@ mod Unrolled
 mod Complement
 pub mod Numbers
 pub mod Memory
+pub mod HalfWords
 pub mod Runs
 pub mod Apart
 mod Moves

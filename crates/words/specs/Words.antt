@@ -1,5 +1,5 @@
 -- A list of bytes as little-endian words of 64 bits: word k is bytes 8 k to 8 k + 7.
-use Prim.Native.Nat.{ℕ, zero, suc, _+_, _*_, _^_, _<_}
+use Prim.Native.Nat.{ℕ, zero, suc, _+_, _*_, _/_, _%_, _^_, _<_}
 use mathlib.Core.List.{List, [], _∷_}
 use lib.ListN.{getD, take, drop}
 use lib.IntN.{ℤ}
@@ -17,6 +17,16 @@ wordAt m k = number 8 m (k * 8)
 -- m with v as its word k
 unfoldable pub putWord : List ℕ → ℕ → ℕ → List ℕ
 putWord m k v = store 8 m (k * 8) v
+
+-- the halves of a word, of 32 bits each, and the word of two halves
+abbrev pub lower : ℕ → ℕ
+lower w = w % 2 ^ 32
+
+abbrev pub upper : ℕ → ℕ
+upper w = w / 2 ^ 32
+
+abbrev pub halves : ℕ → ℕ → ℕ
+halves x y = x + 2 ^ 32 * y
 
 -- word k of m as a signed number, in two's complement
 unfoldable pub signedAt : List ℕ → ℕ → ℤ

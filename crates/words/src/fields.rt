@@ -2,7 +2,7 @@
 ghost use mathlib.Core.Path.{_≡_};
 ghost use Prim.Native.Nat.{_+_, _*_, _≤_};
 ghost use lib.ListN.{length};
-ghost use Rattle.words.specs.Fields.{u8At, u16At, u64At, i32At, i64At};
+ghost use Rattle.words.specs.Fields.{u8At, u16At, u32At, u64At, i32At, i64At};
 use crate::signed::signed32;
 use crate::signed::signed64;
 
@@ -36,6 +36,14 @@ pub fn u16_at(s: &[u8], a: usize) -> u16
     join(s[a], s[a + 1], 0, 0, 0, 0, 0, 0) as u16
 }
 
+// The unsigned 32-bit field at byte `a`.
+pub fn u32_at(s: &[u8], a: usize) -> u32
+    requires { ⌜ a + 4 ≤ length (now s) ⌝ }
+    ensures { λ r. ⌜ r ≡ u32At (now (s .entry)) a ⌝ }
+{
+    join(s[a], s[a + 1], s[a + 2], s[a + 3], 0, 0, 0, 0) as u32
+}
+
 // The unsigned 64-bit field at byte `a`.
 pub fn u64_at(s: &[u8], a: usize) -> u64
     requires { ⌜ a + 8 ≤ length (now s) ⌝ }
@@ -58,7 +66,7 @@ pub fn i32_at(s: &[u8], a: usize) -> i32
     requires { ⌜ a + 4 ≤ length (now s) ⌝ }
     ensures { λ r. ⌜ r ≡ i32At (now (s .entry)) a ⌝ }
 {
-    signed32(join(s[a], s[a + 1], s[a + 2], s[a + 3], 0, 0, 0, 0) as u32)
+    signed32(u32_at(s, a))
 }
 
 // The signed 64-bit field at byte `a`.

@@ -5,7 +5,7 @@ pub mod signed;
 ghost use mathlib.Core.Path.{_≡_};
 ghost use Prim.Native.Nat.{_+_, _*_, _≤_};
 ghost use lib.ListN.{length};
-ghost use Rattle.words.specs.Words.{wordAt, putWord, signedAt, putSigned, wordsAt, putWords, partOf};
+ghost use Rattle.words.specs.Words.{wordAt, putWord, halves, signedAt, putSigned, wordsAt, putWords, partOf};
 
 // Word `k` of `m`.
 pub fn word(m: &[u8], k: usize) -> u64
@@ -29,6 +29,13 @@ pub fn set_word(m: &mut [u8], k: usize, v: u64)
     m[a + 5] = (v / 1099511627776 % 256) as u8;
     m[a + 6] = (v / 281474976710656 % 256) as u8;
     m[a + 7] = (v / 72057594037927936 % 256) as u8;
+}
+
+// The word whose lower half is `x` and whose upper half is `y`.
+pub fn halves(x: u32, y: u32) -> u64
+    ensures { λ r. ⌜ r ≡ halves x y ⌝ }
+{
+    (x as u64) + 4294967296 * (y as u64)
 }
 
 // Word `k` of `m` as a signed number.

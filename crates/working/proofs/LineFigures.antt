@@ -1,15 +1,17 @@
 -- The figures of an accepted LIMIT: −1 throughout, or limits, and then none is below 0.
-use Prim.Native.Nat.{ℕ}
+use Prim.Native.Nat.{ℕ, _≤_}
 use mathlib.Core.Path.{_≡_, refl, _∙_, sym, ap}
 use mathlib.Core.Bool.{Bool, true, false, true≢false, _&&_, _||_, cond}
 use mathlib.Core.List.{List}
 use mathlib.Core.Option.{none, some}
 use native.Mathlib.Omega.{arith}
 use lib.IntN.{ℤ, pos, negsuc, natAbs}
-use lib.Signed.{_≤ℤ_}
-use mir.Syntax.{w64}
-use mir.Val.{SFits, toZ, ofZ}
+use lib.Dec.{T}
+use lib.Signed.{_≤ℤ_, nonNeg}
+use mir.Syntax.{w32, w64}
+use mir.Val.{Fits, SFits, toZ, ofZ}
 use mir.ValLaws.{toZ-ofZ}
+use Rattle.integers.specs.Parts.{signed, magnitude-parts}
 use Rattle.limits.proofs.Answers.{both-true}
 use Rattle.book.specs.declared.Figures.{Figures}
 use Rattle.book.specs.Market.{derivatives}
@@ -22,7 +24,6 @@ use Rattle.book.specs.declared.Event.the-variants.{Limit}
 use Rattle.layout.specs.FieldStores.{lineWith, groupLineWith}
 use Rattle.working.specs.Working.{Ready, lineStored, worked}
 use Rattle.working.proofs.Told.{told}
-use Rattle.working.proofs.Rooms.{Cast, cast-fits}
 
 -- ---- four figures
 pub line-unset : (f : Figures) (t : Bool) → t ≡ unsets f → t ≡ true → lineOf f ≡ none
@@ -40,14 +41,26 @@ or-right false u e h = e
 limit-positive : (z : ℤ) → isLimit derivatives z ≡ true → pos 0 ≤ℤ z
 limit-positive z e = betweenℤ-both (pos 0) (pos (derivatives .largest)) z e .0
 
-pub record Positive (f : Figures) : Type 0 where
-  pub tci : pos 0 ≤ℤ f .tci
-  pub tvi : pos 0 ≤ℤ f .tvi
-  pub lci : pos 0 ≤ℤ f .lci
-  pub lvi : pos 0 ≤ℤ f .lvi
+-- a limit is cast to 32 bits
+abbrev LimitCast : ℤ → Type 0
+LimitCast z = T (nonNeg (toZ w64 (ofZ w64 z))) × Fits w32 (natAbs (toZ w64 (ofZ w64 z)))
 
-pub positive : (f : Figures) → figuresOfLineFit derivatives f ≡ true → unsets f ≡ false → Positive f
-positive f fit e =
+pub limit-cast : (z : ℤ) → SFits w64 z → isLimit derivatives z ≡ true → LimitCast z
+unfolding derivatives
+limit-cast z fits e =
+    let h = betweenℤ-both (pos 0) (pos 1000000000) z e in
+    let small : natAbs z ≤ 1000000000 = omega (signed, magnitude-parts z) in
+    let same = toZ-ofZ w64 z fits in
+    simp same (omega signed, omega arith)
+
+pub record AllLimits (f : Figures) : Type 0 where
+  pub tci : isLimit derivatives (f .tci) ≡ true
+  pub tvi : isLimit derivatives (f .tvi) ≡ true
+  pub lci : isLimit derivatives (f .lci) ≡ true
+  pub lvi : isLimit derivatives (f .lvi) ≡ true
+
+pub all-limits : (f : Figures) → figuresOfLineFit derivatives f ≡ true → unsets f ≡ false → AllLimits f
+all-limits f fit e =
     let a = isLimit derivatives (f .tci) in
     let b = isLimit derivatives (f .tvi) in
     let c = isLimit derivatives (f .lci) in
@@ -55,7 +68,7 @@ positive f fit e =
     let x = both-true (a && b && c) d (or-right (unsets f) (a && b && c && d) fit e) in
     let y = both-true (a && b) c (x .0) in
     let z = both-true a b (y .0) in
-    record { tci = limit-positive (f .tci) (z .0); tvi = limit-positive (f .tvi) (z .1); lci = limit-positive (f .lci) (y .1); lvi = limit-positive (f .lvi) (x .1) }
+    record { tci = z .0; tvi = z .1; lci = y .1; lvi = x .1 }
 
 -- ---- two figures: t is what the test of the first said, and the first tells of both
 positive-not-minus-one : (z : ℤ) → pos 0 ≤ℤ z → isMinusOne z ≡ false
@@ -79,10 +92,10 @@ module _ {m : List ℕ} {a g : ℕ} {x y : ℤ} {p : ℕ} (ready : Ready m (Limi
           absurd (true≢false (sym (first ∙ taken) ∙ positive-not-minus-one x (limit-positive x (both-true (isLimit derivatives x) (isLimit derivatives y) h .0))))
 
   module _ (left : t ≡ false) (fits-y : SFits w64 y) where
-    pub group-casts : Cast x × Cast y
+    pub group-casts : LimitCast x × LimitCast y
     group-casts =
         let h = both-true (isLimit derivatives x) (isLimit derivatives y) (rw (first ∙ left) at fit) in
-        (cast-fits x fits-x (limit-positive x (h .0)), cast-fits y fits-y (limit-positive y (h .1)))
+        (limit-cast x fits-x (h .0), limit-cast y fits-y (h .1))
 
     pub group-set : some (groupLineWith (natAbs (toZ w64 (ofZ w64 x))) (natAbs (toZ w64 (ofZ w64 y)))) ≡ groupLineOf x y
     unfolding groupLineOf

@@ -1,4 +1,4 @@
--- The figures that an accepted event stores are words.
+-- The figures that an accepted event stores fit their words and halves of words.
 use Prim.Native.Nat.{ℕ, _^_, _<_}
 use mathlib.Core.Path.{_≡_, refl}
 use mathlib.Core.Logic.{⊎-elim}

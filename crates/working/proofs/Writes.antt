@@ -8,7 +8,7 @@ use lib.IntN.{ℤ}
 use lib.ListN.{length, getD}
 use Rattle.integers.specs.TwosComplement.{bitsOf}
 use Rattle.words.specs.Bytes.{Bytes}
-use Rattle.words.specs.Words.{wordAt, putWord, putSigned, putWords}
+use Rattle.words.specs.Words.{wordAt, putWord, lower, upper, putSigned, putWords}
 use Rattle.words.proofs.Memory.{length-put, bytes-put, byte-put-other, word-put-other}
 use Rattle.ledger.specs.declared.order.Order.{Order}
 use Rattle.ledger.specs.Roster.{Numbered}
@@ -25,7 +25,7 @@ use Rattle.book.proofs.SoundOrders.{count-after}
 use Rattle.layout.specs.Layout.{markWord, accountBlockWord, instrumentBlockWord, groupBlockRow, balanceRow, ownSetRow, defaultSetRow, groupSetRow, ownRow, defaultRow, groupRow}
 use Rattle.layout.specs.View.{rosterOf, bookOf, tradingOf}
 use Rattle.layout.specs.Stores.{orderWord, fields, putOrder, putOrders, storeOrders}
-use Rattle.layout.specs.FieldStores.{storeLine, storeGroupLine, storeBalance}
+use Rattle.layout.specs.FieldStores.{lineWords, groupLineWords, storeLine, storeGroupLine, storeBalance}
 use Rattle.layout.specs.Judged.{judged}
 use Rattle.layout.proofs.RosterLaws.{roster-same}
 use Rattle.soundness.specs.Held.{Held}
@@ -43,36 +43,31 @@ Setting (Cancel id) = ⊥
 Setting (Fill id n) = ⊥
 Setting Junk = Unit
 
--- what a store of v in word k is: behind the roster, inside the desk, of a setting before the records, and of a line's figure in range
+-- both figures of a word are in range
+abbrev pub FiguresFit : ℕ → Type 0
+FiguresFit v = (lower v ≤ 1000000000) × (upper v ≤ 1000000000)
+
+-- what a store of v in word k is: behind the roster, inside the desk, of a setting before the records, and of a line with its figures in range
 pub record Stores (e : Event) (k v : ℕ) : Type 0 where
   pub low : 112 ≤ k
   pub high : k < 8192
   pub aside : Setting e → (128 ≤ k) × (k < 4224)
-  pub figure : 1536 ≤ k → k < 4224 → v ≤ 1000000000
+  pub figures : 1536 ≤ k → k < 2880 → FiguresFit v
 
 -- at most 256 orders are open afterwards
 pub few-after : (m : List ℕ) → Held m → (e : Event) → judged m e ≡ 0 → length (work (derivatives .unit) (bookOf m) e .orders) ≤ 256
 few-after m held e passes =
     count-after derivatives (rosterOf m) (bookOf m) (tradingOf m) (sound m held) e (passed m e passes)
 
--- ---- the figures of a line in range
-abbrev figures : Line → List ℕ
-figures l = l .tci ∷ l .tvi ∷ l .lci ∷ l .lvi ∷ []
+-- ---- the words of a line in range
+line-words-fit : (l : Line) → LineFits 1000000000 l → (j : ℕ) → FiguresFit (getD (lineWords l) j 0)
+line-words-fit l fits zero = omega arith
+line-words-fit l fits (suc zero) = omega arith
+line-words-fit l fits (suc (suc j)) = omega arith
 
-abbrev group-figures : GroupLine → List ℕ
-group-figures l = l .lcc ∷ l .lvc ∷ []
-
-figure-fits : (l : Line) → LineFits 1000000000 l → (j : ℕ) → getD (figures l) j 0 ≤ 1000000000
-figure-fits l fits zero = fits .tci
-figure-fits l fits (suc zero) = fits .tvi
-figure-fits l fits (suc (suc zero)) = fits .lci
-figure-fits l fits (suc (suc (suc zero))) = fits .lvi
-figure-fits l fits (suc (suc (suc (suc j)))) = omega arith
-
-group-figure-fits : (l : GroupLine) → GroupLineFits 1000000000 l → (j : ℕ) → getD (group-figures l) j 0 ≤ 1000000000
-group-figure-fits l fits zero = fits .lcc
-group-figure-fits l fits (suc zero) = fits .lvc
-group-figure-fits l fits (suc (suc j)) = omega arith
+group-words-fit : (l : GroupLine) → GroupLineFits 1000000000 l → (j : ℕ) → FiguresFit (getD (groupLineWords l) j 0)
+group-words-fit l fits zero = omega arith
+group-words-fit l fits (suc j) = omega arith
 
 -- ---- runs of stores, each of a kind that P is kept by
 module _ (S : ℕ → ℕ → Type 0) (P : List ℕ → Type 0) (keeps : (l : List ℕ) (k v : ℕ) → S k v → P l → P (putWord l k v)) where
@@ -102,17 +97,17 @@ module _ (S : ℕ → ℕ → Type 0) (P : List ℕ → Type 0) (keeps : (l : Li
 
   -- a line: its figures are in range
   module _ (m : List ℕ) (s k : ℕ) (set : (v : ℕ) → v ≤ 1 → S s v) (p : P m) where
-    keeps-line : ((j v : ℕ) → k ≤ j → j < k + 4 → v ≤ 1000000000 → S j v) → (x : Option Line) → ((l : Line) → x ≡ some l → LineFits 1000000000 l) → P (storeLine m s k x)
+    keeps-line : ((j v : ℕ) → k ≤ j → j < k + 2 → FiguresFit v → S j v) → (x : Option Line) → ((l : Line) → x ≡ some l → LineFits 1000000000 l) → P (storeLine m s k x)
     keeps-line ok none fits = keeps m s 0 (set 0 (omega arith)) p
     keeps-line ok (some l) fits =
-        keeps (putWords m k (figures l)) s 1 (set 1 (omega arith))
-        (keeps-words (figures l) m k (λ j h. ok (k + j) _ (omega arith) (omega arith) (figure-fits l (fits l refl) j)) p)
+        keeps (putWords m k (lineWords l)) s 1 (set 1 (omega arith))
+        (keeps-words (lineWords l) m k (λ j h. ok (k + j) _ (omega arith) (omega arith) (line-words-fit l (fits l refl) j)) p)
 
-    keeps-group-line : ((j v : ℕ) → k ≤ j → j < k + 2 → v ≤ 1000000000 → S j v) → (x : Option GroupLine) → ((l : GroupLine) → x ≡ some l → GroupLineFits 1000000000 l) → P (storeGroupLine m s k x)
+    keeps-group-line : ((j v : ℕ) → k ≤ j → j < k + 1 → FiguresFit v → S j v) → (x : Option GroupLine) → ((l : GroupLine) → x ≡ some l → GroupLineFits 1000000000 l) → P (storeGroupLine m s k x)
     keeps-group-line ok none fits = keeps m s 0 (set 0 (omega arith)) p
     keeps-group-line ok (some l) fits =
-        keeps (putWords m k (group-figures l)) s 1 (set 1 (omega arith))
-        (keeps-words (group-figures l) m k (λ j h. ok (k + j) _ (omega arith) (omega arith) (group-figure-fits l (fits l refl) j)) p)
+        keeps (putWords m k (groupLineWords l)) s 1 (set 1 (omega arith))
+        (keeps-words (groupLineWords l) m k (λ j h. ok (k + j) _ (omega arith) (omega arith) (group-words-fit l (fits l refl) j)) p)
 
 -- ---- the memory after an accepted event
 module _ (e : Event) (P : List ℕ → Type 0) (keeps : (l : List ℕ) (k v : ℕ) → Stores e k v → P l → P (putWord l k v)) (m : List ℕ) (held : Held m) where
@@ -123,22 +118,22 @@ module _ (e : Event) (P : List ℕ → Type 0) (keeps : (l : List ℕ) (k v : �
 
   keeps-list : (Setting e → ⊥) → judged m e ≡ 0 → P m → P (storeOrders m (work (derivatives .unit) (bookOf m) e .orders))
   keeps-list of-order passes =
-      keeps-orders (Stores e) P keeps (λ j v low high. record { low = omega arith; high = omega arith; aside = λ s. absurd (of-order s); figure = omega arith }) (λ v. record { low = omega arith; high = omega arith; aside = λ s. absurd (of-order s); figure = omega arith }) m _ (few-after m held e passes)
+      keeps-orders (Stores e) P keeps (λ j v low high. record { low = omega arith; high = omega arith; aside = λ s. absurd (of-order s); figures = omega arith }) (λ v. record { low = omega arith; high = omega arith; aside = λ s. absurd (of-order s); figures = omega arith }) m _ (few-after m held e passes)
 
 pub worked-keeps : (e : Event) (P : List ℕ → Type 0) → ((l : List ℕ) (k v : ℕ) → Stores e k v → P l → P (putWord l k v)) → (m : List ℕ) → Held m → judged m e ≡ 0 → P m → P (worked m e)
 unfolding worked work bookOf derivatives
 worked-keeps (Limit a (Own i f)) P keeps m held passes p =
     let t = told m held (Limit a (Own i f)) passes in
     let sized = laid m held .sized in
-    keeps-line (Stores (Limit a (Own i f))) P keeps m (ownSetRow a + i) (ownRow a + i * 4) (λ v h. omega arith) p (λ j v low high h. omega arith) (lineOf f) (line-fits derivatives f (t .2))
+    keeps-line (Stores (Limit a (Own i f))) P keeps m (ownSetRow a + i) (ownRow a + i * 2) (λ v h. omega arith) p (λ j v low high h. omega arith) (lineOf f) (line-fits derivatives f (t .2))
 worked-keeps (Limit a (Default c f)) P keeps m held passes p =
     let t = told m held (Limit a (Default c f)) passes in
     let sized = laid m held .sized in
-    keeps-line (Stores (Limit a (Default c f))) P keeps m (defaultSetRow a + c) (defaultRow a + c * 4) (λ v h. omega arith) p (λ j v low high h. omega arith) (lineOf f) (line-fits derivatives f (t .2))
+    keeps-line (Stores (Limit a (Default c f))) P keeps m (defaultSetRow a + c) (defaultRow a + c * 2) (λ v h. omega arith) p (λ j v low high h. omega arith) (lineOf f) (line-fits derivatives f (t .2))
 worked-keeps (Limit a (OfGroup g x y)) P keeps m held passes p =
     let t = told m held (Limit a (OfGroup g x y)) passes in
     let sized = laid m held .sized in
-    keeps-group-line (Stores (Limit a (OfGroup g x y))) P keeps m (groupSetRow a + g) (groupRow a + g * 2) (λ v h. omega arith) p (λ j v low high h. omega arith) (groupLineOf x y) (group-line-fits derivatives x y (t .2))
+    keeps-group-line (Stores (Limit a (OfGroup g x y))) P keeps m (groupSetRow a + g) (groupRow a + g) (λ v h. omega arith) p (λ j v low high h. omega arith) (groupLineOf x y) (group-line-fits derivatives x y (t .2))
 worked-keeps (Balance a i z) P keeps m held passes p =
     let t = told m held (Balance a i z) passes in
     keeps-balance (Balance a i z) P keeps m held m a i z (t .0) (t .1) p

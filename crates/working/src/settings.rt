@@ -26,10 +26,10 @@ use layout::stores::unset_own;
 
 // The figures of a line that is set.
 struct Limits {
-    tci: u64,
-    tvi: u64,
-    lci: u64,
-    lvi: u64,
+    tci: u32,
+    tvi: u32,
+    lci: u32,
+    lvi: u32,
 }
 
 fn limits_of(figures: Figures) -> Limits
@@ -37,10 +37,10 @@ fn limits_of(figures: Figures) -> Limits
     ensures { λ r. ⌜ lineOf figures ≡ some (lineWith (r .tci) (r .tvi) (r .lci) (r .lvi)) ⌝ }
 {
     Limits {
-        tci: figures.tci as u64,
-        tvi: figures.tvi as u64,
-        lci: figures.lci as u64,
-        lvi: figures.lvi as u64,
+        tci: figures.tci as u32,
+        tvi: figures.tvi as u32,
+        lci: figures.lci as u32,
+        lvi: figures.lvi as u32,
     }
 }
 
@@ -84,7 +84,7 @@ fn work_of_group(m: &mut [u8], account: u64, group: u64, lcc: i64, lvc: i64)
     if is_minus_one(lcc) {
         unset_of_group(m, a, g);
     } else {
-        set_of_group(m, a, g, lcc as u64, lvc as u64);
+        set_of_group(m, a, g, lcc as u32, lvc as u32);
     }
 }
 

@@ -28,7 +28,9 @@ impl<'a> Words<'a> {
     }
 
     pub fn get(&self, field: Field) -> u64 {
-        self.at(field.word())
+        let bytes = &self.0[field.bytes()];
+        let number = bytes.iter().rev();
+        number.fold(0, |number, byte| number << 8 | u64::from(*byte))
     }
 
     /// The word at a place.

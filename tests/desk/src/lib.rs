@@ -13,7 +13,7 @@ use days::gate::{Gate, GroupPosition, InstrumentPosition};
 use reference::{Desk, MEMORY};
 
 use calls::{Calls, PROVED};
-use layout::Words;
+use layout::{Field, Words};
 
 /// How many bytes stand on each side of the lent memory. An odd number, so that no word of the
 /// memory is aligned.
@@ -93,6 +93,12 @@ impl ProvedDesk {
     /// Writes a word into the lent memory.
     pub fn put_word(&mut self, word: usize, value: u64) {
         self.put(8 * word, &value.to_le_bytes());
+    }
+
+    /// Writes a field into the lent memory: of a half word the lower half of the value.
+    pub fn put_field(&mut self, field: Field, value: u64) {
+        let bytes = field.bytes();
+        self.put(bytes.start, &value.to_le_bytes()[..bytes.len()]);
     }
 
     pub fn open(&mut self, roster: &[u8]) -> u8 {

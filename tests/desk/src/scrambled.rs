@@ -17,10 +17,10 @@ pub fn scramble(desk: &mut ProvedDesk, random: &mut Random) {
     };
     let figures = fields
         .into_iter()
-        .filter_map(|field| Some((field.word(), equal_value(words, field, random)?)));
-    let figures: Vec<(usize, u64)> = figures.collect();
-    for (word, value) in figures {
-        desk.put_word(word, value);
+        .filter_map(|field| Some((field, equal_value(words, field, random)?)));
+    let figures: Vec<(Field, u64)> = figures.collect();
+    for (field, value) in figures {
+        desk.put_field(field, value);
     }
     for word in spare {
         let any = random.number();

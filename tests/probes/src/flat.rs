@@ -32,19 +32,24 @@ pub fn roster(desk: &Desk) -> Vec<u8> {
     bytes(&words)
 }
 
-/// The four figures of a line: TCI, TVI, LCI, LVI.
+/// Two figures in a word, the first one in its lower half.
+fn halves(lower: i64, upper: i64) -> i64 {
+    lower | upper << 32
+}
+
+/// The two words of a line: TCI and TVI, LCI and LVI.
 pub fn line(line: &Line) -> Vec<u8> {
-    bytes(&[line.tci, line.tvi, line.lci, line.lvi])
+    bytes(&[halves(line.tci, line.tvi), halves(line.lci, line.lvi)])
 }
 
-/// The two figures of a group line: LCC, LVC.
+/// The word of a group line: LCC and LVC.
 pub fn group_line(line: &GroupLine) -> Vec<u8> {
-    bytes(&[line.lcc, line.lvc])
+    bytes(&[halves(line.lcc, line.lvc)])
 }
 
-/// Lines of an account, numbered from 1, four words each; one that is not set holds junk.
+/// Lines of an account, numbered from 1, two words each; one that is not set holds junk.
 pub fn lines<'a>(lines: impl Iterator<Item = &'a Option<Line>>) -> Vec<u8> {
-    let unset = [u8::MAX; 32];
+    let unset = [u8::MAX; 16];
     let figures = lines.flat_map(|own| own.as_ref().map_or(unset.to_vec(), line));
     unset.into_iter().chain(figures).collect()
 }

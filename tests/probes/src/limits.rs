@@ -40,8 +40,8 @@ pub fn exist(own: u64, default: u64, group: u64) -> u64 {
     unsafe { probe_exist(own, default, group) }
 }
 
-/// Figure `k` of the line in force, of an account's own and default lines.
-pub fn figure_in_force(
+/// Word `k` of the line in force, of an account's own and default lines.
+pub fn word_in_force(
     own: &[u8],
     default: &[u8],
     set: u64,

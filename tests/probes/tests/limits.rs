@@ -94,8 +94,8 @@ fn compare_line(desk: &Desk, order: &Order, contract: u16, expected: Vec<u8>) {
     let own = flat::lines(desk.book.own_lines[order.account].iter());
     let default = flat::lines(desk.book.default_lines[order.account].iter());
     let set = desk.book.own_lines[order.account][order.instrument].is_some();
-    for k in 0..4 {
-        let figure = limits::figure_in_force(
+    for k in 0..2 {
+        let word = limits::word_in_force(
             &own,
             &default,
             u64::from(set),
@@ -103,7 +103,7 @@ fn compare_line(desk: &Desk, order: &Order, contract: u16, expected: Vec<u8>) {
             contract.into(),
             k,
         );
-        assert_eq!(figure.to_le_bytes(), expected[k * 8..k * 8 + 8]);
+        assert_eq!(word.to_le_bytes(), expected[k * 8..k * 8 + 8]);
     }
 }
 
@@ -127,8 +127,7 @@ fn a_line_of_zeros_is_set() {
     assert_eq!(limits::exist(1, 0, 1), 0);
     assert_eq!(limits::exist(0, 0, 1), 17);
     assert_eq!(limits::exist(0, 1, 0), 17);
-    assert_eq!(limits::size(&[0; 32], 1, 1), 19);
-    assert_eq!(limits::size(&[0; 32], 2, 1), 20);
-    assert_eq!(limits::size(&[0; 31], 2, 1), 20);
+    assert_eq!(limits::size(&[0; 16], 1, 1), 19);
+    assert_eq!(limits::size(&[0; 16], 2, 1), 20);
     assert_eq!(limits::size(&[0; 15], 2, 1), limits::UNFIT);
 }

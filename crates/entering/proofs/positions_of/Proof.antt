@@ -3,7 +3,7 @@ use native.Mathlib.Omega.{arith}
 use borrow.Author.Needs.{needs}
 use Rattle.entering.specs.Places.{groupBytes}
 use Rattle.entering.proofs.OnDesk.{part-long, group-is}
-use Rattle.entering.proofs.LineBytes.{line-bounds, group-bounds}
+use Rattle.entering.proofs.LineBytes.{line-long, group-long}
 use Rattle.entering.proofs.Answered.{event-bounds, by-words}
 use Rattle.entering.proofs.positions_of.Statement.{statement}
 use Rattle.entering.proofs.positions_of.Tie as tie
@@ -25,7 +25,7 @@ positions-within-requires c κs =
     let p2 = c .before .before .before in
     let own = p2 .before .before in
     let s = own .before .before .before .before in
-    (rw (own .cells-of .ensures, p2 .before .part .ensures, p2 .part2 .ensures) (event-bounds _ _ _ _ (s .pre .0) (s .pre .1)), rw (s .pre .3) (line-bounds _ _ (s .pre .0 .on)), rw (bytes c) (group-bounds _ _ (s .pre .0 .on)))
+    (rw (own .cells-of .ensures, p2 .before .part .ensures, p2 .part2 .ensures) (event-bounds _ _ _ _ (s .pre .0) (s .pre .1)), rw (s .pre .3) (line-long _ _ (s .pre .0 .on)), rw (bytes c) (group-long _ _ (s .pre .0 .on)))
 
 returns : tie.Need-returns
 returns c after raised =
@@ -49,7 +49,6 @@ positions-of-spec =
     (λ c. search needs)
     (λ c κs. search needs)
     (λ c κs. search needs)
-    (λ c. search needs)
     part-requires-4
     positions-within-requires
     (λ c κs. search needs)

@@ -7,7 +7,7 @@ use Rattle.limits.specs.Questions.{firstNo}
 use Rattle.limits.specs.Numbers.{sizeNumber, sizeQuestions}
 use Rattle.book.specs.Answers.{numberOf}
 use Rattle.layout.specs.View.{rosterOf, linesOf}
-use Rattle.entering.proofs.LineBytes.{line-bounds, line-in-force}
+use Rattle.entering.proofs.LineBytes.{line-long, line-in-force}
 use Rattle.entering.proofs.Answered.{size-fits, size-refuses}
 use Rattle.entering.proofs.within_limits.Statement.{statement}
 use Rattle.entering.proofs.within_limits.Tie as tie
@@ -15,7 +15,7 @@ use Rattle.entering.proofs.within_limits.Tie as tie
 order-size-requires : tie.Need-order-size-requires
 order-size-requires c κs =
     let s = c .before .before .before .before in
-    omega (arith, ap length (c .line-of .ensures), line-bounds _ _ (s .pre .0 .on) .long)
+    omega (arith, ap length (c .line-of .ensures), line-long _ _ (s .pre .0 .on))
 
 size : (c : tie.After-order-size) → let a = c .before .before .before .before .before .args in sizeNumber (c .order-size .result) ≡ firstNo (sizeQuestions one (rosterOf (a .m .now)) (linesOf (a .m .now) (a .o .account)) (a .o))
 size c =

@@ -5,7 +5,6 @@ use borrow.Author.Tests.{not-false}
 use Rattle.positions.specs.Bounds.{GroupBounds}
 use Rattle.positions.proofs.Gathering.{empty-at}
 use Rattle.positions.proofs.Weighing.{cells-small}
-use Rattle.limits_probe.proofs.Checks.{line-bounds, group-line-bounds}
 use Rattle.limits_probe.proofs.probe_positions.Statement.{statement}
 use Rattle.limits_probe.proofs.probe_positions.Tie as tie
 
@@ -18,7 +17,7 @@ input c = c .before .group-input-fits .ensures (not-false _ (c .if1 .left)) _
 
 gather-requires : tie.Need-gather-requires
 gather-requires c κs =
-    let all = c .before .before .before .before .before .before .before .before .before in
+    let all = c .before .before .before .before .before .before .before in
     (input all .orders-small, refl, empty-at 65)
 
 slice-aggregate-positions-within : tie.Need-slice-aggregate-positions-within
@@ -26,9 +25,7 @@ slice-aggregate-positions-within c = sym (c .before .gather .ensures .size)
 
 positions-within-requires : tie.Need-positions-within-requires
 positions-within-requires c κs =
-    let group = c .before .before .before .before .before in
-    let line = group .before .before in
-    let roster = line .before .before in
+    let roster = c .before .before .before .before .before .before .before in
     let all = roster .before .before in
     let gathered = c .before .gather .ensures in
     let fits = input all in (
@@ -37,8 +34,8 @@ positions-within-requires c κs =
         instrument = roster .before .on-roster .ensures (not-false _ (roster .if2 .left));
         small = omega arith;
       },
-      line-bounds _ (line .before .words-fit .ensures (not-false _ (line .if3 .left))),
-      group-line-bounds _ (group .before .words-fit2 .ensures (not-false _ (group .if4 .left))),
+      omega arith,
+      omega arith,
     )
 
 returns-6 : tie.Need-returns-6
@@ -55,9 +52,7 @@ probe-positions-spec =
     (λ c. search needs)
     on-roster-requires
     (λ c. search needs)
-    (λ c κs. search needs)
     (λ c. search needs)
-    (λ c κs. search needs)
     (λ c. search needs)
     (λ c. search needs)
     (λ c κs. search needs)

@@ -1,4 +1,6 @@
-//! Which word each field of a desk is.
+//! Which bytes each field of a desk is.
+
+use std::ops::Range;
 
 use days::plain::{Block, Line};
 use reference::roster::Sizes;
@@ -30,8 +32,8 @@ pub enum Part {
 /// The parts of a record, in the order of its words.
 pub const PARTS: [Part; RECORD] = [Part::Id, Part::Packed, Part::Total, Part::Filled];
 
-/// A word that has a meaning. Accounts, groups, contracts and instruments are numbered from 1;
-/// records and the figures of a line are counted from 0.
+/// A word that has a meaning, or of a line's words half of one. Accounts, groups, contracts and
+/// instruments are numbered from 1; records and the figures of a line are counted from 0.
 #[derive(Clone, Copy, PartialEq, Eq, Debug)]
 pub enum Field {
     /// The kind of desk.
@@ -62,7 +64,16 @@ pub enum Field {
 }
 
 impl Field {
-    /// The place of the field among the words.
+    /// The bytes of the field: four of a figure, else a word's.
+    pub fn bytes(self) -> Range<usize> {
+        let (first, size) = match self {
+            Field::Figure(line, place) => (8 * line_word(line) + 4 * place, 4),
+            _ => (8 * self.word(), 8),
+        };
+        first..first + size
+    }
+
+    /// The place among the words of the word that the field is, or is half of.
     pub fn word(self) -> usize {
         match self {
             Field::Kind => 0,
@@ -81,7 +92,7 @@ impl Field {
                 instrument,
             } => 256 + row(account, INSTRUMENTS, instrument),
             Field::Set(line) => set_word(line),
-            Field::Figure(line, place) => figure_word(line) + place,
+            Field::Figure(line, place) => line_word(line) + place / 2,
             Field::Order(record, part) => 4_224 + record * RECORD + part as usize,
         }
     }
@@ -116,16 +127,18 @@ fn set_word(line: Line) -> usize {
     }
 }
 
-/// The word of a line's first figure.
-fn figure_word(line: Line) -> usize {
-    match line {
+/// The first word of a line. An account's lines are a row of words: two for each instrument, two
+/// for each contract, one for each group.
+fn line_word(line: Line) -> usize {
+    let (account, place) = match line {
         Line::Own {
             account,
             instrument,
-        } => 1_536 + 4 * row(account, INSTRUMENTS, instrument),
-        Line::Default { account, contract } => 3_584 + 4 * row(account, CONTRACTS, contract),
-        Line::Group { account, group } => 4_096 + 2 * row(account, GROUPS, group),
-    }
+        } => (account, 2 * numbered(0, instrument)),
+        Line::Default { account, contract } => (account, 64 + 2 * numbered(0, contract)),
+        Line::Group { account, group } => (account, 80 + numbered(0, group)),
+    };
+    1_536 + 84 * numbered(0, account) + place
 }
 
 /// How many figures a line has.

@@ -59,14 +59,14 @@ impl Sample {
 
     pub fn set(&mut self, field: Field, value: u64) {
         let before = self.desk.words().get(field);
-        self.desk.put_word(field.word(), value);
+        self.desk.put_field(field, value);
         self.set.push((field, value, before));
     }
 
     /// Sets every field back.
     pub fn restore(&mut self) {
         while let Some((field, _, before)) = self.set.pop() {
-            self.desk.put_word(field.word(), before);
+            self.desk.put_field(field, before);
         }
     }
 

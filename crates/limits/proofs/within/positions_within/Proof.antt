@@ -61,8 +61,9 @@ returns-2 c ls before after gathered in-force of-group raised =
 
 times-requires : tie.Need-times-requires
 times-requires c κs =
-    let s = c .before .before .before .before .before .before .before .before .before .before .before .before .before in
-    (omega (arith, ap natAbs (c .largest-of-group .ensures), group-figure-small (s .args .group .now) (c .before .group-side .result) (s .pre .2)), omega arith)
+    let known = c .before .before .before .before .before .before .before .before in
+    let s = known .before .before .before .before .before in
+    (omega (arith, ap natAbs (c .largest-of-group .ensures), group-figure-small (s .args .group .now) (λ i. known .shared-slice-known5 .given i .fits) (c .before .group-side .result)), omega arith)
 
 group-with-requires : tie.Need-group-with-requires
 group-with-requires c κs =

@@ -1,12 +1,12 @@
-use Prim.Native.Nat.{ℕ, _+_, _-_, _≤_, _<_}
+use Prim.Native.Nat.{ℕ, _+_, _*_, _-_, _≤_, _<_}
 use native.Mathlib.Omega.{arith}
-use Rattle.words.specs.Words.{wordAt}
+use Rattle.words.specs.Fields.{u32At}
 use Rattle.soundness.proofs.Joining.{joined-more}
 use Rattle.soundness.proofs.bits.joined.Statement.{statement}
 use Rattle.soundness.proofs.bits.joined.Tie as tie
 
 abbrev Inv-loop : tie.InvT-loop
-Inv-loop m k n all₀ j₀ all j = (j ≤ n) × ((p : ℕ) → k ≤ p → p < k + j → wordAt m p ≤ all)
+Inv-loop m k n all₀ j₀ all j = (j ≤ n) × ((p : ℕ) → k ≤ p → p < k + j → u32At m (p * 4) ≤ all)
 
 abbrev μ-loop : tie.MeasureT-loop
 μ-loop m k n all₀ j₀ all j = n - j
@@ -15,7 +15,7 @@ loop-again : tie.Need-loop-again Inv-loop μ-loop
 loop-again c =
     let at = c .before .before in
     let s = at .before .before .args in
-    (omega arith, joined-more (wordAt (s .m .now)) (s .k) (at .loop .j) (at .loop .all) _ (at .loop .inv .1) (omega (arith, c .word .ensures)))
+    (omega arith, joined-more (λ p. u32At (s .m .now) (p * 4)) (s .k) (at .loop .j) (at .loop .all) _ (at .loop .inv .1) (omega (arith, c .u32-at .ensures)))
 
 pub joined-spec : {M : Type 1} → statement M
 joined-spec =
@@ -24,6 +24,7 @@ joined-spec =
     Inv-loop
     μ-loop
     (λ c. (omega arith, λ p h l. absurd (omega arith)))
+    (λ c. omega arith)
     (λ c. omega arith)
     (λ c κs. omega arith)
     (λ c. omega arith)

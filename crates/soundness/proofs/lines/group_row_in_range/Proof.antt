@@ -3,14 +3,14 @@ use mathlib.Core.Path.{_≡_}
 use mathlib.Core.Bool.{true}
 use native.Mathlib.Omega.{arith}
 use Rattle.layout.specs.Rosters.{every}
-use Rattle.layout.specs.View.{groupLineAt}
+use Rattle.limits.specs.InBytes.{groupLineAt}
 use Rattle.soundness.specs.Soundness.{groupLineInRange}
 use Rattle.soundness.proofs.Every.{every-none, every-no, every-on, every-all}
 use Rattle.soundness.proofs.lines.group_row_in_range.Statement.{statement}
 use Rattle.soundness.proofs.lines.group_row_in_range.Tie as tie
 
 abbrev Inv-loop : tie.InvT-loop
-Inv-loop m row n j₀ j = (j ≤ n) × (every j (λ i. groupLineInRange (groupLineAt m (row + i * 2))) ≡ true)
+Inv-loop m row n j₀ j = (j ≤ n) × (every j (λ i. groupLineInRange (groupLineAt m (row + i))) ≡ true)
 
 abbrev μ-loop : tie.MeasureT-loop
 μ-loop m row n j₀ j = n - j
@@ -18,12 +18,12 @@ abbrev μ-loop : tie.MeasureT-loop
 returns : tie.Need-returns Inv-loop μ-loop
 returns c =
     let at = c .before .before .before in
-    every-no _ _ (at .loop .j) _ (omega arith) (c .before .group-line-in-range .ensures) (c .if1 .taken)
+    every-no _ _ (at .loop .j) _ (omega arith) (c .before .word-in-range .ensures) (c .if1 .taken)
 
 loop-again : tie.Need-loop-again Inv-loop μ-loop
 loop-again c =
     let at = c .before .before .before in
-    (omega arith, every-on _ (at .loop .j) _ (at .loop .inv .1) (c .before .group-line-in-range .ensures) (c .if1 .left))
+    (omega arith, every-on _ (at .loop .j) _ (at .loop .inv .1) (c .before .word-in-range .ensures) (c .if1 .left))
 
 returns-2 : tie.Need-returns-2 Inv-loop μ-loop
 returns-2 c = every-all _ _ (c .before .loop .j) (omega arith) (omega arith) (c .before .loop .inv .1)
@@ -35,7 +35,6 @@ group-row-in-range-spec =
     Inv-loop
     μ-loop
     (λ c. (omega arith, every-none _))
-    (λ c. omega arith)
     (λ c. omega arith)
     (λ c. omega arith)
     (λ c κs. omega arith)

@@ -3,14 +3,14 @@ use mathlib.Core.Path.{_≡_}
 use mathlib.Core.Bool.{true}
 use native.Mathlib.Omega.{arith}
 use Rattle.layout.specs.Rosters.{every}
-use Rattle.layout.specs.View.{lineAt}
+use Rattle.limits.specs.InBytes.{lineAt}
 use Rattle.soundness.specs.Soundness.{lineInRange}
 use Rattle.soundness.proofs.Every.{every-none, every-no, every-on, every-all}
 use Rattle.soundness.proofs.lines.row_in_range.Statement.{statement}
 use Rattle.soundness.proofs.lines.row_in_range.Tie as tie
 
 abbrev Inv-loop : tie.InvT-loop
-Inv-loop m row n j₀ j = (j ≤ n) × (every j (λ i. lineInRange (lineAt m (row + i * 4))) ≡ true)
+Inv-loop m row n j₀ j = (j ≤ n) × (every j (λ i. lineInRange (lineAt m (row + i * 2))) ≡ true)
 
 abbrev μ-loop : tie.MeasureT-loop
 μ-loop m row n j₀ j = n - j

@@ -1,29 +1,28 @@
 use mir.Syntax.{w64}
 use mir.ValLaws.{toZ-ofZ}
-use Rattle.working.proofs.Rooms.{cast-fits}
-use Rattle.working.proofs.LineFigures.{positive, line-set}
+use Rattle.working.proofs.LineFigures.{limit-cast, all-limits, line-set}
 use Rattle.working.proofs.settings.limits_of.Statement.{statement}
 use Rattle.working.proofs.settings.limits_of.Tie as tie
 
 cast-t2 : tie.Need-cast-t2
 cast-t2 c =
-    let pre = c .before .before .pre in
-    cast-fits _ (record { sfits = c .struct-told .given .0 .1 }) (positive _ (pre .0) (pre .1) .tci)
+    let start = c .before .before in
+    limit-cast (start .args .figures .tci) (record { sfits = c .struct-told .given .0 .1 }) (all-limits _ (start .pre .0) (start .pre .1) .tci)
 
 cast-t3 : tie.Need-cast-t3
 cast-t3 c =
-    let pre = c .before .before .before .before .pre in
-    cast-fits _ (record { sfits = c .struct-told2 .given .1 .0 .1 }) (positive _ (pre .0) (pre .1) .tvi)
+    let start = c .before .before .before .before in
+    limit-cast (start .args .figures .tvi) (record { sfits = c .struct-told2 .given .1 .0 .1 }) (all-limits _ (start .pre .0) (start .pre .1) .tvi)
 
 cast-t4 : tie.Need-cast-t4
 cast-t4 c =
-    let pre = c .before .before .before .before .before .before .pre in
-    cast-fits _ (record { sfits = c .struct-told3 .given .1 .1 .0 .1 }) (positive _ (pre .0) (pre .1) .lci)
+    let start = c .before .before .before .before .before .before in
+    limit-cast (start .args .figures .lci) (record { sfits = c .struct-told3 .given .1 .1 .0 .1 }) (all-limits _ (start .pre .0) (start .pre .1) .lci)
 
 cast-t5 : tie.Need-cast-t5
 cast-t5 c =
-    let pre = c .before .before .before .before .before .before .before .before .pre in
-    cast-fits _ (record { sfits = c .struct-told4 .given .1 .1 .1 .0 .1 }) (positive _ (pre .0) (pre .1) .lvi)
+    let start = c .before .before .before .before .before .before .before .before in
+    limit-cast (start .args .figures .lvi) (record { sfits = c .struct-told4 .given .1 .1 .1 .0 .1 }) (all-limits _ (start .pre .0) (start .pre .1) .lvi)
 
 returns : tie.Need-returns
 returns c =
