@@ -1,24 +1,24 @@
 // The day program: one roster and then events from standard input; the answers, and the positions at the end, to standard output.
+mod answers;
 mod input;
 mod output;
 mod reports;
 
 ghost use Prim.Native.Nat.{_<_, _≤_};
 ghost use lib.ListN.{length};
+use crate::answers::BLOCK_EVENTS;
+use crate::answers::answer_lines;
 use crate::input::fill;
 use crate::output::FAILED;
 use crate::output::flush;
 use crate::output::put_all;
-use crate::output::put_head;
 use crate::output::put_number;
 use crate::reports::position_lines;
 use desk::desk_open;
 use desk::run::desk_run;
 use words::fields::u16_at;
 
-// A block holds whole events, so that its end cuts none.
-const BLOCK_EVENTS: usize = 1024;
-
+// A block holds whole events, of 48 bytes, so that its end cuts none.
 const BLOCK_BYTES: usize = 49152;
 
 // More events than any input has: a proved loop has to end.
@@ -57,32 +57,6 @@ fn read_roster(roster: &mut [u8]) -> usize
         return got;
     }
     fill(roster, 8, roster_length(roster))
-}
-
-// `E` place answer
-fn answer_line(buf: &mut [u8], used: usize, place: u64, answer: u8) -> usize {
-    let at = put_head(buf, used, b'E', place, answer as u64);
-    put_all(buf, at, b"\n")
-}
-
-// The lines of the first `count` answers, `before` events having come before theirs.
-fn answer_lines(
-    buf: &mut [u8],
-    used: usize,
-    answers: &[u8; BLOCK_EVENTS],
-    count: usize,
-    before: u64,
-) -> usize
-    requires { ⌜ before < 9223372036854775808 ⌝ }
-{
-    let mut at = used;
-    for k in 0..BLOCK_EVENTS {
-        if count <= k {
-            return at;
-        }
-        at = answer_line(buf, at, before + k as u64 + 1, answers[k]);
-    }
-    at
 }
 
 // Works the events in the first `got` bytes of a block, and prints the answers. Where `got` is FAILED, writes what waits.

@@ -3,6 +3,7 @@
 use days::kinds::kinds;
 use days::random::Random;
 use program::{expected, input, program, run, run_in_pieces};
+use std::collections::BTreeSet;
 use std::fs::File;
 use std::process::{Command, Stdio};
 
@@ -93,6 +94,28 @@ fn more_events_than_a_block_agree() {
     }
     bytes.extend_from_slice(&LISTING[19..19 + 47]);
     agrees("5,000 events and a short one", &bytes);
+}
+
+#[test]
+fn places_of_one_to_six_digits_agree() {
+    let mut bytes = LISTING.to_vec();
+    for _ in 0..12_505 {
+        bytes.extend_from_slice(&LISTING[19..]);
+    }
+    agrees("the listing's events over and over", &bytes);
+
+    let output = String::from_utf8(run(&bytes).output).expect("text");
+    let widths: BTreeSet<(usize, usize)> = output
+        .lines()
+        .filter_map(|line| line.strip_prefix("E ")?.split_once(' '))
+        .map(|(place, answer)| (place.len(), answer.len()))
+        .collect();
+    for digits in 1..=6 {
+        assert!(
+            widths.contains(&(digits, 1)) && widths.contains(&(digits, 2)),
+            "a place of {digits} digits with answers of one and of two"
+        );
+    }
 }
 
 #[test]

@@ -2,17 +2,17 @@ use Prim.Native.Nat.{_-_}
 use mathlib.Core.Path.{_≡_}
 use lib.ListN.{length}
 use borrow.Author.Needs.{needs}
-use Rattle.day.proofs.answer_lines.Statement.{statement}
-use Rattle.day.proofs.answer_lines.Tie as tie
+use Rattle.day.proofs.answers.put_tens.Statement.{statement}
+use Rattle.day.proofs.answers.put_tens.Tie as tie
 
 abbrev Inv-loop : tie.InvT-loop
-Inv-loop buf₀ used answers count before at₀ k₀ buf at k = length buf ≡ length buf₀
+Inv-loop buf₀ at tens k₀ buf k = length buf ≡ length buf₀
 
 abbrev μ-loop : tie.MeasureT-loop
-μ-loop buf₀ used answers count before at₀ k₀ buf at k = 1024 - k
+μ-loop buf₀ at tens k₀ buf k = 20 - k
 
-pub answer-lines-spec : {M : Type 1} → statement M
-answer-lines-spec =
+pub put-tens-spec : {M : Type 1} → statement M
+put-tens-spec =
     tie.close
     (tie.spec
     Inv-loop
@@ -21,9 +21,6 @@ answer-lines-spec =
     (λ c. search needs)
     (λ c. search needs)
     (λ c. search needs)
-    (λ c. search needs)
-    (λ c. search needs)
-    (λ c κs. search needs)
     (λ c. search needs)
     (λ c. search needs)
     (λ c. search needs)

@@ -1,0 +1,45 @@
+use Prim.Native.Nat.{_-_, _≤_}
+use mathlib.Core.Logic.{⊎-elim}
+use mathlib.Core.Path.{_≡_}
+use native.Mathlib.Omega.{arith}
+use lib.ListN.{length}
+use borrow.Author.Needs.{needs}
+use Rattle.day.proofs.answers.answer_lines.Statement.{statement}
+use Rattle.day.proofs.answers.answer_lines.Tie as tie
+
+abbrev Inv-loop : tie.InvT-loop
+Inv-loop buf₀ used answers count before tens₀ digits₀ at₀ k₀ buf tens digits at k = (length buf ≡ length buf₀) × (digits ≤ 19)
+
+abbrev μ-loop : tie.MeasureT-loop
+μ-loop buf₀ used answers count before tens₀ digits₀ at₀ k₀ buf tens digits at k = 1024 - k
+
+-- The tens have at most 19 digits, made anew or not.
+few : (c : tie.Joined2 Inv-loop μ-loop) → c .if2 .digits ≤ 19
+few c = ⊎-elim (λ anew. omega arith) (λ kept. omega arith) (c .if2 .came)
+
+answer-line-requires : tie.Need-answer-line-requires Inv-loop μ-loop
+answer-line-requires c κs = few (c .before .before .before)
+
+loop-again : tie.Need-loop-again Inv-loop μ-loop
+loop-again c = (search needs, few (c .before .before .before .before .before .before))
+
+pub answer-lines-spec : {M : Type 1} → statement M
+answer-lines-spec =
+    tie.close
+    (tie.spec
+    Inv-loop
+    μ-loop
+    (λ c κs. search needs)
+    (λ c. search needs)
+    (λ c. search needs)
+    (λ c. search needs)
+    (λ c. search needs)
+    (λ c. search needs)
+    (λ c κs. search needs)
+    (λ c. search needs)
+    answer-line-requires
+    (λ c. search needs)
+    (λ c. search needs)
+    loop-again
+    (λ c. search needs)
+    (λ c. search needs))
