@@ -3,16 +3,16 @@
 //!
 //! Written from the table in `crates/layout/specs/Layout.antt`. It shares no code with the gate.
 
+mod detail;
 mod field;
-mod packed;
 mod sound;
 
 use days::plain::{Block, Line};
 use reference::roster::Sizes;
 use reference::{Book, Desk, GroupLine, Order, Roster, MEMORY};
 
+pub use detail::Detail;
 pub use field::{Field, Part, PARTS, WORDS};
-pub use packed::Packed;
 pub use sound::Clause;
 
 use field::{blocks, fields, figures_of, lines, places, RECORDS};
@@ -94,7 +94,7 @@ impl<'a> Words<'a> {
 
     /// The desk that the words say, sound or not. None where the second implementation's data has
     /// no room for it: another kind of desk, sizes or a count past their limits, numbers of
-    /// groups, contracts or accounts past 16 bits.
+    /// groups or contracts past 16 bits.
     pub fn desk(&self) -> Option<Desk> {
         if self.get(Field::Kind) != 1 {
             return None;
@@ -114,7 +114,7 @@ impl<'a> Words<'a> {
             self.read_line(line, &mut desk.book);
         }
         let orders = (0..self.count()?).map(|record| self.order(record));
-        desk.book.orders = orders.collect::<Option<_>>()?;
+        desk.book.orders = orders.collect();
         Some(desk)
     }
 
@@ -164,21 +164,20 @@ impl<'a> Words<'a> {
         }
     }
 
-    /// Side, account and instrument of the order in a record.
-    pub fn packed(&self, record: usize) -> Packed {
-        Packed::of(self.get(Field::Order(record, Part::Packed)))
+    /// All but the id of the order in a record.
+    pub fn detail(&self, record: usize) -> Detail {
+        Detail::of(self.get(Field::Order(record, Part::Detail)))
     }
 
-    fn order(&self, record: usize) -> Option<Order> {
-        let part = |part| self.get(Field::Order(record, part));
-        let packed = self.packed(record);
-        Some(Order {
-            id: part(Part::Id),
-            account: u16::try_from(packed.account).ok()?,
-            instrument: u16::try_from(packed.instrument).ok()?,
-            side: packed.side,
-            total: part(Part::Total),
-            filled: part(Part::Filled),
-        })
+    fn order(&self, record: usize) -> Order {
+        let detail = self.detail(record);
+        Order {
+            id: self.get(Field::Order(record, Part::Id)),
+            account: detail.account,
+            instrument: detail.instrument,
+            side: detail.side,
+            total: detail.total(),
+            filled: detail.filled,
+        }
     }
 }

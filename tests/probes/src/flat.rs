@@ -71,23 +71,18 @@ pub fn balances(desk: &Desk, account: u16) -> Vec<u8> {
     bytes(&words)
 }
 
-/// Side, account and instrument in one number: 64 for each account before this one, 32 for a sell, 1
-/// for each instrument before this one.
-fn packed(order: &Order) -> i64 {
-    let sell = i64::from(order.side == Side::Sell);
-    let before = |number: u16| i64::from(number) - 1;
-    64 * before(order.account) + 32 * sell + before(order.instrument)
+/// All of an order but its id in one number: 1 for each instrument before its own, 32 for a sell, 64
+/// for each account before its own, 1,024 for each contract filled, 2³⁷ for each that remains.
+fn detail(order: &Order) -> u64 {
+    let sell = u64::from(order.side == Side::Sell);
+    let before = |number: u16| u64::from(number) - 1;
+    let packed = before(order.instrument) + 32 * sell + 64 * before(order.account);
+    let remaining = order.total - order.filled;
+    packed + 1_024 * order.filled + (1 << 37) * remaining
 }
 
-/// The records of the open orders, four words each.
+/// The records of the open orders, two words each.
 pub fn orders(orders: &[Order]) -> Vec<u8> {
-    let record = |order: &Order| {
-        bytes(&[
-            order.id as i64,
-            packed(order),
-            order.total as i64,
-            order.filled as i64,
-        ])
-    };
+    let record = |order: &Order| bytes(&[order.id as i64, detail(order) as i64]);
     orders.iter().flat_map(record).collect()
 }

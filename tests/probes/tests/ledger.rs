@@ -144,11 +144,11 @@ fn input_that_does_not_fit_is_told() {
         Err(ledger::UNFIT)
     );
     assert_eq!(
-        ledger::instrument(&[0; 31], 1, &balances, 1, 1),
+        ledger::instrument(&[0; 15], 1, &balances, 1, 1),
         Err(ledger::UNFIT)
     );
     assert_eq!(
-        ledger::instrument(&[0; 32], 1, &balances, 1, 1),
+        ledger::instrument(&[0; 16], 1, &balances, 1, 1),
         Ok([0, 0, 0])
     );
     assert_eq!(

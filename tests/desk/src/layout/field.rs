@@ -12,7 +12,7 @@ pub const WORDS: usize = 8_192;
 pub const RECORDS: usize = 256;
 
 /// How many words a record has.
-const RECORD: usize = 4;
+const RECORD: usize = 2;
 
 /// The widths of the tables by account and contract, instrument or group.
 const INSTRUMENTS: usize = 32;
@@ -23,14 +23,12 @@ const GROUPS: usize = 4;
 #[derive(Clone, Copy, PartialEq, Eq, Debug)]
 pub enum Part {
     Id,
-    /// Side, account and instrument.
-    Packed,
-    Total,
-    Filled,
+    /// All but the id.
+    Detail,
 }
 
 /// The parts of a record, in the order of its words.
-pub const PARTS: [Part; RECORD] = [Part::Id, Part::Packed, Part::Total, Part::Filled];
+pub const PARTS: [Part; RECORD] = [Part::Id, Part::Detail];
 
 /// A word that has a meaning, or of a line's words half of one. Accounts, groups, contracts and
 /// instruments are numbered from 1; records and the figures of a line are counted from 0.

@@ -7,7 +7,7 @@ use days::plain::Line;
 use reference::roster::Sizes;
 use reference::Side;
 
-use super::{figures_of, lines, places, Field, Packed, Part, Words};
+use super::{figures_of, lines, places, Field, Part, Words};
 
 const LARGEST_WEIGHT: u64 = 1_000_000;
 const LARGEST_LIMIT: u64 = 1_000_000_000;
@@ -149,46 +149,34 @@ impl Words<'_> {
     }
 
     fn ask_order(&self, sizes: Sizes, record: usize, asked: &mut Asked) {
-        let part = |part| self.get(Field::Order(record, part));
-        let (total, filled) = (part(Part::Total), part(Part::Filled));
-        let Packed {
-            account,
-            instrument,
-            ..
-        } = self.packed(record);
-        let on_roster = is_number(account, sizes.accounts);
-        let marked = !on_roster || self.is(Field::Mark(account as u16));
+        let order = self.detail(record);
+        let on_roster = order.account <= sizes.accounts;
+        let marked = !on_roster || self.is(Field::Mark(order.account));
+        let total_in_range = (1..=LARGEST_TOTAL).contains(&order.total());
         asked.ask(Clause::OrderAccount, on_roster);
         asked.ask(Clause::Trading, marked);
         asked.ask(
             Clause::OrderInstrument,
-            is_number(instrument, sizes.instruments),
+            order.instrument <= sizes.instruments,
         );
-        asked.ask(Clause::OrderTotal, (1..=LARGEST_TOTAL).contains(&total));
-        asked.ask(Clause::Remaining, filled < total);
+        asked.ask(Clause::OrderTotal, total_in_range);
+        asked.ask(Clause::Remaining, order.remaining >= 1);
     }
 
-    /// S + B and −S + V of every account and instrument. An order off the roster is in no sum;
-    /// nothing remains of one that is filled past its total.
+    /// S + B and −S + V of every account and instrument. An order off the roster is in no sum.
     fn ask_positions(&self, sizes: Sizes, count: usize, asked: &mut Asked) {
         let balance = |(account, instrument)| i128::from(self.balance(account, instrument));
         let mut long: Vec<i128> = places(sizes).map(balance).collect();
         let mut short: Vec<i128> = long.iter().map(|balance| -balance).collect();
         for record in 0..count {
-            let part = |part| self.get(Field::Order(record, part));
-            let Packed {
-                side,
-                account,
-                instrument,
-            } = self.packed(record);
-            let sums = match side {
+            let order = self.detail(record);
+            let sums = match order.side {
                 Side::Buy => &mut long,
                 Side::Sell => &mut short,
             };
-            if is_number(account, sizes.accounts) && is_number(instrument, sizes.instruments) {
-                let place = (account - 1) * u64::from(sizes.instruments) + instrument - 1;
-                let remaining = part(Part::Total).saturating_sub(part(Part::Filled));
-                sums[place as usize] += i128::from(remaining);
+            if order.account <= sizes.accounts && order.instrument <= sizes.instruments {
+                let place = (order.account - 1) * sizes.instruments + order.instrument - 1;
+                sums[usize::from(place)] += i128::from(order.remaining);
             }
         }
         let in_range = |sums: Vec<i128>| sums.into_iter().all(|sum| sum <= LARGEST_POSITION);

@@ -1,7 +1,7 @@
 //! What each field of a sound desk is set to, and which clauses it is under.
 
 use days::random::Random;
-use desk::layout::{Clause, Field, Packed, Part, Words};
+use desk::layout::{Clause, Detail, Field, Part, Words};
 use reference::{positions, Side};
 
 const LARGEST: i64 = 1_000_000_000;
@@ -24,9 +24,12 @@ pub fn clauses(words: Words, field: Field) -> Vec<Clause> {
         Field::Balance { .. } => vec![Clause::Long, Clause::Short],
         Field::Figure(line, _) => vec![words.line_clause(line)],
         Field::Order(_, Part::Id) => vec![Clause::IdsNonZero, Clause::IdsDiffer, Clause::IdsAscend],
-        Field::Order(_, Part::Packed) => vec![Clause::OrderAccount, Clause::OrderInstrument],
-        Field::Order(_, Part::Total) => vec![Clause::OrderTotal, Clause::Remaining],
-        Field::Order(_, Part::Filled) => vec![Clause::Remaining],
+        Field::Order(_, Part::Detail) => vec![
+            Clause::OrderAccount,
+            Clause::OrderInstrument,
+            Clause::OrderTotal,
+            Clause::Remaining,
+        ],
     }
 }
 
@@ -87,30 +90,38 @@ fn order_bounds(words: Words, record: usize, part: Part) -> Vec<u64> {
             let neighbours = [record.saturating_sub(1), (record + 1).min(last)];
             neighbours.map(|record| other(record, Part::Id)).to_vec()
         }
-        Part::Packed => packed_bounds(words, words.packed(record)),
-        Part::Total => vec![LARGEST_TOTAL, other(record, Part::Filled)],
-        Part::Filled => vec![other(record, Part::Total)],
+        Part::Detail => detail_bounds(words, words.detail(record)),
     }
 }
 
-/// The other side, the last account and instrument and one past each, and accounts whose low bytes
-/// alone are the present one's.
-fn packed_bounds(words: Words, now: Packed) -> Vec<u64> {
+/// The other side, the last account and instrument and one past each, the largest total and one past
+/// it by what is filled and by what remains, and an order with nothing left of it.
+fn detail_bounds(words: Words, now: Detail) -> Vec<u64> {
     let side = match now.side {
         Side::Buy => Side::Sell,
         Side::Sell => Side::Buy,
     };
-    let account = |account| Packed { account, ..now };
-    let instrument = |instrument| Packed { instrument, ..now };
-    let accounts = words.get(Field::Accounts);
-    let instruments = words.get(Field::Instruments);
-    let mut bounds = vec![
-        Packed { side, ..now },
+    let account = |account| Detail { account, ..now };
+    let instrument = |instrument| Detail { instrument, ..now };
+    let filled = |filled| Detail { filled, ..now };
+    let remaining = |remaining| Detail { remaining, ..now };
+    let accounts = words.get(Field::Accounts) as u16;
+    let instruments = words.get(Field::Instruments) as u16;
+    let bounds = [
+        Detail { side, ..now },
         account(accounts),
         account(accounts.wrapping_add(1)),
         instrument(instruments),
         instrument(instruments.wrapping_add(1)),
+        filled(LARGEST_TOTAL.saturating_sub(now.remaining)),
+        filled((LARGEST_TOTAL + 1).saturating_sub(now.remaining)),
+        remaining(LARGEST_TOTAL.saturating_sub(now.filled)),
+        remaining((LARGEST_TOTAL + 1).saturating_sub(now.filled)),
+        Detail {
+            filled: now.total(),
+            remaining: 0,
+            ..now
+        },
     ];
-    bounds.extend([8, 16, 32].map(|bits| account(now.account + (1 << bits))));
-    bounds.into_iter().map(Packed::word).collect()
+    bounds.map(Detail::word).to_vec()
 }

@@ -3,8 +3,9 @@
 use std::collections::BTreeSet;
 
 use days::random::Random;
-use desk::layout::{Clause, Field, PARTS};
+use desk::layout::{Clause, Detail, Field, PARTS};
 use desk::ProvedDesk;
+use reference::Side;
 use wire::RosterSpec;
 
 use crate::sample::Sample;
@@ -86,8 +87,15 @@ fn one_order_more_than_the_most() {
     ] {
         let mut sample = smallest();
         sample.set(Field::Mark(1), 1);
+        let detail = Detail {
+            side: Side::Buy,
+            account: 1,
+            instrument: 1,
+            filled: 0,
+            remaining: 1,
+        };
         for record in 0..257 {
-            let words = [record as u64 + 1, 0, 1, 0];
+            let words = [record as u64 + 1, detail.word()];
             for (part, value) in PARTS.into_iter().zip(words) {
                 sample.set(Field::Order(record, part), value);
             }
