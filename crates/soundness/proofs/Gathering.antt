@@ -132,9 +132,10 @@ module _ (s : List ℕ) (n : ℕ) (cells : List ℕ) where
     pub passed-all : n ≤ p → (ascend 0 (ordersFrom s 0 n) ≡ true) × Sums cells (ordersFrom s 0 n)
     unfolding ordersFrom ascend
     passed-all h =
-        let none : n - p ≡ 0 = omega arith in
-        (past .ids ∙ rw none,
-        record { size = past .size; sums = λ v a i k l. counted-all s n v a i (getD cells (cell v a i) 0) p h (past .sums v a i k l) })
+        let none : n - p ≡ 0 = omega arith in (
+          past .ids ∙ rw none,
+          record { size = past .size; sums = λ v a i k l. counted-all s n v a i (getD cells (cell v a i) 0) p h (past .sums v a i k l) },
+        )
 
     -- the next record: its id and its detail
     module _ (id w : ℕ) (h : p < n) (is-id : id ≡ wordAt s (p * 2)) (is-detail : w ≡ wordAt s (p * 2 + 1)) where

@@ -1,12 +1,13 @@
 -- A number that has the bits of others is at least each of them.
-use Prim.Native.Nat.{ℕ, _+_, _-_, _≤_, _<_}
+use Prim.Native.Nat.{ℕ, _+_, _^_, _≤_, _<_}
 use mathlib.Core.Path.{_≡_}
-use native.Mathlib.Decide.{ℕ-discrete}
+use native.Mathlib.Decide.{ℕ-discrete, decLe}
 use native.Mathlib.Omega.{arith}
 use lib.IntN.{pos, natAbs, _-ℤ_}
 use lib.Bits.{bitOr, or-add-and, and-le-l, and-le-r}
 use Rattle.integers.specs.Parts.{signed, difference-parts, magnitude-parts}
 use Rattle.integers.specs.TwosComplement.{signedOf, signed-small, signed-large}
+use Rattle.soundness.specs.Cells.{moved}
 
 pub or-left : (a b : ℕ) → a ≤ bitOr a b
 or-left a b = omega (arith, or-add-and a b, and-le-r a b)
@@ -22,13 +23,15 @@ joined-more f k j r x was here p h l = by (ℕ-discrete p (k + j))
     by (yes same) = rw same (omega (arith, here, or-right r x))
     by (no apart) = omega (arith, was p h (omega (arith, apart)), or-left r x)
 
--- ---- the size of the signed number of 64 bits, less 1 below 0
-module _ (n : ℕ) where
-  pub size-small : n < 9223372036854775808 → natAbs (signedOf 64 n) ≤ n + 1
-  size-small h = rw (signed-small 64 n h) (omega arith)
-
-  pub size-large : 9223372036854775808 ≤ n → n < 18446744073709551616 → natAbs (signedOf 64 n) ≤ 18446744073709551615 - n + 1
-  size-large h l =
-      let z = pos n -ℤ pos 18446744073709551616 in
-      rw (signed-large 64 n h)
-      (omega (signed, difference-parts (pos n) (pos 18446744073709551616), magnitude-parts z))
+-- ---- a signed number of 64 bits that is small when moved
+pub moved-small : (n : ℕ) → n < 2 ^ 64 → moved n < 1073741824 → natAbs (signedOf 64 n) ≤ 536870912
+moved-small n word h = by (decLe 9223372036854775808 n)
+  where
+    by : Dec (9223372036854775808 ≤ n) → natAbs (signedOf 64 n) ≤ 536870912
+    by (yes large) =
+        let z = pos n -ℤ pos 18446744073709551616 in
+        rw (signed-large 64 n large)
+        (omega (signed, difference-parts (pos n) (pos 18446744073709551616), magnitude-parts z))
+    by (no small) =
+        let low : n < 9223372036854775808 = omega (arith, small) in
+        rw (signed-small 64 n low) (omega arith)

@@ -72,8 +72,8 @@ short-same s v =
     (λ e. omega (signed, difference-parts (pos v) (pos 1000000000), sum-parts (negℤ s) (pos v), negation-parts s))
     (λ e. omega (signed, difference-parts (pos v) (pos 1000000000), sum-parts (negℤ s) (pos v), negation-parts s))
 
--- beside any s of size 744,000,000 or less
-small-within : (w : Way) (s : ℤ) (x : ℕ) → natAbs s ≤ 744000000 → x ≤ 256000000 → leZ (toward w s +ℤ pos x) (pos 1000000000) ≡ true
+-- beside any s of size 536,870,912 or less
+small-within : (w : Way) (s : ℤ) (x : ℕ) → natAbs s ≤ 536870912 → x ≤ 256000000 → leZ (toward w s +ℤ pos x) (pos 1000000000) ≡ true
 small-within long s x h l = omega (signed, magnitude-parts s, sum-parts s (pos x))
 small-within short s x h l = omega (signed, magnitude-parts s, negation-parts s, sum-parts (negℤ s) (pos x))
 
@@ -98,14 +98,14 @@ module _ (m cells : List ℕ) (a i : ℕ) (readable : Readable m) (gathered : Ga
         rw (position-cell long, position-cell short, ← read, long-same s (getD cells (cell Buy a i) 0) e) (short-same s (getD cells (cell Sell a i) 0))
 
   -- where it is small, whatever the cells hold
-  pub place-small : natAbs (signedAt m (balanceRow a + i)) ≤ 744000000 → placeSound m a i ≡ true
+  pub place-small : natAbs (signedAt m (balanceRow a + i)) ≤ 536870912 → placeSound m a i ≡ true
   unfolding placeSound
   place-small small =
       let s = signedAt m (balanceRow a + i) in
       let within : (w : Way) → leZ (toward w s +ℤ pos (getD cells (cell (sideTo w) a i) 0)) (pos 1000000000) ≡ true = λ w. small-within w s (getD cells (cell (sideTo w) a i) 0) small (cell-small (sideTo w)) in
       and-true (positionSound m a i long) (positionSound m a i short) (position-cell long ∙ within long) (position-cell short ∙ within short)
 
--- ---- the row of account a, of which no balance is larger than r and 1
-pub row-small : (m cells : List ℕ) (a n r : ℕ) → Readable m → Gathered cells (openOrders m) → Numbered (rosterOf m .accounts) a → n ≡ rosterOf m .instruments → r ≤ 743999999 → ((p : ℕ) → balanceRow a + 1 ≤ p → p < balanceRow a + 1 + n → natAbs (signedAt m p) ≤ r + 1) → true ≡ every (rosterOf m .instruments) (placeSound m a)
-row-small m cells a n r readable gathered h e small all =
-    sym (every-in (placeSound m a) (rosterOf m .instruments) (λ i l. place-small m cells a i readable gathered h l (omega (arith, all (balanceRow a + i) (omega arith) (omega arith)))))
+-- ---- the row of account a, all of it small
+pub row-small : (m cells : List ℕ) (a : ℕ) → Readable m → Gathered cells (openOrders m) → Numbered (rosterOf m .accounts) a → ((p : ℕ) → balanceRow a + 1 ≤ p → p < balanceRow a + 1 + 32 → natAbs (signedAt m p) ≤ 536870912) → true ≡ every (rosterOf m .instruments) (placeSound m a)
+row-small m cells a readable gathered h small =
+    sym (every-in (placeSound m a) (rosterOf m .instruments) (λ i l. place-small m cells a i readable gathered h l (small (balanceRow a + i) (omega arith) (omega (arith, readable .instruments)))))

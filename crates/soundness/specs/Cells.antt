@@ -1,6 +1,6 @@
 -- What remains of all open orders, gathered into 1,089 cells by side, account and instrument; and what the passes over a memory
 -- may read.
-use Prim.Native.Nat.{ℕ, _+_, _*_, _≤_}
+use Prim.Native.Nat.{ℕ, _+_, _*_, _%_, _^_, _≤_}
 use mathlib.Core.Path.{_≡_}
 use mathlib.Core.List.{List}
 use lib.ListN.{length, getD, set}
@@ -21,6 +21,10 @@ pub record Readable (m : List ℕ) : Type 0 where
   pub groups : rosterOf m .groups ≤ 4
   pub contracts : rosterOf m .contracts ≤ 8
   pub instruments : rosterOf m .instruments ≤ 32
+
+-- a word with 536,870,912 added, as a word
+abbrev pub moved : ℕ → ℕ
+moved w = (w + 536870912) % 2 ^ 64
 
 -- the cell of B (side Buy) or V (side Sell) of account a and instrument i
 abbrev pub cell : Side → ℕ → ℕ → ℕ

@@ -8,7 +8,7 @@ ghost use Rattle.layout.specs.Layout.{countWord};
 ghost use Rattle.layout.specs.View.{rosterOf, openOrders};
 ghost use Rattle.soundness.specs.Soundness.{ascend, ordersSound, placeSound, accountSound, positionsSound};
 ghost use Rattle.soundness.specs.Cells.{Readable, Empty, Gathered};
-use crate::bits::joined_sizes;
+use crate::bits::all_small;
 use crate::orders::gather;
 use crate::roster::accounts;
 use crate::roster::instruments;
@@ -29,16 +29,17 @@ fn place_is_sound(m: &[u8], cells: &[u64; 1089], a: usize, i: usize) -> bool
     v - 1000000000 <= s
 }
 
-// Of account `a` and each instrument: all balances at once, and where that does not tell, one by one. A balance of at most 744,000,000
-// either way is sound, whatever the orders: B and V are at most 256,000,000.
+// Of account `a` and each instrument: all balances at once, and where that does not tell, one by one. A balance of at most 536,870,912
+// either way is sound, whatever the orders: B and V are at most 256,000,000. The whole row is looked at, on the roster or not: the
+// compiler then knows its length.
 fn account_is_sound(m: &[u8], cells: &[u64; 1089], a: usize) -> bool
     requires { ⌜ Readable (now m) × Gathered (now cells) (openOrders (now m)) × Numbered (rosterOf (now m) .accounts) a ⌝ }
     ensures { λ r. ⌜ r ≡ accountSound (now (m .entry)) a ⌝ }
 {
-    let n = instruments(m) as usize;
-    if joined_sizes(m, BALANCES + a * 32 + 1, n) <= 743999999 {
+    if all_small(m, BALANCES + a * 32 + 1, 32) {
         return true;
     }
+    let n = instruments(m) as usize;
     for j in 0..n {
         if !place_is_sound(m, cells, a, j + 1) {
             return false;

@@ -5,9 +5,10 @@ ghost use mathlib.Core.Bool.{true};
 ghost use Prim.Native.Nat.{ℕ, _+_, _*_, _≤_, _<_};
 ghost use lib.IntN.{natAbs};
 ghost use lib.ListN.{length};
-ghost use Rattle.integers.specs.TwosComplement.{signedOf};
 ghost use Rattle.words.specs.Fields.{u32At};
-ghost use Rattle.words.specs.Words.{signedAt};
+ghost use Rattle.words.specs.Words.{wordAt, signedAt};
+ghost use Rattle.soundness.specs.Cells.{moved};
+use std::num::wrapping_add_u64;
 use words::fields::u32_at;
 use words::word;
 
@@ -31,25 +32,22 @@ pub fn all_in_range(m: &[u8], k: usize, n: usize) -> bool
     joined(m, k, n) <= 1000000000
 }
 
-// The size of the signed number of 64 bits, less 1 below 0.
-fn size(n: u64) -> u64
-    ensures { λ r. ⌜ natAbs (signedOf 64 n) ≤ r + 1 ⌝ }
-{
-    if n < 9223372036854775808 {
-        n
-    } else {
-        18446744073709551615 - n
-    }
-}
-
-// With 1 added, at least the size of each of the `n` signed words from word `k` on.
-pub fn joined_sizes(m: &[u8], k: usize, n: usize) -> u64
+// At least each of the `n` words from word `k` on with 536,870,912 added: a number of that size or less, of either sign, is then one of 30 bits.
+fn joined_moved(m: &[u8], k: usize, n: usize) -> u64
     requires { ⌜ (k + n) * 8 ≤ length (now m) ⌝ }
-    ensures { λ r. ⌜ ((p : ℕ) → k ≤ p → p < k + n → natAbs (signedAt (now (m .entry)) p) ≤ r + 1) ⌝ }
+    ensures { λ r. ⌜ ((p : ℕ) → k ≤ p → p < k + n → moved (wordAt (now (m .entry)) p) ≤ r) ⌝ }
 {
     let mut all: u64 = 0;
     for j in 0..n {
-        all = all | size(word(m, k + j));
+        all = all | wrapping_add_u64(word(m, k + j), 536870912);
     }
     all
+}
+
+// Is each of these signed words at most 536,870,912 either way, as far as the bits of all tell?
+pub fn all_small(m: &[u8], k: usize, n: usize) -> bool
+    requires { ⌜ (k + n) * 8 ≤ length (now m) ⌝ }
+    ensures { λ r. ⌜ (r ≡ true → (p : ℕ) → k ≤ p → p < k + n → natAbs (signedAt (now (m .entry)) p) ≤ 536870912) ⌝ }
+{
+    joined_moved(m, k, n) < 1073741824
 }

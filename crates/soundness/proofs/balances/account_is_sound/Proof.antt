@@ -19,10 +19,10 @@ abbrev μ-loop : tie.MeasureT-loop
 μ-loop m cells a n j₀ j = n - j
 
 -- the row of balances is there
-inside : (c : tie.After-instruments Inv-loop μ-loop) → let s = c .before .before in (s .args .a ≤ 16) × (c .instruments .result ≤ 32) × (65536 ≤ length (s .args .m .now))
+inside : (c : tie.After-shared-slice-known Inv-loop μ-loop) → let s = c .before in (s .args .a ≤ 16) × (65536 ≤ length (s .args .m .now))
 inside c =
-    let s = c .before .before in
-    (omega (arith, s .pre .2, s .pre .0 .accounts), omega (arith, c .instruments .ensures, s .pre .0 .instruments), s .pre .0 .long)
+    let s = c .before in
+    (omega (arith, s .pre .2, s .pre .0 .accounts), s .pre .0 .long)
 
 place-is-sound-requires : tie.Need-place-is-sound-requires Inv-loop μ-loop
 place-is-sound-requires c κs =
@@ -32,9 +32,8 @@ place-is-sound-requires c κs =
 returns : tie.Need-returns Inv-loop μ-loop
 unfolding accountSound
 returns c =
-    let at = c .before .before in
-    let s = at .before .before in
-    row-small _ _ _ (at .instruments .result) (c .before .joined-sizes .result) (s .pre .0) (s .pre .1) (s .pre .2) (at .instruments .ensures) (omega (arith, c .if1 .taken)) (c .before .joined-sizes .ensures)
+    let s = c .before .before .before in
+    row-small _ _ _ (s .pre .0) (s .pre .1) (s .pre .2) (c .before .all-small .ensures (c .if1 .taken))
 
 returns-2 : tie.Need-returns-2 Inv-loop μ-loop
 unfolding accountSound
@@ -57,13 +56,13 @@ account-is-sound-spec =
     (tie.spec
     Inv-loop
     μ-loop
-    (λ c κs. search needs)
     (λ c. omega (arith, inside c))
     (λ c. omega (arith, inside c))
     (λ c. omega (arith, inside c))
     (λ c κs. omega (arith, inside c))
     returns
-    (λ c. (c .before .before .instruments .ensures, omega arith, every-none _))
+    (λ c κs. search needs)
+    (λ c. (c .instruments .ensures, omega arith, every-none _))
     (λ c. omega arith)
     place-is-sound-requires
     returns-2

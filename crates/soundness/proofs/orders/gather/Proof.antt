@@ -29,9 +29,10 @@ returns-3 c =
     let one = two .before .before in
     let passed = one .before .before in
     let s = passed .before .before .before in
-    let totals = told-yes _ (two .before .totals-fit .ensures) (two .if2 .left) in
-    (last-told _ (told-yes _ (passed .gather-all .ensures .0) (one .if1 .left)) totals _ (c .all-marked .ensures),
-    λ e. gathered-small _ _ (s .pre .1) totals (passed .gather-all .ensures .1 .1 (not-false _ (one .if1 .left))))
+    let totals = told-yes _ (two .before .totals-fit .ensures) (two .if2 .left) in (
+      last-told _ (told-yes _ (passed .gather-all .ensures .0) (one .if1 .left)) totals _ (c .all-marked .ensures),
+      λ e. gathered-small _ _ (s .pre .1) totals (passed .gather-all .ensures .1 .1 (not-false _ (one .if1 .left))),
+    )
 
 pub gather-spec : {M : Type 1} → statement M
 gather-spec =

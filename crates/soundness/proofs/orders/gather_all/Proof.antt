@@ -49,9 +49,11 @@ loop-again : tie.Need-loop-again Inv-loop μ-loop
 loop-again c =
     let two = c .before .before in
     let read = two .before .before in
-    let at = read .before .before .before in
-    (at .loop .inv .0, at .loop .inv .1,
-    passed-more _ _ _ _ _ (at .loop .p) (at .loop .inv .2) _ _ (omega arith) (read .before .word2 .ensures) (read .word3 .ensures) (two .before .if1 .left) (two .if2 .left) (read .word3 .ok) _ (c .add-to .ensures _))
+    let at = read .before .before .before in (
+      at .loop .inv .0,
+      at .loop .inv .1,
+      passed-more _ _ _ _ _ (at .loop .p) (at .loop .inv .2) _ _ (omega arith) (read .before .word2 .ensures) (read .word3 .ensures) (two .before .if1 .left) (two .if2 .left) (read .word3 .ok) _ (c .add-to .ensures _),
+    )
 
 returns-3 : tie.Need-returns-3 Inv-loop μ-loop
 returns-3 c =

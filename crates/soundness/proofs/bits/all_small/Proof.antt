@@ -1,0 +1,18 @@
+use native.Mathlib.Omega.{arith}
+use borrow.Author.Needs.{needs}
+use borrow.Author.Tests.{ltb-true}
+use Rattle.words.specs.Words.{wordAt, signedAt}
+use Rattle.words.proofs.Memory.{word-below}
+use Rattle.soundness.proofs.Joining.{moved-small}
+use Rattle.soundness.proofs.bits.all_small.Statement.{statement}
+use Rattle.soundness.proofs.bits.all_small.Tie as tie
+
+returns : tie.Need-returns
+unfolding signedAt
+returns c e p h l =
+    let s = c .before in
+    moved-small (wordAt (s .before .args .m .now) p) (word-below _ p (λ i. s .shared-slice-known .given i .fits))
+    (omega (arith, ltb-true (c .joined-moved .result) 1073741824 e, c .joined-moved .ensures p h l))
+
+pub all-small-spec : {M : Type 1} → statement M
+all-small-spec = tie.close (tie.spec (λ c κs. search needs) returns)

@@ -1,0 +1,35 @@
+use Prim.Native.Nat.{ℕ, _+_, _-_, _≤_, _<_}
+use native.Mathlib.Omega.{arith}
+use borrow.Author.Needs.{needs}
+use Rattle.words.specs.Words.{wordAt}
+use Rattle.soundness.specs.Cells.{moved}
+use Rattle.soundness.proofs.Joining.{joined-more}
+use Rattle.soundness.proofs.bits.joined_moved.Statement.{statement}
+use Rattle.soundness.proofs.bits.joined_moved.Tie as tie
+
+abbrev Inv-loop : tie.InvT-loop
+Inv-loop m k n all₀ j₀ all j = (j ≤ n) × ((p : ℕ) → k ≤ p → p < k + j → moved (wordAt m p) ≤ all)
+
+abbrev μ-loop : tie.MeasureT-loop
+μ-loop m k n all₀ j₀ all j = n - j
+
+loop-again : tie.Need-loop-again Inv-loop μ-loop
+loop-again c =
+    let at = c .before .before .before in
+    let s = at .before .before .args in
+    (omega arith, joined-more (λ p. moved (wordAt (s .m .now) p)) (s .k) (at .loop .j) (at .loop .all) _ (at .loop .inv .1) (omega (arith, c .before .word .ensures, c .wrapping-add-u64 .ensures)))
+
+pub joined-moved-spec : {M : Type 1} → statement M
+joined-moved-spec =
+    tie.close
+    (tie.spec
+    Inv-loop
+    μ-loop
+    (λ c. (omega arith, λ p h l. absurd (omega arith)))
+    (λ c. omega arith)
+    (λ c κs. omega arith)
+    (λ c κs. search needs)
+    (λ c. omega arith)
+    (λ c. omega arith)
+    loop-again
+    (λ c. λ p h l. c .before .loop .inv .1 p h (omega arith)))
