@@ -29,6 +29,7 @@ packed Sell a i = (a - 1) * 64 + 32 + (i - 1)
 abbrev pub Packable : ℕ → ℕ → Type 0
 Packable a i = Numbered 16 a × Numbered 32 i
 
+-- what the low 10 bits of a number say
 unfoldable pub packedSide : ℕ → Side
 packedSide w = cond (eqb (w / 32 % 2) 0) Buy Sell
 
@@ -49,7 +50,7 @@ detailFilled w = w / 1024 % 134217728
 abbrev pub detailRemaining : ℕ → ℕ
 detailRemaining w = w / 137438953472
 
--- those whose detail is a word that says them
+-- an order that a record can hold: its detail is a word that says it
 pub record Storable (o : Order) : Type 0 where
   pub packable : Packable (o .account) (o .instrument)
   pub part : o .filled ≤ o .total
