@@ -82,9 +82,9 @@ fn totals_fit(m: &[u8], details: u64) -> bool
     if details / 1024 % 134217728 + details / 137438953472 <= 1000000 {
         return true;
     }
-    let n = word(m, COUNT) as usize;
+    let count = word(m, COUNT) as usize;
     let orders = part(m, ORDERS, 512);
-    for p in 0..n {
+    for p in 0..count {
         let o = load(orders, p);
         if o.total > 1000000 {
             return false;
@@ -134,9 +134,9 @@ fn all_marked(m: &[u8]) -> bool
     if all_trade(m) {
         return true;
     }
-    let n = word(m, COUNT) as usize;
+    let count = word(m, COUNT) as usize;
     let orders = part(m, ORDERS, 512);
-    for p in 0..n {
+    for p in 0..count {
         if !is_marked(m, load(orders, p)) {
             return false;
         }
