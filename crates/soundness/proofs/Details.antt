@@ -1,4 +1,4 @@
--- Details of orders, joined bit by bit: what is filled and what remains are at most those of the whole.
+-- Details of orders, joined bit by bit: account, instrument, what is filled and what remains are at most those of the whole.
 use Prim.Native.Nat.{ℕ, _+_, _*_, _/_, _%_, _≤_, _<_}
 use mathlib.Core.Path.{_≡_, ap, _∙_}
 use native.Mathlib.Omega.{arith}
@@ -51,9 +51,17 @@ module _ (all w : ℕ) where
   remaining-joined : detailRemaining (bitOr all w) ≡ bitOr (detailRemaining all) (detailRemaining w)
   remaining-joined = or-shr all w 37
 
+  account-joined : packedAccount (bitOr all w) ≡ bitOr (all / 64 % 16) (w / 64 % 16) + 1
+  account-joined = ap (λ (x : ℕ). x % 16 + 1) (or-shr all w 6) ∙ ap (λ (x : ℕ). x + 1) (or-mod (all / 64) (w / 64) 4)
+
+  instrument-joined : packedInstrument (bitOr all w) ≡ bitOr (all % 32) (w % 32) + 1
+  instrument-joined = ap (λ (x : ℕ). x + 1) (or-mod all w 5)
+
   pub joined-before : (o : Order) → Within all o → Within (bitOr all w) o
   joined-before o h =
       record {
+        account = rw account-joined (omega (arith, h .account, or-left (all / 64 % 16) (w / 64 % 16)));
+        instrument = rw instrument-joined (omega (arith, h .instrument, or-left (all % 32) (w % 32)));
         filled = rw filled-joined (omega (arith, h .filled, or-left (detailFilled all) (detailFilled w)));
         remaining = rw remaining-joined (omega (arith, h .remaining, or-left (detailRemaining all) (detailRemaining w)));
       }
@@ -63,6 +71,8 @@ module _ (all id w : ℕ) where
   unfolding remaining orderOf
   joined-here =
       record {
+        account = rw (account-joined all w) (omega (arith, or-right (all / 64 % 16) (w / 64 % 16)));
+        instrument = rw (instrument-joined all w) (omega (arith, or-right (all % 32) (w % 32)));
         filled = rw (filled-joined all w) (or-right (detailFilled all) (detailFilled w));
         remaining = rw (remaining-joined all w) (omega (arith, or-right (detailRemaining all) (detailRemaining w)));
       }

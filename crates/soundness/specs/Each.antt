@@ -6,7 +6,7 @@ use mathlib.Core.List.{List}
 use Rattle.words.specs.Words.{wordAt}
 use Rattle.ledger.specs.declared.order.Order.{Order}
 use Rattle.ledger.specs.Orders.{remaining}
-use Rattle.ledger.specs.Records.{detailFilled, detailRemaining}
+use Rattle.ledger.specs.Records.{packedAccount, packedInstrument, detailFilled, detailRemaining}
 use Rattle.ledger.specs.Roster.{Numbered}
 use Rattle.layout.specs.Layout.{countWord}
 use Rattle.layout.specs.View.{rosterOf, tradingOf}
@@ -35,7 +35,9 @@ pub record Marked (m : List ℕ) (o : Order) : Type 0 where
   pub instrument : Numbered (rosterOf m .instruments) (o .instrument)
   pub marked : tradingOf m (o .account) ≡ true
 
--- what is filled of it and what remains are at most those that a detail says
+-- its account and instrument, what is filled of it and what remains are at most those that a detail says
 pub record Within (detail : ℕ) (o : Order) : Type 0 where
+  pub account : o .account ≤ packedAccount detail
+  pub instrument : o .instrument ≤ packedInstrument detail
   pub filled : o .filled ≤ detailFilled detail
   pub remaining : remaining o ≤ detailRemaining detail

@@ -5,8 +5,7 @@ ghost use mathlib.Core.Bool.{true, _&&_};
 ghost use Prim.Native.Nat.{ℕ, _≤_};
 ghost use lib.ListN.{length, getD};
 ghost use Rattle.words.specs.Words.{wordAt};
-ghost use Rattle.ledger.specs.Roster.{Numbered};
-ghost use Rattle.ledger.specs.Records.{orderOf};
+ghost use Rattle.ledger.specs.Records.{Packable, orderOf};
 ghost use Rattle.layout.specs.Layout.{countWord};
 ghost use Rattle.layout.specs.View.{tradingOf, openOrders};
 ghost use Rattle.soundness.specs.Soundness.{ascend, ordersSound};
@@ -93,18 +92,19 @@ fn totals_fit(m: &[u8], details: u64) -> bool
     true
 }
 
-// Does every account trade that an order can name, and is every instrument on the roster that it can name?
-fn all_trade(m: &[u8]) -> bool
+// Are all accounts and instruments on the roster, and all accounts marked, that are not above those of a detail with the bits of all?
+fn all_trade(m: &[u8], details: u64) -> bool
     requires { ⌜ Readable (now m) ⌝ }
-    ensures { λ r. ⌜ (r ≡ true → (o : Order) → Numbered 16 (o .account) → Numbered 32 (o .instrument) → Marked (now (m .entry)) o) ⌝ }
+    ensures { λ r. ⌜ (r ≡ true → (o : Order) → Packable (o .account) (o .instrument) → Within details o → Marked (now (m .entry)) o) ⌝ }
 {
-    if accounts(m) < 16 {
+    let most = details / 64 % 16 + 1;
+    if accounts(m) < most {
         return false;
     }
-    if instruments(m) < 32 {
+    if instruments(m) < details % 32 + 1 {
         return false;
     }
-    for a in 0..16 {
+    for a in 0..most as usize {
         if word(m, MARKS + 1 + a) == 0 {
             return false;
         }
@@ -126,12 +126,12 @@ fn is_marked(m: &[u8], o: Order) -> bool
     word(m, MARKS + o.account as usize) != 0
 }
 
-// Is that so of every order? Of all at once where all accounts trade, else of one after the other.
-fn all_marked(m: &[u8]) -> bool
-    requires { ⌜ Readable (now m) × (wordAt (now m) countWord ≤ 256) ⌝ }
+// Is that so of every order? All at once by the detail with the bits of all, and where that does not tell, one by one.
+fn all_marked(m: &[u8], details: u64) -> bool
+    requires { ⌜ Readable (now m) × (wordAt (now m) countWord ≤ 256) × Each (now m) (Within details) ⌝ }
     ensures { λ r. ⌜ Tells r (Each (now (m .entry)) (Marked (now (m .entry)))) ⌝ }
 {
-    if all_trade(m) {
+    if all_trade(m, details) {
         return true;
     }
     let count = word(m, COUNT) as usize;
@@ -156,5 +156,5 @@ pub fn gather(m: &[u8], cells: &mut [u64; 1089]) -> bool
     if !totals_fit(m, passed.details) {
         return false;
     }
-    all_marked(m)
+    all_marked(m, passed.details)
 }

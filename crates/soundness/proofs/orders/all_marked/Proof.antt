@@ -9,14 +9,15 @@ use Rattle.soundness.proofs.orders.all_marked.Statement.{statement}
 use Rattle.soundness.proofs.orders.all_marked.Tie as tie
 
 abbrev Inv-loop : tie.InvT-loop
-Inv-loop m n orders p₀ p = AskedTo (Marked m) m orders n p
+Inv-loop m details n orders p₀ p = AskedTo (Marked m) m orders n p
 
 abbrev μ-loop : tie.MeasureT-loop
-μ-loop m n orders p₀ p = n - p
+μ-loop m details n orders p₀ p = n - p
 
 returns : tie.Need-returns Inv-loop μ-loop
 returns c =
-    tells-yes (λ p l. let fits = record-packable _ p in c .before .all-trade .ensures (c .if1 .taken) _ (fits .0) (fits .1))
+    let s = c .before .before .before in
+    tells-yes (λ p l. c .before .all-trade .ensures (c .if1 .taken) _ (record-packable _ p) (s .pre .2 p l))
 
 -- the records are there
 long : (c : tie.In-loop Inv-loop μ-loop) → let at = c .before in (length (at .before .part .result .now) ≡ 4096) × (at .loop .p < 256)

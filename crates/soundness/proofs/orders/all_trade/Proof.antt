@@ -1,5 +1,5 @@
-use Prim.Native.Nat.{ℕ, _+_, _-_, _≤_, _<_}
-use mathlib.Core.Path.{_≡_, _∙_}
+use Prim.Native.Nat.{ℕ, _+_, _-_, _/_, _%_, _≤_, _<_}
+use mathlib.Core.Path.{_≡_, refl, _∙_}
 use mathlib.Core.Logic.{_≢_}
 use mathlib.Core.Bool.{false≢true}
 use native.Mathlib.Omega.{arith}
@@ -14,29 +14,33 @@ use Rattle.soundness.proofs.orders.all_trade.Tie as tie
 
 -- the first a marks are set
 abbrev Inv-loop : tie.InvT-loop
-Inv-loop m a₀ a = (a ≤ 16) × ((b : ℕ) → b < a → wordAt m (128 + b) ≢ 0)
+Inv-loop m details most a₀ a-end a =
+    (a-end ≡ details / 64 % 16 + 1)
+    × (a ≤ a-end)
+    × ((b : ℕ) → b < a → wordAt m (128 + b) ≢ 0)
 
 abbrev μ-loop : tie.MeasureT-loop
-μ-loop m a₀ a = 16 - a
+μ-loop m details most a₀ a-end a = a-end - a
 
 loop-again : tie.Need-loop-again Inv-loop μ-loop
 loop-again c =
     let at = c .before .before .before in
-    (omega arith, below (λ b. wordAt _ (128 + b) ≢ 0) (at .loop .a) (at .loop .inv .1) (λ e. c .if3 .left (c .before .word .ensures ∙ e)))
+    (at .loop .inv .0, omega arith, below (λ b. wordAt _ (128 + b) ≢ 0) (at .loop .a) (at .loop .inv .2) (λ e. c .if3 .left (c .before .word .ensures ∙ e)))
 
 returns-4 : tie.Need-returns-4 Inv-loop μ-loop
-returns-4 c e o account instrument =
+returns-4 c e o fits within =
     let at = c .before in
     let two = at .before in
     let one = two .before .before in
     let s = one .before .before .before in
     let m = s .args .m .now in
-    let on : Numbered (rosterOf m .accounts) (o .account) = (account .0, omega (arith, account .1, one .before .accounts .ensures, one .if1 .left)) in
-    let word : 128 + (o .account - 1) ≡ markWord (o .account) = omega (arith, account .0) in
+    let on : Numbered (rosterOf m .accounts) (o .account) = (fits .0 .0, omega (arith, within .account, one .before .accounts .ensures, one .if1 .left)) in
+    let word : 128 + (o .account - 1) ≡ markWord (o .account) = omega (arith, fits .0 .0) in
+    let set = at .loop .inv .2 (o .account - 1) (omega (arith, fits .0 .0, within .account, at .loop .inv .0)) in
     record {
       account = on;
-      instrument = (instrument .0, omega (arith, instrument .1, two .before .instruments .ensures, two .if2 .left));
-      marked = trading-flag m (o .account) on ∙ rw (ne-eqb (wordAt m (markWord (o .account))) 0 (rw word at (at .loop .inv .1 (o .account - 1) (omega (arith, account .0, account .1)))));
+      instrument = (fits .1 .0, omega (arith, within .instrument, two .before .instruments .ensures, two .if2 .left));
+      marked = trading-flag m (o .account) on ∙ rw (ne-eqb (wordAt m (markWord (o .account))) 0 (rw word at set));
     }
 
 pub all-trade-spec : {M : Type 1} → statement M
@@ -45,14 +49,16 @@ all-trade-spec =
     (tie.spec
     Inv-loop
     μ-loop
+    (λ c. omega arith)
     (λ c κs. c .before .pre .long)
     (λ c. λ e. absurd (false≢true e))
     (λ c κs. c .before .before .before .pre .long)
+    (λ c. omega arith)
     (λ c. λ e. absurd (false≢true e))
-    (λ c. (omega arith, λ b h. absurd (omega arith)))
+    (λ c. (refl, omega arith, λ b h. absurd (omega arith)))
     (λ c. omega arith)
     (λ c. omega arith)
-    (λ c κs. omega (arith, c .before .before .before .before .before .before .before .pre .long))
+    (λ c κs. omega (arith, c .before .loop .inv .0, c .before .before .before .before .before .before .before .pre .long))
     (λ c. λ e. absurd (false≢true e))
     (λ c. omega arith)
     (λ c. omega arith)

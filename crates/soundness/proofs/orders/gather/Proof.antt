@@ -1,6 +1,7 @@
 use mathlib.Core.Bool.{false≢true}
 use borrow.Author.Needs.{needs}
 use borrow.Author.Tests.{not-false}
+use Rattle.soundness.specs.Each.{Each, Within}
 use Rattle.soundness.proofs.Telling.{told-yes, told-no}
 use Rattle.soundness.proofs.OrdersTold.{refused-order, refused-total, last-told, gathered-small}
 use Rattle.soundness.proofs.orders.gather.Statement.{statement}
@@ -11,17 +12,24 @@ returns c =
     let passed = c .before .before in
     (refused-order _ (told-no _ (passed .gather-all .ensures .0) (c .if1 .taken)), λ e. absurd (false≢true e))
 
+-- what the pass tells of the details
+within : (c : tie.Else1) → let passed = c .before .before in Each (passed .before .before .before .args .m .now) (Within (passed .gather-all .result .details))
+within c = c .before .before .gather-all .ensures .1 .0 (not-false _ (c .if1 .left))
+
 totals-fit-requires : tie.Need-totals-fit-requires
-totals-fit-requires c κs =
-    let passed = c .before .before in
-    let s = passed .before .before .before in
-    (s .pre .0, s .pre .1, passed .gather-all .ensures .1 .0 (not-false _ (c .if1 .left)))
+totals-fit-requires c κs = let s = c .before .before .before .before .before in (s .pre .0, s .pre .1, within c)
 
 returns-2 : tie.Need-returns-2
 returns-2 c =
     let one = c .before .before in
     let passed = one .before .before in
     (refused-total _ (told-yes _ (passed .gather-all .ensures .0) (one .if1 .left)) (told-no _ (c .before .totals-fit .ensures) (c .if2 .taken)), λ e. absurd (false≢true e))
+
+all-marked-requires : tie.Need-all-marked-requires
+all-marked-requires c κs =
+    let one = c .before .before in
+    let s = one .before .before .before .before .before in
+    (s .pre .0, s .pre .1, within one)
 
 returns-3 : tie.Need-returns-3
 returns-3 c =
@@ -42,5 +50,5 @@ gather-spec =
     returns
     totals-fit-requires
     returns-2
-    (λ c κs. search needs)
+    all-marked-requires
     returns-3)
