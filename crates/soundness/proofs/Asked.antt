@@ -11,7 +11,6 @@ use Rattle.integers.specs.Parts.{signed, magnitude-parts}
 use Rattle.ledger.specs.Roster.{Numbered}
 use Rattle.limits.proofs.Answers.{and-true}
 use Rattle.book.specs.Decoding.{between}
-use Rattle.soundness.proofs.Every.{and-false}
 
 -- the answer t to a test u, asked by `!`
 pub said-no : (t u : Bool) → t ≡ u → not t ≡ true → u ≡ false
@@ -34,9 +33,6 @@ below-range low high n h = rw (lt-leb low n h)
 
 pub above-low : (low high n : ℕ) → low ≤ n → leb n high ≡ between low high n
 above-low low high n h = rw (le-leb low n h)
-
-pub above-range : (low high n : ℕ) → high < n → between low high n ≡ false
-above-range low high n h = rw (lt-leb n high h) (and-false (leb low n))
 
 -- x is what was read of y
 pub over : (most x y : ℕ) → x ≡ y → most < x → leb y most ≡ false

@@ -10,7 +10,7 @@ use Rattle.ledger.specs.Roster.{Numbered}
 use Rattle.limits.proofs.Answers.{both-true, and-true}
 use Rattle.layout.specs.Rosters.{every}
 
-pub and-false : (b : Bool) → b && false ≡ false
+and-false : (b : Bool) → b && false ≡ false
 and-false true = refl
 and-false false = refl
 

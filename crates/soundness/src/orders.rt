@@ -7,7 +7,7 @@ ghost use lib.ListN.{length, getD};
 ghost use Rattle.words.specs.Words.{wordAt};
 ghost use Rattle.ledger.specs.Records.{Packable, orderOf};
 ghost use Rattle.layout.specs.Layout.{countWord};
-ghost use Rattle.layout.specs.View.{tradingOf, openOrders};
+ghost use Rattle.layout.specs.View.{openOrders};
 ghost use Rattle.soundness.specs.Soundness.{ascend, ordersSound};
 ghost use Rattle.soundness.specs.Cells.{Readable, added, Empty, Sums, Gathered};
 ghost use Rattle.soundness.specs.Each.{Tells, Each, Remains, TotalFits, Marked, Within};
