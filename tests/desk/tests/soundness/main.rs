@@ -119,5 +119,5 @@ fn no_field_of_the_largest_desks_is_passed_over() {
             }
         }
     }
-    assert!(set > 3_900, "{set} fields");
+    assert_eq!(set, 3_910);
 }
