@@ -7,12 +7,12 @@ use crate::day::Day;
 use crate::market::Market;
 use crate::programs::{Input, BASELINE, PROVED};
 use crate::timing::{
-    best, checking_single, nanoseconds, proved_run, proved_single, trusting_run, WARM_UP,
+    best, checking_single, proved_run, proved_single, trusting_run, Shortest, RUN_PART, WARM_UP,
 };
 use crate::verify;
 
 /// How many single events are timed.
-const SINGLE: usize = 50_000;
+const SINGLE: usize = 30_000;
 
 /// The events of a block, as in the day program.
 const BLOCK: usize = 1_024;
@@ -37,12 +37,12 @@ pub fn measure(name: &str, market: Market, repeats: usize) -> io::Result<Vec<Row
     );
 
     let whole = day.count();
-    let program = |program| input.time(program).expect("the program runs");
+    let program = |program| vec![input.time(program).expect("the program runs")];
     let shortest = best(
         repeats,
         [
-            &|| proved_run(&day, whole),
-            &|| trusting_run(&day, whole),
+            &|| proved_run(&day, RUN_PART),
+            &|| trusting_run(&day, RUN_PART),
             &|| proved_run(&day, BLOCK),
             &|| trusting_run(&day, BLOCK),
             &|| proved_single(&day, SINGLE),
@@ -52,17 +52,17 @@ pub fn measure(name: &str, market: Market, repeats: usize) -> io::Result<Vec<Row
         ],
     );
     let compared = [
-        ("run, one call", whole),
+        ("run, calls of 16,384", whole),
         ("run, calls of 1,024", whole),
         ("single events", SINGLE),
         ("day program", whole),
     ];
     let rows = compared.iter().zip(shortest.chunks(2));
-    let row = |(&(what, events), times): (&(&'static str, usize), &[_])| Row {
+    let row = |(&(what, events), times): (&(&'static str, usize), &[Shortest])| Row {
         day: name.to_string(),
         what,
-        gate: nanoseconds(times[0], events),
-        baseline: nanoseconds(times[1], events),
+        gate: times[0].nanoseconds(events),
+        baseline: times[1].nanoseconds(events),
     };
     Ok(rows.map(row).collect())
 }

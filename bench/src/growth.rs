@@ -1,12 +1,12 @@
 //! How the time of an event grows with open orders, accounts and instruments.
 
 use std::fmt::Write;
-use std::time::Duration;
 
 use crate::day::Day;
 use crate::market::Market;
 use crate::timing::{
-    checking_single, nanoseconds, proved_run, proved_single, shorten, trusting_run, WARM_UP,
+    checking_single, proved_run, proved_single, shorten, trusting_run, Shortest, Timed, RUN_PART,
+    WARM_UP,
 };
 use crate::verify;
 
@@ -26,7 +26,7 @@ pub const SERIES: [&str; 4] = [
 pub struct Point {
     pub size: usize,
     day: Day,
-    shortest: [Duration; 4],
+    shortest: [Shortest; 4],
 }
 
 impl Point {
@@ -36,15 +36,15 @@ impl Point {
         Point {
             size,
             day,
-            shortest: [Duration::MAX; 4],
+            shortest: Default::default(),
         }
     }
 
     fn shorten(&mut self) {
         let day = &self.day;
-        let runs: [&dyn Fn() -> Duration; 4] = [
-            &|| proved_run(day, EVENTS),
-            &|| trusting_run(day, EVENTS),
+        let runs: [Timed; 4] = [
+            &|| proved_run(day, RUN_PART),
+            &|| trusting_run(day, RUN_PART),
             &|| proved_single(day, SINGLE),
             &|| checking_single(day, SINGLE),
         ];
@@ -53,12 +53,12 @@ impl Point {
 
     /// Nanoseconds for an event of each series.
     pub fn times(&self) -> [f64; 4] {
-        let [run, trusting, single, checking] = self.shortest;
+        let [run, trusting, single, checking] = &self.shortest;
         [
-            nanoseconds(run, EVENTS),
-            nanoseconds(trusting, EVENTS),
-            nanoseconds(single, SINGLE),
-            nanoseconds(checking, SINGLE),
+            run.nanoseconds(EVENTS),
+            trusting.nanoseconds(EVENTS),
+            single.nanoseconds(SINGLE),
+            checking.nanoseconds(SINGLE),
         ]
     }
 }

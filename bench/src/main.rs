@@ -37,7 +37,7 @@ fn main() -> ExitCode {
 }
 
 fn bench(arguments: &Arguments) -> io::Result<()> {
-    let repeats = if arguments.quick { 2 } else { 7 };
+    let repeats = if arguments.quick { 2 } else { 25 };
     let days = [
         (Part::Heavy, "heavy", Market::HEAVY),
         (Part::Light, "light", Market::LIGHT),
