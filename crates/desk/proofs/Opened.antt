@@ -69,6 +69,7 @@ module _ (m s : List ℕ) (zero : openingAnswer m s ≡ 0) where
       (record {
         long = omega (arith, length-opened m s ok, ok .long);
         kind = kind-opened m s ok;
+        first = omega (arith, blank-opened m s ok 113 (omega arith) (omega arith));
         figures = figures;
         book = rw (view-opened m s ok, roster-opened m s ok) (sound-begun derivatives (rosterFrom s) fits);
       })

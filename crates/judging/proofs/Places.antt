@@ -6,7 +6,7 @@ use mathlib.Core.List.{List, [], _∷_}
 use mathlib.Core.Option.{none, some}
 use native.Mathlib.Omega.{arith}
 use lib.Dec.{eqb}
-use Rattle.words.specs.Words.{wordAt, partOf}
+use Rattle.words.specs.Words.{wordAt}
 use Rattle.ledger.specs.declared.order.Order.{Order}
 use Rattle.ledger.specs.declared.find.Found.the-variants.{At, Nothing}
 use Rattle.ledger.specs.Orders.{placeFrom}
@@ -15,8 +15,8 @@ use Rattle.ledger.proofs.Search.{found-place}
 use Rattle.book.specs.OpenOrders.{find}
 use Rattle.book.specs.Sound.{Ascending}
 use Rattle.book.proofs.Cuts.{standing}
-use Rattle.layout.specs.Layout.{countWord, ordersWord}
-use Rattle.layout.specs.View.{openOrders, bookOf, view}
+use Rattle.layout.specs.Layout.{countWord}
+use Rattle.layout.specs.View.{recordsOf, openOrders, bookOf, view}
 use Rattle.layout.specs.Stores.{orderIn, rank}
 use Rattle.layout.proofs.Shifting.{rank-open}
 use Rattle.soundness.specs.Held.{Held}
@@ -54,7 +54,7 @@ module _ (m : List ℕ) (held : Held m) where
 module _ (m : List ℕ) (id : ℕ) where
   pub found-order : (p : ℕ) → placeFrom 0 id (openOrders m) ≡ At p → find id (openOrders m) ≡ some (orderIn m p)
   unfolding openOrders
-  found-order p e = from-place id (partOf m ordersWord 512) (wordAt m countWord) 0 p e
+  found-order p e = from-place id (recordsOf m) (wordAt m countWord) 0 p e
 
   -- its own id is that id
   pub order-named : (p : ℕ) → placeFrom 0 id (openOrders m) ≡ At p → find (orderIn m p .id) (openOrders m) ≡ some (orderIn m p)
@@ -64,7 +64,7 @@ module _ (m : List ℕ) (id : ℕ) where
 
   place-below : (p : ℕ) → placeFrom 0 id (openOrders m) ≡ At p → p < wordAt m countWord
   unfolding openOrders
-  place-below p e = found-place (partOf m ordersWord 512) id (wordAt m countWord) p e .0
+  place-below p e = found-place (recordsOf m) id (wordAt m countWord) p e .0
 
   pub place-small : Held m → (p : ℕ) → placeFrom 0 id (openOrders m) ≡ At p → p < 256
   place-small h p e = omega (arith, place-below p e, held-count m h)

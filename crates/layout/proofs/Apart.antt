@@ -5,12 +5,12 @@ use mathlib.Core.List.{List, [], _∷_}
 use native.Mathlib.Omega.{arith}
 use Rattle.words.proofs.Apart.{words-pass, past-words}
 use Rattle.ledger.specs.declared.order.Order.{Order}
-use Rattle.layout.specs.Stores.{orderWord, fields, putOrder, putOrders}
+use Rattle.layout.specs.Stores.{recordWord, fields, putOrder, putOrders}
 
 past-order : (m : List ℕ) (p q : ℕ) (x y : Order) → p < q → putOrder (putOrder m q y) p x ≡ putOrder (putOrder m p x) q y
 unfolding putOrder fields
 past-order m p q x y h =
-    past-words (λ l. putOrder l p x) (fields y) (orderWord q) (λ i low high. words-pass i (fields x) (orderWord p) (λ a b. omega arith)) m
+    past-words (λ l. putOrder l p x) (fields y) (recordWord q) (λ i low high. words-pass i (fields x) (recordWord p) (λ a b. omega arith)) m
 
 pub past-orders : (os : List Order) (m : List ℕ) (p q : ℕ) (x : Order) → p < q → putOrder (putOrders m q os) p x ≡ putOrders (putOrder m p x) q os
 unfolding putOrders

@@ -4,6 +4,7 @@ pub mod Blank
 pub mod OrderRecords
 pub mod Stored
 pub mod Apart
+pub mod Pieces
 pub mod Shifting
 pub mod Ranking
 pub mod LinesInRows

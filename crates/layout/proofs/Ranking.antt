@@ -6,16 +6,15 @@ use mathlib.Core.List.{List, _∷_}
 use native.Mathlib.Decide.{ℕ-discrete, decLe}
 use native.Mathlib.Omega.{arith}
 use borrow.Author.Tests.{lt-ltb, le-ltb, eq-eqb, ne-eqb}
-use Rattle.words.specs.Words.{wordAt, partOf}
+use Rattle.words.specs.Words.{wordAt}
 use Rattle.ledger.specs.declared.order.Order.{Order}
 use Rattle.ledger.specs.declared.find.Found.the-variants.{At, Nothing}
 use Rattle.ledger.specs.Orders.{placeFrom}
 use Rattle.ledger.specs.Records.{orderAt, ordersFrom}
 use Rattle.book.specs.Sound.{Ascending, next}
-use Rattle.layout.specs.Layout.{countWord, ordersWord}
-use Rattle.layout.specs.View.{openOrders}
-use Rattle.layout.specs.Stores.{orderWord, rank}
-use Rattle.layout.proofs.OrderRecords.{order-id}
+use Rattle.layout.specs.Layout.{countWord}
+use Rattle.layout.specs.View.{recordsOf, openOrders}
+use Rattle.layout.specs.Stores.{orderIn, rank}
 use Rattle.layout.proofs.Shifting.{rank-open}
 
 ascending-out : {least : ℕ} {o : Order} {os : List Order} → Ascending least (o ∷ os) → (least < o .id) × Ascending (o .id) os
@@ -108,41 +107,38 @@ module _ (m : List ℕ) (id : ℕ) where
   abbrev count : ℕ
   count = wordAt m countWord
 
-  -- x is the id in record q
-  module _ (few : count ≤ 256) (q x : ℕ) (inside : q < count) (read : x ≡ wordAt m (orderWord q)) where
-    id-read : orderAt (partOf m ordersWord 512) q .id ≡ x
-    id-read = order-id m q (omega arith) ∙ sym read
-
+  -- x is the id of the order at place q
+  module _ (q x : ℕ) (inside : q < count) (read : x ≡ orderIn m q .id) where
     pub at-larger : id < x → rank id (openOrders m) ≤ q
     unfolding openOrders
-    at-larger h = omega (arith, not-before (partOf m ordersWord 512) id count 0 q (omega arith) (omega arith) (omega (arith, id-read)))
+    at-larger h = omega (arith, not-before (recordsOf m) id count 0 q (omega arith) (omega arith) (omega arith))
 
     module _ (up : Ascending 0 (openOrders m)) where
       pub at-other : x ≤ id → q < rank id (openOrders m)
       unfolding openOrders
-      at-other h = omega (arith, before (partOf m ordersWord 512) id count 0 q 0 up (omega arith) (omega arith) (omega (arith, id-read)))
+      at-other h = omega (arith, before (recordsOf m) id count 0 q 0 up (omega arith) (omega arith) (omega arith))
 
   -- the order with the id, if there is one, stands just before the place p
-  module _ (few : count ≤ 256) (up : Ascending 0 (openOrders m)) (p x : ℕ) (is : p ≡ rank id (openOrders m)) (read : x ≡ wordAt m (orderWord (p - 1))) where
+  module _ (up : Ascending 0 (openOrders m)) (p x : ℕ) (is : p ≡ rank id (openOrders m)) (read : x ≡ orderIn m (p - 1) .id) where
     pub found-before : 1 ≤ p → x ≡ id → placeFrom 0 id (openOrders m) ≡ At (p - 1)
     unfolding openOrders
     found-before h same =
         let inside : p - 1 < count = omega (arith, rank-open m id) in
-        found-there (partOf m ordersWord 512) id count 0 (p - 1) 0 up (omega arith) (omega arith) (id-read few (p - 1) x inside read ∙ same)
+        found-there (recordsOf m) id count 0 (p - 1) 0 up (omega arith) (omega arith) (sym read ∙ same)
 
     pub found-none : (1 ≤ p → x ≢ id) → placeFrom 0 id (openOrders m) ≡ Nothing
     unfolding openOrders
     found-none other =
-        let s : List ℕ = partOf m ordersWord 512 in
+        let s : List ℕ = recordsOf m in
         found-nowhere s id count 0
         (λ q low high same. by q high same (before s id count 0 q 0 up (omega arith) (omega arith) (omega arith)) (ℕ-discrete (q + 1) p))
       where
-        by : (q : ℕ) → q < 0 + count → orderAt (partOf m ordersWord 512) q .id ≡ id → q < 0 + rank id (openOrders m) → Dec (q + 1 ≡ p) → ⊥
+        by : (q : ℕ) → q < 0 + count → orderAt (recordsOf m) q .id ≡ id → q < 0 + rank id (openOrders m) → Dec (q + 1 ≡ p) → ⊥
         by q high same passed (yes last) =
             let e : q ≡ p - 1 = omega arith in
-            other (omega arith) (sym (id-read few (p - 1) x (omega arith) read) ∙ ap (λ r. orderAt (partOf m ordersWord 512) r .id) (sym e) ∙ same)
+            other (omega arith) (read ∙ ap (λ r. orderAt (recordsOf m) r .id) (sym e) ∙ same)
         by q high same passed (no earlier) =
-            let s : List ℕ = partOf m ordersWord 512 in
+            let s : List ℕ = recordsOf m in
             let within : rank id (openOrders m) ≤ count = rank-open m id in
             let more : orderAt s q .id < orderAt s (q + 1) .id = rises s count 0 q (q + 1) 0 up (omega arith) (omega arith) (omega (arith, earlier)) in
             let upto : 0 + rank id (openOrders m) ≤ q + 1 = not-before s id count 0 (q + 1) (omega arith) (omega (arith, earlier)) (omega arith) in

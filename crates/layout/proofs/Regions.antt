@@ -5,18 +5,19 @@ use mathlib.Core.Path.{_≡_}
 use mathlib.Core.Logic.{_≢_}
 use native.Mathlib.Omega.{arith}
 use Rattle.ledger.specs.Roster.{Numbered}
-use Rattle.layout.specs.Layout.{memoryBytes, memoryWords, kindWord, rosterWord, countWord, markWord, accountBlockWord, instrumentBlockWord, groupBlockRow, balanceRow, ownSetRow, defaultSetRow, groupSetRow, ownRow, defaultRow, groupRow}
-use Rattle.layout.specs.Stores.{orderWord}
+use Rattle.layout.specs.Layout.{memoryBytes, memoryWords, kindWord, rosterWord, countWord, firstWord, markWord, accountBlockWord, instrumentBlockWord, groupBlockRow, balanceRow, ownSetRow, defaultSetRow, groupSetRow, ownRow, defaultRow, groupRow}
+use Rattle.layout.specs.Stores.{recordWord}
 
 -- word k is one of the words from low to high − 1
 abbrev In : ℕ → ℕ → ℕ → Type 0
 In low high k = (low ≤ k) × (k < high)
 
--- of account a, instrument i, contract c, group g and record p
-pub record Placed (a i c g p : ℕ) : Type 0 where
+-- of account a, instrument i, contract c, group g and record r
+pub record Placed (a i c g r : ℕ) : Type 0 where
   pub kind : In 0 1 kindWord
   pub roster : In 1 77 rosterWord × In 1 77 (rosterWord + 75)
   pub count : In 112 113 countWord
+  pub first : In 113 114 firstWord
   pub mark : In 128 144 (markWord a)
   pub accountBlock : In 144 160 (accountBlockWord a)
   pub instrumentBlock : In 160 192 (instrumentBlockWord i)
@@ -28,15 +29,16 @@ pub record Placed (a i c g p : ℕ) : Type 0 where
   pub own : In 1536 2880 (ownRow a + i * 2) × In 1536 2880 (ownRow a + i * 2 + 1)
   pub default : In 1536 2880 (defaultRow a + c * 2) × In 1536 2880 (defaultRow a + c * 2 + 1)
   pub ofGroup : In 1536 2880 (groupRow a + g)
-  pub order : In 4224 4736 (orderWord p) × In 4224 4736 (orderWord p + 1)
-  pub inside : (4736 ≤ memoryWords) × (memoryWords * 8 ≤ memoryBytes)
+  pub order : In 4224 5248 (recordWord r) × In 4224 5248 (recordWord r + 1)
+  pub inside : (5248 ≤ memoryWords) × (memoryWords * 8 ≤ memoryBytes)
 
-pub placed : (a i c g p : ℕ) → Numbered 16 a → Numbered 32 i → Numbered 8 c → Numbered 4 g → p < 256 → Placed a i c g p
-placed a i c g p on-a on-i on-c on-g h =
+pub placed : (a i c g r : ℕ) → Numbered 16 a → Numbered 32 i → Numbered 8 c → Numbered 4 g → r < 512 → Placed a i c g r
+placed a i c g r on-a on-i on-c on-g h =
     record {
       kind = omega arith;
       roster = omega arith;
       count = omega arith;
+      first = omega arith;
       mark = omega arith;
       accountBlock = omega arith;
       instrumentBlock = omega arith;

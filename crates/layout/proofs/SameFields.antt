@@ -14,22 +14,23 @@ use Rattle.ledger.specs.Roster.{Numbered}
 use Rattle.limits.specs.Lines.{Line, GroupLine, Lines}
 use Rattle.limits.specs.InBytes.{lineAt, groupLineAt}
 use Rattle.book.specs.Books.{Blocks}
-use Rattle.layout.specs.Layout.{countWord, markWord, accountBlockWord, instrumentBlockWord, groupBlockRow, balanceRow, ownSetRow, defaultSetRow, groupSetRow, ownRow, defaultRow, groupRow}
-use Rattle.layout.specs.View.{rosterOf, flag, linesOf, balancesOf, blocksOf, openOrders, tradingOf}
-use Rattle.layout.specs.Stores.{ordersIn}
+use Rattle.layout.specs.Layout.{countWord, firstWord, markWord, accountBlockWord, instrumentBlockWord, groupBlockRow, balanceRow, ownSetRow, defaultSetRow, groupSetRow, ownRow, defaultRow, groupRow}
+use Rattle.layout.specs.View.{rosterOf, flag, linesOf, balancesOf, blocksOf, firstOf, openOrders, tradingOf}
+use Rattle.layout.specs.Stores.{ordersIn, recordsIn}
 use Rattle.layout.proofs.RosterLaws.{Sized}
 use Rattle.layout.proofs.GuardedTables.{tableOf, table-same, rowOf, row-same, same-blocks}
-use Rattle.layout.proofs.OrderRecords.{same-records}
+use Rattle.layout.proofs.OrderRecords.{same-records, open-records}
 
 -- words low to high − 1 are the same
 abbrev pub Same : ℕ → ℕ → List ℕ → List ℕ → Type 0
 Same low high l m = (k : ℕ) → low ≤ k → k < high → wordAt l k ≡ wordAt m k
 
--- a memory that is long enough and holds a roster of sizes within their limits and at most 256 orders
+-- a memory that is long enough and holds a roster of sizes within their limits and at most 256 orders, whose records stand inside their region
 pub record Held (m : List ℕ) : Type 0 where
   pub long : 65536 ≤ length m
   pub sized : Sized (rosterOf m)
   pub count : wordAt m countWord ≤ 256
+  pub first : firstOf m ≤ 256
 
 -- ---- the tables, as the words say them
 abbrev pub balanceAt : List ℕ → ℕ → ℕ → ℤ
@@ -128,11 +129,17 @@ module _ (l m : List ℕ) (held : Held m) (roster : rosterOf l ≡ rosterOf m) w
   unfolding tradingOf
   marks-are = ap (λ r. rowOf (r .accounts) (λ a. flag l (markWord a))) roster
 
-  pub orders-same : wordAt l countWord ≡ wordAt m countWord → Same 4224 6272 l m → openOrders l ≡ openOrders m
+  pub orders-same : wordAt l countWord ≡ wordAt m countWord → wordAt l firstWord ≡ wordAt m firstWord → Same 4224 5248 l m → openOrders l ≡ openOrders m
   unfolding openOrders
-  orders-same count same =
+  orders-same count first same =
+      let n : ℕ = wordAt m countWord in
+      let few : n ≤ 256 = held .count in
+      let inside : firstOf m ≤ 256 = held .first in
       ap (ordersIn l 0) count
-      ∙ same-records l m (wordAt m countWord) 0 (omega (arith, held .count)) (λ j low high. same j (omega arith) (omega (arith, held .count)))
+      ∙ open-records l (omega (arith, first)) n 0 (omega arith)
+      ∙ ap (λ f. recordsIn l (f + 0) n) first
+      ∙ same-records l m n (firstOf m + 0) (omega arith) (λ j low high. same j (omega arith) (omega arith))
+      ∙ sym (open-records m inside n 0 (omega arith))
 
 -- ---- what memories that have the other words in common have in common
 module _ (l m : List ℕ) (held : Held m) (roster : rosterOf l ≡ rosterOf m) where

@@ -34,7 +34,7 @@ module _ (m : List ℕ) (held : Held m) (a i : ℕ) (f : Figures) (small : Small
       let sized = held .sized in
       own-word k (λ e. omega arith) (λ b c. omega arith)
 
-  own-after : Same 4224 6272 own m
+  own-after : Same 4224 5248 own m
   own-after k low high =
       let sized = held .sized in
       own-word k (λ e. omega arith) (λ b c. omega arith)
@@ -67,7 +67,7 @@ module _ (m : List ℕ) (held : Held m) (a c : ℕ) (f : Figures) (small : Small
       let sized = held .sized in
       default-word k (λ e. omega arith) (λ b c. omega arith)
 
-  default-after : Same 4224 6272 default m
+  default-after : Same 4224 5248 default m
   default-after k low high =
       let sized = held .sized in
       default-word k (λ e. omega arith) (λ b c. omega arith)
@@ -100,7 +100,7 @@ module _ (m : List ℕ) (held : Held m) (a g : ℕ) (x y : ℤ) (small : SmallGr
       let sized = held .sized in
       of-group-word k (λ e. omega arith) (λ b c. omega arith)
 
-  of-group-after : Same 4224 6272 of-group m
+  of-group-after : Same 4224 5248 of-group m
   of-group-after k low high =
       let sized = held .sized in
       of-group-word k (λ e. omega arith) (λ b c. omega arith)

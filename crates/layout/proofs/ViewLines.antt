@@ -16,14 +16,14 @@ use Rattle.book.specs.declared.LimitLine.the-variants.{Own, Default, OfGroup}
 use Rattle.book.specs.declared.Event.the-variants.{Limit}
 use Rattle.book.specs.Books.{at, lineOf, groupLineOf, setLine, work}
 use Rattle.book.proofs.Tables.{at-here, at-elsewhere}
-use Rattle.layout.specs.Layout.{countWord}
+use Rattle.layout.specs.Layout.{countWord, firstWord}
 use Rattle.layout.specs.View.{rosterOf, linesOf, bookOf, tradingOf, view}
 use Rattle.layout.proofs.RosterLaws.{roster-same}
 use Rattle.layout.proofs.GuardedTables.{tableOf, same-lines, same-view}
 use Rattle.layout.proofs.SameFields.{Same, Held, ownAt, defaultAt, ofGroupAt, linesBy, balances-same, blocks-same, marks-same, orders-same, lines-are}
 
 -- ---- a memory that differs in words of the lines only
-module _ (l m : List ℕ) (held : Held m) (before : Same 1 768 l m) (after : Same 4224 6272 l m) where
+module _ (l m : List ℕ) (held : Held m) (before : Same 1 768 l m) (after : Same 4224 5248 l m) where
   pub lines-roster : rosterOf l ≡ rosterOf m
   lines-roster = roster-same l m (held .sized) (λ k low high. before k low (omega arith))
 
@@ -34,7 +34,7 @@ module _ (l m : List ℕ) (held : Held m) (before : Same 1 768 l m) (after : Sam
       (balances-same l m held lines-roster (λ k low high. before k (omega arith) high))
       lines
       (blocks-same l m held lines-roster (λ k low high. before k (omega arith) (omega arith)))
-      (orders-same l m held lines-roster (before countWord (omega arith) (omega arith)) after)
+      (orders-same l m held lines-roster (before countWord (omega arith) (omega arith)) (before firstWord (omega arith) (omega arith)) after)
       (marks-same l m held lines-roster (λ k low high. before k (omega arith) (omega arith)))
 
 -- ---- one table of lines changed

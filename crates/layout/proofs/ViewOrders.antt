@@ -13,40 +13,41 @@ use Rattle.book.specs.OpenOrders.{change}
 use Rattle.book.specs.Books.{withOrders}
 use Rattle.layout.specs.Layout.{countWord}
 use Rattle.layout.specs.View.{rosterOf, openOrders, bookOf, tradingOf, view}
-use Rattle.layout.specs.Stores.{orderWord, orderIn, storeOrders, SmallOrders, Records, without}
+use Rattle.layout.specs.Stores.{orderIn, recordWord, storeFrom, SmallOrders, Records, without}
 use Rattle.layout.proofs.RosterLaws.{roster-same}
 use Rattle.layout.proofs.GuardedTables.{same-view}
 use Rattle.layout.proofs.SameFields.{Same, Held, balances-same, lines-same, blocks-same, marks-same}
-use Rattle.layout.proofs.Stored.{length-store, word-store, count-store, orders-store}
+use Rattle.layout.proofs.Stored.{length-store, word-store, count-store, first-store, orders-store}
 use Rattle.layout.proofs.BookLists.{leaving, becoming}
 
 -- ---- the view of stored orders
-module _ (m : List ℕ) (os : List Order) (held : Held m) (few : length os ≤ 256) where
-  elsewhere : (low high : ℕ) → (low ≤ countWord → countWord < high → ⊥) → high ≤ orderWord 0 → Same low high (storeOrders m os) m
-  elsewhere low high apart below k from to =
-      word-store m os few k (λ e. apart (omega arith) (omega arith)) (λ a b. omega arith)
+module _ (m : List ℕ) (f : ℕ) (os : List Order) (held : Held m) (low : f ≤ 256) (few : length os ≤ 256) where
+  elsewhere : (from to : ℕ) → (from < 114 → 112 < to → ⊥) → to ≤ recordWord 0 → Same from to (storeFrom m f os) m
+  elsewhere from to apart below k above under =
+      word-store m f os low few k (λ e. apart (omega arith) (omega arith)) (λ e. apart (omega arith) (omega arith)) (λ a b. omega arith)
 
-  pub roster-orders : rosterOf (storeOrders m os) ≡ rosterOf m
+  pub roster-orders : rosterOf (storeFrom m f os) ≡ rosterOf m
   roster-orders =
-      roster-same (storeOrders m os) m (held .sized) (elsewhere 1 77 (λ a b. omega arith) (omega arith))
+      roster-same (storeFrom m f os) m (held .sized) (elsewhere 1 77 (λ a b. omega arith) (omega arith))
 
-  pub held-orders : Held (storeOrders m os)
+  pub held-orders : Held (storeFrom m f os)
   held-orders =
       record {
-        long = omega (arith, length-store m os, held .long);
+        long = omega (arith, length-store m f os, held .long);
         sized = rw roster-orders (held .sized);
-        count = omega (arith, count-store m os few (held .long));
+        count = omega (arith, count-store m f os low few (held .long));
+        first = omega (arith, first-store m f os low few (held .long));
       }
 
-  pub view-orders : SmallOrders os → view (storeOrders m os) ≡ record { book = withOrders (bookOf m) os; trading = tradingOf m }
+  pub view-orders : SmallOrders os → view (storeFrom m f os) ≡ record { book = withOrders (bookOf m) os; trading = tradingOf m }
   unfolding view bookOf
   view-orders small =
-      let l : List ℕ = storeOrders m os in
+      let l : List ℕ = storeFrom m f os in
       same-view _ _ _ _ _ _ _ _ _ _
       (balances-same l m held roster-orders (elsewhere 256 768 (λ a b. omega arith) (omega arith)))
       (lines-same l m held roster-orders (elsewhere 768 1472 (λ a b. omega arith) (omega arith)) (elsewhere 1536 2880 (λ a b. omega arith) (omega arith)))
       (blocks-same l m held roster-orders (elsewhere 144 256 (λ a b. omega arith) (omega arith)))
-      (orders-store m os few (held .long) small)
+      (orders-store m f os low few (held .long) small)
       (marks-same l m held roster-orders (elsewhere 128 144 (λ a b. omega arith) (omega arith)))
 
 -- ---- the lists are the book's

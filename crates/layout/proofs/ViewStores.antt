@@ -12,7 +12,7 @@ use Rattle.ledger.specs.declared.order.Order.{Order}
 use Rattle.ledger.specs.Roster.{Numbered}
 use Rattle.book.specs.declared.Event.the-variants.{Balance}
 use Rattle.book.specs.Books.{at, work}
-use Rattle.layout.specs.Layout.{countWord, markWord, balanceRow}
+use Rattle.layout.specs.Layout.{countWord, firstWord, markWord, balanceRow}
 use Rattle.layout.specs.View.{rosterOf, flag, linesOf, balancesOf, openOrders, bookOf, tradingOf, view}
 use Rattle.layout.specs.FieldStores.{storeBalance, storeMark}
 use Rattle.layout.proofs.RosterLaws.{roster-same}
@@ -31,7 +31,7 @@ module _ (l m : List ℕ) (held : Held m) (j : ℕ) (others : Except j l m) (fro
 
   pub one-orders : openOrders l ≡ openOrders m
   one-orders =
-      orders-same l m held one-roster (others countWord (λ e. omega arith)) (except-same l m j 4224 6272 others (λ low high. omega arith))
+      orders-same l m held one-roster (others countWord (λ e. omega arith)) (others firstWord (λ e. omega arith)) (except-same l m j 4224 5248 others (λ low high. omega arith))
 
 -- ---- a balance
 module _ (m : List ℕ) (held : Held m) (a i : ℕ) (z : ℤ) (on-a : Numbered (rosterOf m .accounts) a) (on-i : Numbered (rosterOf m .instruments) i) (fits : SFits w64 z) where

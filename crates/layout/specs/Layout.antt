@@ -6,6 +6,7 @@
 --   1..76         roster: sizes, groups, contracts, weights        4 + 8 + 32 + 32
 --   77..108       spare: lots                                      32
 --   112           count of open orders                             1
+--   113           records of the region before the first in use    1
 --   128..143      trading marks                                    16
 --   144..159      blocked accounts                                 16
 --   160..191      blocked instruments                              32
@@ -17,8 +18,8 @@
 --   1536..2879    lines, a row for each account: own, default      16 × 84
 --                 (TCI TVI, LCI LVI), then group (LCC LVC)         84 = 32 × 2 + 8 × 2 + 4
 --   2880..4223    spare: lines of a desk in money                  16 × 168 from 1536 on
---   4224..4735    order records: id, detail                        256 × 2
---   4736..6271    spare
+--   4224..5247    order records: id, detail                        512 × 2
+--   5248..6271    spare
 --   6272..7295    spare: contracts bought and sold                 16 × 32 × 2
 --   7296..7935    spare: margin settings, and whether set          16 × 8 × 5
 use Prim.Native.Nat.{ℕ, _+_, _*_}
@@ -38,6 +39,9 @@ rosterWord = 1
 
 abbrev pub countWord : ℕ
 countWord = 112
+
+abbrev pub firstWord : ℕ
+firstWord = 113
 
 abbrev pub ordersWord : ℕ
 ordersWord = 4224

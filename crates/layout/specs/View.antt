@@ -14,7 +14,7 @@ use Rattle.limits.specs.InBytes.{lineAt, groupLineAt}
 use Rattle.book.specs.Decoding.{between}
 use Rattle.book.specs.Books.{Blocks, Book}
 use Rattle.book.specs.Kept.{Kept}
-use Rattle.layout.specs.Layout.{rosterWord, countWord, ordersWord, markWord, accountBlockWord, instrumentBlockWord, groupBlockRow, balanceRow, ownSetRow, defaultSetRow, groupSetRow, ownRow, defaultRow, groupRow}
+use Rattle.layout.specs.Layout.{rosterWord, countWord, firstWord, ordersWord, markWord, accountBlockWord, instrumentBlockWord, groupBlockRow, balanceRow, ownSetRow, defaultSetRow, groupSetRow, ownRow, defaultRow, groupRow}
 use Rattle.layout.specs.Rosters.{listed}
 
 -- the roster
@@ -57,9 +57,17 @@ blocksOf m =
       group = λ a g. onRoster (r .accounts) (r .groups) a g (flag m (groupBlockRow a + g)) false;
     }
 
+-- how many records of the region stand before those in use
+abbrev pub firstOf : List ℕ → ℕ
+firstOf m = wordAt m firstWord
+
+-- the region from the first record in use on, of at most 256
+abbrev pub recordsOf : List ℕ → List ℕ
+recordsOf m = partOf m (ordersWord + firstOf m * 2) 512
+
 -- the open orders: a count, then that many records
 unfoldable pub openOrders : List ℕ → List Order
-openOrders m = ordersFrom (partOf m ordersWord 512) 0 (wordAt m countWord)
+openOrders m = ordersFrom (recordsOf m) 0 (wordAt m countWord)
 
 unfoldable pub bookOf : List ℕ → Book
 bookOf m =

@@ -2,21 +2,21 @@
 // by one, and branches on none of them: where the place is cannot be foretold, and a branch taken wrongly costs more than the count.
 ghost use mathlib.Core.Path.{_≡_};
 ghost use Prim.Native.Nat.{_+_, _*_, _≤_, _<_};
-ghost use lib.ListN.{length};
 ghost use Rattle.words.specs.Words.{wordAt};
-ghost use Rattle.layout.specs.Layout.{memoryBytes, countWord};
+ghost use Rattle.layout.specs.Layout.{countWord};
 ghost use Rattle.layout.specs.View.{openOrders};
-ghost use Rattle.layout.specs.Stores.{orderWord, rank, Ranked};
+ghost use Rattle.layout.specs.Stores.{orderIn, Records, rank, Ranked};
+use crate::orders::records;
 use crate::table::COUNT;
-use crate::table::ORDERS;
+use ledger::records::id_in;
 use words::word;
 
-// The id in record `p`.
+// The id of the open order at place `p`.
 pub fn id_at(m: &[u8], p: usize) -> u64
-    requires { ⌜ (memoryBytes ≤ length (now m)) × (p < 256) ⌝ }
-    ensures { λ r. ⌜ r ≡ wordAt (now (m .entry)) (orderWord p) ⌝ }
+    requires { ⌜ Records (now m) × (p < 256) ⌝ }
+    ensures { λ r. ⌜ r ≡ orderIn (now (m .entry)) p .id ⌝ }
 {
-    word(m, ORDERS + p * 2)
+    id_in(records(m), p)
 }
 
 // 1 for an id that is not larger, else 0.

@@ -25,6 +25,8 @@ pub const WEIGHTS: usize = 44;
 
 pub const COUNT: usize = 112;
 
+pub const FIRST: usize = 113;
+
 pub const MARKS: usize = 127;
 
 pub const ACCOUNT_BLOCKS: usize = 143;

@@ -14,3 +14,4 @@ pub mod Changes
 pub mod Formulas
 pub mod Examples
 pub mod Packing
+pub mod Details

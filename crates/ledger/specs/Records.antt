@@ -44,6 +44,11 @@ packedInstrument w = w % 32 + 1
 unfoldable pub detail : Order → ℕ
 detail o = packed (o .side) (o .account) (o .instrument) + o .filled * 1024 + remaining o * 137438953472
 
+-- what a detail says: side, account and instrument as one number, and with those of `packedSide` and the next two, what is
+-- filled and what remains
+abbrev pub detailPacked : ℕ → ℕ
+detailPacked w = w % 1024
+
 abbrev pub detailFilled : ℕ → ℕ
 detailFilled w = w / 1024 % 134217728
 
@@ -69,9 +74,23 @@ orderOf id w =
       filled = detailFilled w;
     }
 
--- the order in record p: its id, then its detail
+-- the account and the instrument of an order, what is filled of it and what remains are at most those that a detail says
+pub record Within (w : ℕ) (o : Order) : Type 0 where
+  pub account : o .account ≤ packedAccount w
+  pub instrument : o .instrument ≤ packedInstrument w
+  pub filled : o .filled ≤ detailFilled w
+  pub remaining : remaining o ≤ detailRemaining w
+
+-- the words of record p: the id, then the detail
+abbrev pub idAt : List ℕ → ℕ → ℕ
+idAt m p = wordAt m (p * 2)
+
+abbrev pub detailAt : List ℕ → ℕ → ℕ
+detailAt m p = wordAt m (p * 2 + 1)
+
+-- the order in record p
 unfoldable pub orderAt : List ℕ → ℕ → Order
-orderAt m p = orderOf (wordAt m (p * 2)) (wordAt m (p * 2 + 1))
+orderAt m p = orderOf (idAt m p) (detailAt m p)
 
 -- the orders in the n records from record p on
 unfoldable pub ordersFrom : List ℕ → ℕ → ℕ → List Order

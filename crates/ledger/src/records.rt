@@ -1,8 +1,8 @@
 // Orders in flat records: record p is words 2 p and 2 p + 1 of the lent bytes.
 ghost use mathlib.Core.Path.{_≡_};
-ghost use Prim.Native.Nat.{_+_, _*_, _≤_};
+ghost use Prim.Native.Nat.{ℕ, _+_, _*_, _≤_};
 ghost use lib.ListN.{length};
-ghost use Rattle.ledger.specs.Records.{sideOf, numberOf, packed, Packable, packedSide, detail, Storable, orderAt};
+ghost use Rattle.ledger.specs.Records.{sideOf, numberOf, packed, Packable, packedSide, packedAccount, packedInstrument, detail, detailPacked, detailFilled, detailRemaining, Storable, Within, orderOf, idAt, detailAt, orderAt};
 use crate::order::Order;
 use crate::order::Side;
 use words::word;
@@ -35,7 +35,22 @@ pub fn pack(side: Side, account: u64, instrument: u64) -> u64
     }
 }
 
-// The side in a packed number.
+// All of an order but its id, as one word.
+pub fn detail(o: Order) -> u64
+    requires { ⌜ Storable o ⌝ }
+    ensures { λ r. ⌜ r ≡ detail o ⌝ }
+{
+    let side = o.side;
+    pack(side, o.account, o.instrument) + o.filled * 1024 + (o.total - o.filled) * 137438953472
+}
+
+// What a detail says: side, account and instrument as one number, then each of them.
+pub fn packed_of(w: u64) -> u64
+    ensures { λ r. ⌜ r ≡ detailPacked w ⌝ }
+{
+    w % 1024
+}
+
 fn packed_side(w: u64) -> Side
     ensures { λ r. ⌜ r ≡ packedSide w ⌝ }
 {
@@ -46,13 +61,51 @@ fn packed_side(w: u64) -> Side
     }
 }
 
-// All of an order but its id, as one word.
-pub fn detail(o: Order) -> u64
-    requires { ⌜ Storable o ⌝ }
-    ensures { λ r. ⌜ r ≡ detail o ⌝ }
+pub fn account_of(w: u64) -> u64
+    ensures { λ r. ⌜ r ≡ packedAccount w ⌝ }
 {
-    let side = o.side;
-    pack(side, o.account, o.instrument) + o.filled * 1024 + (o.total - o.filled) * 137438953472
+    w / 64 % 16 + 1
+}
+
+pub fn instrument_of(w: u64) -> u64
+    ensures { λ r. ⌜ r ≡ packedInstrument w ⌝ }
+{
+    w % 32 + 1
+}
+
+// What is filled, and what remains.
+pub fn filled_of(w: u64) -> u64
+    ensures { λ r. ⌜ r ≡ detailFilled w ⌝ }
+{
+    w / 1024 % 134217728
+}
+
+pub fn remaining_of(w: u64) -> u64
+    ensures { λ r. ⌜ r ≡ detailRemaining w ⌝ }
+{
+    w / 137438953472
+}
+
+// A detail with the bits of `all` and of `w`: each figure is at least that of either.
+pub fn joined(all: u64, w: u64) -> u64
+    ensures { λ r. ⌜ ((o : Order) → Within all o → Within r o) × ((id : ℕ) → Within r (orderOf id w)) ⌝ }
+{
+    all | w
+}
+
+// The id and the detail in record `p`.
+pub fn id_in(orders: &[u8], p: usize) -> u64
+    requires { ⌜ p * 16 + 16 ≤ length (now orders) ⌝ }
+    ensures { λ r. ⌜ r ≡ idAt (now (orders .entry)) p ⌝ }
+{
+    word(orders, p * 2)
+}
+
+pub fn detail_in(orders: &[u8], p: usize) -> u64
+    requires { ⌜ p * 16 + 16 ≤ length (now orders) ⌝ }
+    ensures { λ r. ⌜ r ≡ detailAt (now (orders .entry)) p ⌝ }
+{
+    word(orders, p * 2 + 1)
 }
 
 // The order in record `p`.
@@ -60,15 +113,14 @@ pub fn load(orders: &[u8], p: usize) -> Order
     requires { ⌜ p * 16 + 16 ≤ length (now orders) ⌝ }
     ensures { λ r. ⌜ r ≡ orderAt (now (orders .entry)) p ⌝ }
 {
-    let k = p * 2;
-    let w = word(orders, k + 1);
-    let filled = w / 1024 % 134217728;
+    let w = detail_in(orders, p);
+    let filled = filled_of(w);
     Order {
-        id: word(orders, k),
-        account: w / 64 % 16 + 1,
-        instrument: w % 32 + 1,
+        id: id_in(orders, p),
+        account: account_of(w),
+        instrument: instrument_of(w),
         side: packed_side(w),
-        total: filled + w / 137438953472,
+        total: filled + remaining_of(w),
         filled,
     }
 }

@@ -19,8 +19,8 @@ use Rattle.limits.specs.Questions.{firstNo}
 use Rattle.book.specs.Decoding.{between}
 use Rattle.book.specs.Market.{derivatives}
 use Rattle.book.proofs.Tables.{between-numbered}
-use Rattle.layout.specs.Layout.{rosterWord, countWord, ordersWord, balanceRow}
-use Rattle.layout.specs.View.{rosterOf, openOrders}
+use Rattle.layout.specs.Layout.{rosterWord, countWord, balanceRow}
+use Rattle.layout.specs.View.{rosterOf, recordsOf, openOrders}
 use Rattle.soundness.specs.Soundness.{soundDesk}
 use Rattle.soundness.proofs.SoundDesk.{sound-out}
 use Rattle.soundness.proofs.Bounded.{row-balance}
@@ -60,16 +60,16 @@ module _ (report before : List ℤ) {k answer : ℕ} (e : k ≡ answer) where
 
 -- ---- what the ledger answers over the desk's parts is the report
 module _ (m : List ℕ) (a : ℕ) (read : Read m a) where
-  pub instrument-told : (i : ℕ) → Numbered (rosterOf m .instruments) i → (p : InstrumentPosition) → InInstrument (partOf m ordersWord 512) (wordAt m countWord) (partOf m (balanceRow a) 33) a i p → p .balance .0 ∷ p .long .0 ∷ p .short .0 ∷ [] ≡ instrumentReport m a i
+  pub instrument-told : (i : ℕ) → Numbered (rosterOf m .instruments) i → (p : InstrumentPosition) → InInstrument (recordsOf m) (wordAt m countWord) (partOf m (balanceRow a) 33) a i p → p .balance .0 ∷ p .long .0 ∷ p .short .0 ∷ [] ≡ instrumentReport m a i
   unfolding instrumentReport positionIn openOrders derivatives potential
   instrument-told i on p told =
-      let os = ordersFrom (partOf m ordersWord 512) 0 (wordAt m countWord) in
+      let os = ordersFrom (recordsOf m) 0 (wordAt m countWord) in
       rw (told .its-balance, row-balance m (read .held) a (read .account) i on, told .its-long, told .its-short, ← words-potential m (read .held) a (read .account) one os (instrument i) on long, ← words-potential m (read .held) a (read .account) one os (instrument i) on short)
 
-  pub group-told : (g : ℕ) (p : GroupPosition) → InGroup (partOf m ordersWord 512) (wordAt m countWord) (partOf m (balanceRow a) 33) (partOf m rosterWord 76) a g p → p .long .0 ∷ p .short .0 ∷ [] ≡ groupReport m a g
+  pub group-told : (g : ℕ) (p : GroupPosition) → InGroup (recordsOf m) (wordAt m countWord) (partOf m (balanceRow a) 33) (partOf m rosterWord 76) a g p → p .long .0 ∷ p .short .0 ∷ [] ≡ groupReport m a g
   unfolding groupReport positionIn openOrders derivatives
   group-told g p told =
-      let os = ordersFrom (partOf m ordersWord 512) 0 (wordAt m countWord) in
+      let os = ordersFrom (recordsOf m) 0 (wordAt m countWord) in
       rw (told .its-long, told .its-short, words-potential m (read .held) a (read .account) one os (group g) tt long, words-potential m (read .held) a (read .account) one os (group g) tt short)
 
 -- ---- what the questions tell

@@ -5,9 +5,9 @@ ghost use Rattle.book.specs.Answers.{numberOf};
 ghost use Rattle.layout.specs.View.{rosterOf};
 ghost use Rattle.reading.specs.Reading.{Read, instrumentAnswer, groupAnswer, instrumentReport, groupReport, reported};
 use book::Answer;
+use layout::orders::records;
 use layout::table::BALANCES;
 use layout::table::COUNT;
-use layout::table::ORDERS;
 use layout::table::ROSTER;
 use ledger::units::Contracts;
 use ledger::units::Weighted;
@@ -40,7 +40,7 @@ fn instrument_report(m: &[u8], account: u64, instrument: u64) -> [i64; 3]
     ensures { λ r. ⌜ r ≡ instrumentReport (now (m .entry)) account instrument ⌝ }
 {
     let at = listed_position(
-        part(m, ORDERS, 512),
+        records(m),
         word(m, COUNT) as usize,
         part(m, BALANCES + account as usize * 32, 33),
         account,
@@ -58,7 +58,7 @@ fn group_report(m: &[u8], account: u64, group: u64) -> [i64; 2]
     ensures { λ r. ⌜ r ≡ groupReport (now (m .entry)) account group ⌝ }
 {
     let at = group_position(
-        part(m, ORDERS, 512),
+        records(m),
         word(m, COUNT) as usize,
         part(m, BALANCES + account as usize * 32, 33),
         part(m, ROSTER, 76),

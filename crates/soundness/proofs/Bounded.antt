@@ -19,15 +19,16 @@ use Rattle.ledger.specs.Derivatives.{one}
 use Rattle.positions.proofs.Counting.{small-orders}
 use Rattle.ledger.proofs.Sums.{open-nonneg}
 use Rattle.book.specs.Market.{derivatives}
-use Rattle.layout.specs.Layout.{countWord, rosterWord, ordersWord, balanceRow}
+use Rattle.layout.specs.Layout.{countWord, rosterWord, balanceRow}
 use Rattle.layout.specs.Rosters.{listed}
-use Rattle.layout.specs.View.{rosterOf, balancesOf, openOrders, bookOf, tradingOf, view}
+use Rattle.layout.specs.View.{rosterOf, balancesOf, recordsOf, openOrders, bookOf, tradingOf, view}
+use Rattle.layout.proofs.OrderRecords.{records-long}
 use Rattle.soundness.specs.Cells.{Readable}
 use Rattle.soundness.specs.Held.{Held}
 use Rattle.soundness.proofs.Places.{balance-word}
 use Rattle.soundness.proofs.Records.{remaining-small}
 use Rattle.soundness.proofs.RosterLaws.{roster-long, contract-word, weight-word}
-use Rattle.soundness.proofs.SoundDesk.{all-fit, held-count}
+use Rattle.soundness.proofs.SoundDesk.{all-fit, held-count, held-records}
 
 -- a signed word of a part is one of the whole
 signed-part : (m : List ℕ) (k n j : ℕ) → j < n → signedAt (partOf m k n) j ≡ signedAt m (k + j)
@@ -66,17 +67,17 @@ module _ (m : List ℕ) (h : Held m) where
       }
 
   -- ---- the open orders
-  pub records-there : wordAt m countWord * 16 ≤ length (partOf m ordersWord 512)
-  records-there = omega (arith, held-count m h, length-part m ordersWord 512 (omega (arith, h .long)))
+  pub records-there : wordAt m countWord * 16 ≤ length (recordsOf m)
+  records-there = omega (arith, held-count m h, records-long m (held-records m h))
 
-  pub order-small : (p : ℕ) → p < wordAt m countWord → remaining (orderAt (partOf m ordersWord 512) p) ≤ 1000000
+  pub order-small : (p : ℕ) → p < wordAt m countWord → remaining (orderAt (recordsOf m) p) ≤ 1000000
   order-small p l =
-      remaining-small (rosterOf m) (tradingOf m) (orderAt (partOf m ordersWord 512) p) (all-fit m h p l)
+      remaining-small (rosterOf m) (tradingOf m) (orderAt (recordsOf m) p) (all-fit m h p l)
 
   -- B and V
-  pub open-small : (s : Side) (a i : ℕ) → natAbs (openOn one (ordersFrom (partOf m ordersWord 512) 0 (wordAt m countWord)) s a i) ≤ 256000000
+  pub open-small : (s : Side) (a i : ℕ) → natAbs (openOn one (ordersFrom (recordsOf m) 0 (wordAt m countWord)) s a i) ≤ 256000000
   open-small s a i =
-      omega (arith, held-count m h, small-orders (partOf m ordersWord 512) (wordAt m countWord) 1000000 order-small s a i)
+      omega (arith, held-count m h, small-orders (recordsOf m) (wordAt m countWord) 1000000 order-small s a i)
 
   pub unfilled-small : (s : Side) (a i : ℕ) → natAbs (openOn one (openOrders m) s a i) ≤ 256000000
   unfolding openOrders
@@ -100,7 +101,7 @@ module _ (m : List ℕ) (h : Held m) where
     row-balance i l =
         signed-part m (balanceRow a) 33 i (omega (arith, held-readable .instruments)) ∙ sym (balance-word m a i on l)
 
-    pub instrument-bounds : (i : ℕ) → Numbered (rosterOf m .instruments) i → InstrumentBounds (partOf m ordersWord 512) (wordAt m countWord) (partOf m (balanceRow a) 33) a i
+    pub instrument-bounds : (i : ℕ) → Numbered (rosterOf m .instruments) i → InstrumentBounds (recordsOf m) (wordAt m countWord) (partOf m (balanceRow a) 33) a i
     instrument-bounds i l =
         record {
           orders-long = records-there;
@@ -108,7 +109,7 @@ module _ (m : List ℕ) (h : Held m) where
           small = λ s. omega (arith, open-small s a i, ap natAbs (row-balance i l), balance-small a i);
         }
 
-    gather-bounds : GatherBounds (partOf m ordersWord 512) (wordAt m countWord) a
+    gather-bounds : GatherBounds (recordsOf m) (wordAt m countWord) a
     gather-bounds =
         record {
           long = records-there;
@@ -123,5 +124,5 @@ module _ (m : List ℕ) (h : Held m) where
           balance = λ i l. omega (arith, ap natAbs (row-balance i (rw (instruments-same m) at l)), balance-small a i);
         }
 
-    pub group-bounds : GroupBounds (partOf m ordersWord 512) (wordAt m countWord) (partOf m (balanceRow a) 33) (partOf m rosterWord 76) a
+    pub group-bounds : GroupBounds (recordsOf m) (wordAt m countWord) (partOf m (balanceRow a) 33) (partOf m rosterWord 76) a
     group-bounds = record { orders-small = gather-bounds; balances-small = balance-bounds; roster-small = roster-bounds }

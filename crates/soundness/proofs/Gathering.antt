@@ -1,36 +1,35 @@
 -- The cells in which B and V of all accounts are gathered, order by order.
 use Prim.Native.Nat.{ℕ, suc, _+_, _*_, _-_, _^_, _≤_, _<_}
-use mathlib.Core.Path.{_≡_, refl, _∙_, sym}
+use mathlib.Core.Path.{_≡_, refl, _∙_, sym, ap}
 use mathlib.Core.Logic.{_≢_}
 use mathlib.Core.Bool.{true, false, true≢false, _&&_}
 use mathlib.Core.List.{List}
 use native.Mathlib.Decide.{ℕ-discrete}
 use native.Mathlib.Omega.{arith}
 use lib.Dec.{ltb}
-use lib.Bits.{bitOr}
 use borrow.Author.Tests.{lt-ltb, le-ltb}
 use lib.ListN.{length, getD, set, replicate, length-set, length-replicate}
 use lib.Seq.{getD-set-same, getD-set-other}
 use lib.IntN.{pos, _+ℤ_, +ℤ-idl}
-use Rattle.words.specs.Words.{wordAt, partOf}
+use Rattle.words.specs.Words.{wordAt}
 use Rattle.ledger.specs.declared.order.Order.{Order}
 use Rattle.ledger.specs.declared.order.Side.{Side}
 use Rattle.ledger.specs.declared.order.Side.the-variants.{Buy, Sell}
 use Rattle.ledger.specs.Orders.{remaining}
 use Rattle.ledger.specs.Roster.{Numbered}
-use Rattle.ledger.specs.Records.{orderOf, orderAt, ordersFrom}
+use Rattle.ledger.specs.Records.{detailRemaining, Within, orderOf, idAt, detailAt, orderAt, ordersFrom}
 use Rattle.ledger.proofs.Packing.{word-storable}
+use Rattle.ledger.proofs.Details.{remaining-of, order-of, id-at}
 use Rattle.ledger.specs.Derivatives.{counted}
 use Rattle.positions.specs.Gathered.{cell as cellOf}
 use Rattle.positions.proofs.Gathering.{same-itself, empty-at}
 use Rattle.positions.proofs.Counting.{counted-other-account, counted-other-instrument, counted-other-side, counted-own, left, counted-more, counted-all}
-use Rattle.layout.specs.Layout.{countWord, ordersWord}
-use Rattle.layout.specs.View.{openOrders}
+use Rattle.layout.specs.Layout.{countWord}
+use Rattle.layout.specs.View.{recordsOf, openOrders}
 use Rattle.soundness.specs.Soundness.{ascend}
 use Rattle.soundness.specs.Cells.{cell, added, Empty, Sums}
-use Rattle.soundness.specs.Each.{Tells, Each, Remains, Within}
+use Rattle.soundness.specs.Each.{Tells, Each, Remains}
 use Rattle.soundness.proofs.Telling.{tells-yes, tells-no, below, each-in, each-out}
-use Rattle.soundness.proofs.Details.{remains-some, joined-before, joined-here}
 
 pub cell-inside : (s : Side) (a i : ℕ) → a ≤ 16 → i ≤ 32 → cell s a i < 1089
 cell-inside Buy a i h l = omega arith
@@ -138,26 +137,28 @@ module _ (s : List ℕ) (n : ℕ) (cells : List ℕ) where
         )
 
     -- the next record: its id and its detail
-    module _ (id w : ℕ) (h : p < n) (is-id : id ≡ wordAt s (p * 2)) (is-detail : w ≡ wordAt s (p * 2 + 1)) where
+    module _ (id w : ℕ) (h : p < n) (is-id : id ≡ idAt s p) (is-detail : w ≡ detailAt s p) where
       here : orderOf id w ≡ orderAt s p
-      unfolding orderAt
-      here = rw (is-id, is-detail)
+      here = rw (is-id, is-detail) (sym (order-of s p))
 
       turn : ascend last (ordersFrom s p (n - p)) ≡ (ltb last id && ascend id (ordersFrom s (p + 1) (n - (p + 1))))
-      unfolding ordersFrom ascend orderAt orderOf
+      unfolding ordersFrom ascend
       turn =
           let e : n - p ≡ suc (n - (p + 1)) = omega arith in
-          rw (e, ← is-id)
+          let same : orderAt s p .id ≡ id = id-at s p ∙ sym is-id in
+          rw (e, same)
 
       pub passed-id : id ≤ last → ascend 0 (ordersFrom s 0 n) ≡ false
       passed-id low = past .ids ∙ turn ∙ rw (le-ltb last id low)
 
-      pub passed-nothing : w < 137438953472 → remaining (orderAt s p) ≡ 0
-      unfolding remaining orderOf
-      passed-nothing less = rw (← here) (omega arith)
+      rest : remaining (orderAt s p) ≡ detailRemaining w
+      rest = ap remaining (sym here) ∙ remaining-of id w
 
-      pub passed-more : last < id → 137438953472 ≤ w → w < 2 ^ 64 → (cells′ : List ℕ) → cells′ ≡ added cells (orderOf id w) → Passed s n cells′ id (bitOr all w) (p + 1)
-      passed-more above some word cells′ e =
+      pub passed-nothing : (r : ℕ) → r ≡ detailRemaining w → r ≡ 0 → remaining (orderAt s p) ≡ 0
+      passed-nothing r is none = rest ∙ sym is ∙ none
+
+      pub passed-more : last < id → (r : ℕ) → r ≡ detailRemaining w → r ≢ 0 → w < 2 ^ 64 → (all′ : ℕ) → ((o : Order) → Within all o → Within all′ o) × ((j : ℕ) → Within all′ (orderOf j w)) → (cells′ : List ℕ) → cells′ ≡ added cells (orderOf id w) → Passed s n cells′ id all′ (p + 1)
+      passed-more above r is some word all′ joined cells′ e =
           let o = orderOf id w in
           let fits = word-storable id w word in
           let account = fits .packable .0 in
@@ -165,15 +166,15 @@ module _ (s : List ℕ) (n : ℕ) (cells : List ℕ) where
           record {
             upto = omega arith;
             ids = past .ids ∙ turn ∙ rw (lt-ltb last id above);
-            remain = below (λ q. Remains (orderAt s q)) p (past .remain) (rw (← here) (remains-some id w some));
-            within = below (λ q. Within (bitOr all w) (orderAt s q)) p (λ q l. joined-before all w (orderAt s q) (past .within q l)) (rw (← here) (joined-here all id w));
+            remain = below (λ q. Remains (orderAt s q)) p (past .remain) (omega (arith, rest, is, some));
+            within = below (λ q. Within all′ (orderAt s q)) p (λ q l. joined .0 (orderAt s q) (past .within q l)) (rw (← here) (joined .1 id));
             size = rw e (added-length cells o (past .size) account instrument);
             small = λ j. rw e (omega (arith, added-small cells o (past .size) account instrument (p * 134217728) 134217728 (past .small) (omega (arith, fits .remaining)) j));
             sums = λ v a i k l. rw (e, added-at cells o (past .size) account instrument v a i k l) (counted-more s n v a i (getD cells (cell v a i) 0) p (counted o v a i) o h here refl (past .sums v a i k l));
           }
 
 -- ---- a memory: s is its part with the records, n its count
-module _ (m s : List ℕ) (n : ℕ) (count : n ≡ wordAt m countWord) (records : s ≡ partOf m ordersWord 512) where
+module _ (m s : List ℕ) (n : ℕ) (count : n ≡ wordAt m countWord) (records : s ≡ recordsOf m) where
   abbrev pub InOrder : Type 0
   InOrder = (ascend 0 (openOrders m) ≡ true) × Each m Remains
 

@@ -4,16 +4,11 @@ use mathlib.Core.Path.{_≡_}
 use native.Mathlib.Decide.{ℕ-discrete, decLe}
 use native.Mathlib.Omega.{arith}
 use lib.IntN.{pos, natAbs, _-ℤ_}
-use lib.Bits.{bitOr, or-add-and, and-le-l, and-le-r}
+use lib.Bits.{bitOr}
 use Rattle.integers.specs.Parts.{signed, difference-parts, magnitude-parts}
 use Rattle.integers.specs.TwosComplement.{signedOf, signed-small, signed-large}
+use Rattle.words.proofs.Bits.{or-left, or-right}
 use Rattle.soundness.specs.Cells.{moved}
-
-pub or-left : (a b : ℕ) → a ≤ bitOr a b
-or-left a b = omega (arith, or-add-and a b, and-le-r a b)
-
-pub or-right : (a b : ℕ) → b ≤ bitOr a b
-or-right a b = omega (arith, or-add-and a b, and-le-l a b)
 
 -- one number more: r is at least f of the j numbers from k on, x at least f of the next
 pub joined-more : (f : ℕ → ℕ) (k j r x : ℕ) → ((p : ℕ) → k ≤ p → p < k + j → f p ≤ r) → f (k + j) ≤ x → (p : ℕ) → k ≤ p → p < k + (j + 1) → f p ≤ bitOr r x

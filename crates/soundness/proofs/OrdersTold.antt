@@ -5,13 +5,13 @@ use mathlib.Core.Bool.{Bool, true, false, _&&_}
 use mathlib.Core.List.{List}
 use native.Mathlib.Omega.{arith}
 use lib.IntN.{natAbs}
-use Rattle.words.specs.Words.{wordAt, partOf}
+use Rattle.words.specs.Words.{wordAt}
 use Rattle.ledger.specs.Orders.{remaining}
 use Rattle.ledger.specs.Records.{orderAt}
 use Rattle.positions.proofs.Counting.{small-orders}
 use Rattle.limits.proofs.Answers.{both-true, and-true}
-use Rattle.layout.specs.Layout.{countWord, ordersWord}
-use Rattle.layout.specs.View.{rosterOf, tradingOf, openOrders}
+use Rattle.layout.specs.Layout.{countWord}
+use Rattle.layout.specs.View.{rosterOf, tradingOf, recordsOf, openOrders}
 use Rattle.soundness.specs.Soundness.{ascend, ordersSound}
 use Rattle.soundness.specs.Cells.{Sums, Gathered}
 use Rattle.soundness.specs.Each.{Tells, Each, Remains, TotalFits, Marked}
@@ -28,14 +28,14 @@ module _ (m : List ℕ) where
   unfolding ordersSound
   out e =
       let both = both-true (ascend 0 (openOrders m)) (ordersSound m) e in
-      let fit : (p : ℕ) → p < wordAt m countWord → Fit (rosterOf m) (tradingOf m) (orderAt (partOf m ordersWord 512) p) = λ p l. records-out (partOf m ordersWord 512) (rosterOf m) (tradingOf m) 0 (wordAt m countWord) (both .1) p (omega arith) (omega arith) in
+      let fit : (p : ℕ) → p < wordAt m countWord → Fit (rosterOf m) (tradingOf m) (orderAt (recordsOf m) p) = λ p l. records-out (recordsOf m) (rosterOf m) (tradingOf m) 0 (wordAt m countWord) (both .1) p (omega arith) (omega arith) in
       ((both .0, λ p l. fit p l .remains), (λ p l. fit p l .total .1), (λ p l. let f = fit p l in record { account = f .account; instrument = f .instrument; marked = f .marked }))
 
   into : OrdersFit → (ascend 0 (openOrders m) && ordersSound m) ≡ true
   unfolding ordersSound remaining
   into h =
       and-true (ascend 0 (openOrders m)) (ordersSound m) (h .0 .0)
-      (records-in (partOf m ordersWord 512) (rosterOf m) (tradingOf m) 0 (wordAt m countWord)
+      (records-in (recordsOf m) (rosterOf m) (tradingOf m) 0 (wordAt m countWord)
       (λ q a b. let l : q < wordAt m countWord = omega arith in let k = h .2 q l in record { account = k .account; instrument = k .instrument; total = (omega (arith, h .0 .1 q l), h .1 q l); remains = h .0 .1 q l; marked = k .marked }))
 
   told : Tells (ascend 0 (openOrders m) && ordersSound m) OrdersFit
@@ -62,5 +62,5 @@ module _ (m : List ℕ) where
   gathered-small cells few totals sums =
       record {
         sums = sums;
-        small = λ v a i h l. let most = small-orders (partOf m ordersWord 512) (wordAt m countWord) 1000000 (λ p k. omega (arith, totals p k)) v a i in omega (arith, most, few, ap natAbs (sums .sums v a i h l));
+        small = λ v a i h l. let most = small-orders (recordsOf m) (wordAt m countWord) 1000000 (λ p k. omega (arith, totals p k)) v a i in omega (arith, most, few, ap natAbs (sums .sums v a i h l));
       }

@@ -5,13 +5,14 @@ use mathlib.Core.Bool.{true}
 use mathlib.Core.List.{List, List·Memᴰ}
 use native.Mathlib.Omega.{arith}
 use lib.ListN.{length}
-use Rattle.words.specs.Words.{wordAt, partOf}
+use Rattle.words.specs.Words.{wordAt}
 use Rattle.ledger.specs.declared.order.Order.{Order}
 use Rattle.ledger.specs.Records.{orderAt}
 use Rattle.book.specs.Market.{derivatives}
 use Rattle.book.specs.Sound.{OrderFits, Sound}
-use Rattle.layout.specs.Layout.{countWord, ordersWord}
-use Rattle.layout.specs.View.{rosterOf, openOrders, bookOf, tradingOf, view}
+use Rattle.layout.specs.Layout.{countWord}
+use Rattle.layout.specs.View.{rosterOf, recordsOf, openOrders, bookOf, tradingOf, view}
+use Rattle.layout.specs.Stores.{Records}
 use Rattle.soundness.specs.Soundness.{ordersSound, soundDesk}
 use Rattle.soundness.specs.Held.{Held}
 use Rattle.soundness.proofs.Records.{Fit}
@@ -23,24 +24,24 @@ use Rattle.soundness.proofs.PositionFacts.{positions-out, positions-in}
 
 pub open-count : (m : List ℕ) → length (openOrders m) ≡ wordAt m countWord
 unfolding openOrders
-open-count m = length-orders (partOf m ordersWord 512) 0 (wordAt m countWord)
+open-count m = length-orders (recordsOf m) 0 (wordAt m countWord)
 
 -- ---- out
 module _ (m : List ℕ) (c : Conditions m) where
-  fit : (p : ℕ) → p < wordAt m countWord → Fit (rosterOf m) (tradingOf m) (orderAt (partOf m ordersWord 512) p)
+  fit : (p : ℕ) → p < wordAt m countWord → Fit (rosterOf m) (tradingOf m) (orderAt (recordsOf m) p)
   unfolding ordersSound
-  fit p h = records-out (partOf m ordersWord 512) (rosterOf m) (tradingOf m) 0 (wordAt m countWord) (c .orders) p (omega arith) (omega arith)
+  fit p h = records-out (recordsOf m) (rosterOf m) (tradingOf m) 0 (wordAt m countWord) (c .orders) p (omega arith) (omega arith)
 
   member-fits : (o : Order) → List·Memᴰ o (openOrders m) → OrderFits (rosterOf m) o
   unfolding openOrders
   member-fits =
-      each-member (partOf m ordersWord 512) (OrderFits (rosterOf m)) 0 (wordAt m countWord)
+      each-member (recordsOf m) (OrderFits (rosterOf m)) 0 (wordAt m countWord)
       (λ q a b. let f = fit q (omega arith) in record { account = f .account; instrument = f .instrument; total = f .total; remains = f .remains })
 
   member-marked : (o : Order) → List·Memᴰ o (openOrders m) → tradingOf m (o .account) ≡ true
   unfolding openOrders
   member-marked =
-      each-member (partOf m ordersWord 512) (λ o. tradingOf m (o .account) ≡ true) 0 (wordAt m countWord)
+      each-member (recordsOf m) (λ o. tradingOf m (o .account) ≡ true) 0 (wordAt m countWord)
       (λ q a b. fit q (omega arith) .marked)
 
   shown : Sound derivatives (rosterOf m) (view m .book) (view m .trading)
@@ -62,27 +63,31 @@ sound-out m e =
     record {
       long = c .long;
       kind = c .kind;
+      first = c .first;
       figures = figures-out m (c .lines);
       book = shown m c;
     }
 
 -- ---- in
 module _ (m : List ℕ) (h : Held m) where
-  pub all-fit : (p : ℕ) → p < wordAt m countWord → Fit (rosterOf m) (tradingOf m) (orderAt (partOf m ordersWord 512) p)
+  pub all-fit : (p : ℕ) → p < wordAt m countWord → Fit (rosterOf m) (tradingOf m) (orderAt (recordsOf m) p)
   unfolding view bookOf openOrders
   all-fit p l =
-      let s = partOf m ordersWord 512 in
+      let s = recordsOf m in
       let k = order-member s 0 (wordAt m countWord) p (omega arith) (omega arith) in
       let f = h .book .fits (orderAt s p) k in
       record { account = f .account; instrument = f .instrument; total = f .total; remains = f .remains; marked = h .book .marked (orderAt s p) k }
 
   orders-in : ordersSound m ≡ true
   unfolding ordersSound
-  orders-in = records-in (partOf m ordersWord 512) (rosterOf m) (tradingOf m) 0 (wordAt m countWord) (λ q a b. all-fit q (omega arith))
+  orders-in = records-in (recordsOf m) (rosterOf m) (tradingOf m) 0 (wordAt m countWord) (λ q a b. all-fit q (omega arith))
 
   pub held-count : wordAt m countWord ≤ 256
   unfolding view bookOf
   held-count = omega (arith, open-count m, h .book .count)
+
+  pub held-records : Records m
+  held-records = record { long = h .long; count = held-count; first = h .first }
 
   pub sound-in : soundDesk m ≡ true
   unfolding view bookOf derivatives
@@ -92,6 +97,7 @@ module _ (m : List ℕ) (h : Held m) where
         long = h .long;
         kind = h .kind;
         count = held-count;
+        first = h .first;
         ids = ascend-in (h .book .ids);
         roster = roster-in m (h .book .roster);
         lines = figures-in m (h .figures);

@@ -7,13 +7,14 @@ use native.Mathlib.Decide.{ℕ-discrete}
 use native.Mathlib.Omega.{arith}
 use lib.ListN.{length}
 use borrow.Author.Tests.{not-true, not-false}
-use Rattle.words.specs.Words.{wordAt, partOf}
-use Rattle.words.proofs.Parts.{length-part}
+use Rattle.words.specs.Words.{wordAt}
 use Rattle.ledger.specs.declared.order.Order.{Order}
 use Rattle.ledger.specs.Records.{orderAt}
 use Rattle.ledger.specs.Roster.{Numbered}
-use Rattle.layout.specs.Layout.{countWord, ordersWord, markWord}
-use Rattle.layout.specs.View.{rosterOf, tradingOf, flag}
+use Rattle.layout.specs.Layout.{countWord, markWord}
+use Rattle.layout.specs.View.{rosterOf, tradingOf, flag, recordsOf}
+use Rattle.layout.specs.Stores.{Records}
+use Rattle.layout.proofs.OrderRecords as layout
 use Rattle.soundness.specs.Each.{Tells, Each}
 use Rattle.soundness.proofs.Asked.{numbered-between}
 
@@ -46,25 +47,25 @@ below P p before here q h = by (ℕ-discrete q p)
     by (no other) = before q (omega (arith, other))
 
 -- ---- a memory: s is its part with the records, n its count
-module _ (m s : List ℕ) (n : ℕ) (count : n ≡ wordAt m countWord) (records : s ≡ partOf m ordersWord 512) where
+module _ (m s : List ℕ) (n : ℕ) (count : n ≡ wordAt m countWord) (records : s ≡ recordsOf m) where
   pub each-in : (P : Order → Type 0) → ((q : ℕ) → q < n → P (orderAt s q)) → Each m P
   each-in P h q l = rw (← records) (h q (omega arith))
 
   pub each-out : (P : Order → Type 0) → Each m P → (q : ℕ) → q < n → P (orderAt s q)
   each-out P h q l = rw records (h q (omega arith))
 
-  pub records-long : 65536 ≤ length m → length s ≡ 4096
-  records-long h = ap length records ∙ length-part m ordersWord 512 (omega arith)
+  pub records-long : Records m → length s ≡ 4096
+  records-long h = ap length records ∙ layout.records-long m h
 
 -- ---- a loop that asks P of one record after the other, as far as record p
 pub record AskedTo (P : Order → Type 0) (m s : List ℕ) (n p : ℕ) : Type 0 where
   pub count : n ≡ wordAt m countWord
-  pub records : s ≡ partOf m ordersWord 512
+  pub records : s ≡ recordsOf m
   pub upto : p ≤ n
   pub passed : (q : ℕ) → q < p → P (orderAt s q)
 
 module _ (P : Order → Type 0) (m s : List ℕ) (n : ℕ) where
-  pub asked-none : n ≡ wordAt m countWord → s ≡ partOf m ordersWord 512 → AskedTo P m s n 0
+  pub asked-none : n ≡ wordAt m countWord → s ≡ recordsOf m → AskedTo P m s n 0
   asked-none count records =
       record { count = count; records = records; upto = omega arith; passed = λ q h. absurd (omega arith) }
 
@@ -73,9 +74,9 @@ module _ (P : Order → Type 0) (m s : List ℕ) (n : ℕ) where
     asked-all end =
         tells-yes (each-in m s n (asked .count) (asked .records) P (λ q l. asked .passed q (omega arith)))
 
-    pub asked-long : 65536 ≤ length m → wordAt m countWord ≤ 256 → p < n → (length s ≡ 4096) × (p < 256)
-    asked-long long few here =
-        (records-long m s n (asked .count) (asked .records) long, omega (arith, asked .count))
+    pub asked-long : Records m → p < n → (length s ≡ 4096) × (p < 256)
+    asked-long h here =
+        (records-long m s n (asked .count) (asked .records) h, omega (arith, h .count, asked .count))
 
     module _ (o : Order) (here : p < n) (read : o ≡ orderAt s p) where
       pub asked-more : P o → AskedTo P m s n (p + 1)

@@ -10,25 +10,26 @@ use borrow.Author.Tests.{le-leb, lt-leb, eq-eqb, ne-eqb}
 use Rattle.words.specs.Words.{wordAt}
 use Rattle.layout.specs.Layout.{kindWord, countWord}
 use Rattle.layout.specs.Rosters.{longEnough}
-use Rattle.layout.specs.View.{openOrders}
+use Rattle.layout.specs.View.{firstOf, openOrders}
 use Rattle.soundness.specs.Soundness.{ascend, holds, rosterSound, linesSound, ordersSound, positionsSound, sound, soundDesk}
 
 -- the tests in the code's order; a no refuses whatever the others say
-in-order : (l k c i r n o p : Bool) → (l && (k && c && i) && (r && n && o && p)) ≡ (l && (k && (c && (r && (n && (i && o && p))))))
-in-order false k c i r n o p = refl
-in-order true false c i r n o p = refl
-in-order true true false i r n o p = refl
-in-order true true true false false n o p = refl
-in-order true true true false true false o p = refl
-in-order true true true false true true o p = refl
-in-order true true true true false n o p = refl
-in-order true true true true true false o p = refl
-in-order true true true true true true o p = refl
+in-order : (l k c f i r n o p : Bool) → (l && (k && c && f && i) && (r && n && o && p)) ≡ (l && (k && (c && (f && (r && (n && (i && o && p)))))))
+in-order false k c f i r n o p = refl
+in-order true false c f i r n o p = refl
+in-order true true false f i r n o p = refl
+in-order true true true false i r n o p = refl
+in-order true true true true false false n o p = refl
+in-order true true true true false true false o p = refl
+in-order true true true true false true true o p = refl
+in-order true true true true true false n o p = refl
+in-order true true true true true true false o p = refl
+in-order true true true true true true true o p = refl
 
 module _ (m : List ℕ) where
-  asked : soundDesk m ≡ (longEnough m && (eqb (wordAt m kindWord) 1 && (leb (wordAt m countWord) 256 && (rosterSound m && (linesSound m && (ascend 0 (openOrders m) && ordersSound m && positionsSound m))))))
+  asked : soundDesk m ≡ (longEnough m && (eqb (wordAt m kindWord) 1 && (leb (wordAt m countWord) 256 && (leb (firstOf m) 256 && (rosterSound m && (linesSound m && (ascend 0 (openOrders m) && ordersSound m && positionsSound m)))))))
   unfolding soundDesk holds sound
-  asked = in-order (longEnough m) (eqb (wordAt m kindWord) 1) (leb (wordAt m countWord) 256) (ascend 0 (openOrders m)) (rosterSound m) (linesSound m) (ordersSound m) (positionsSound m)
+  asked = in-order (longEnough m) (eqb (wordAt m kindWord) 1) (leb (wordAt m countWord) 256) (leb (firstOf m) 256) (ascend 0 (openOrders m)) (rosterSound m) (linesSound m) (ordersSound m) (positionsSound m)
 
   pub too-short : length m < 65536 → false ≡ soundDesk m
   unfolding longEnough
@@ -45,15 +46,20 @@ module _ (m : List ℕ) where
       too-many h = rw (asked, le-leb 65536 (length m) long, eq-eqb (wordAt m kindWord) 1 kind, lt-leb (wordAt m countWord) 256 h)
 
       module _ (count : wordAt m countWord ≤ 256) where
-        rest : soundDesk m ≡ (rosterSound m && (linesSound m && (ascend 0 (openOrders m) && ordersSound m && positionsSound m)))
+        pub too-far : 256 < firstOf m → false ≡ soundDesk m
         unfolding longEnough
-        rest = rw (asked, le-leb 65536 (length m) long, eq-eqb (wordAt m kindWord) 1 kind, le-leb (wordAt m countWord) 256 count)
+        too-far h = rw (asked, le-leb 65536 (length m) long, eq-eqb (wordAt m kindWord) 1 kind, le-leb (wordAt m countWord) 256 count, lt-leb (firstOf m) 256 h)
 
-        pub no-roster : rosterSound m ≡ false → false ≡ soundDesk m
-        no-roster h = rw (rest, h)
+        module _ (first : firstOf m ≤ 256) where
+          rest : soundDesk m ≡ (rosterSound m && (linesSound m && (ascend 0 (openOrders m) && ordersSound m && positionsSound m)))
+          unfolding longEnough
+          rest = rw (asked, le-leb 65536 (length m) long, eq-eqb (wordAt m kindWord) 1 kind, le-leb (wordAt m countWord) 256 count, le-leb (firstOf m) 256 first)
 
-        pub no-lines : rosterSound m ≡ true → linesSound m ≡ false → false ≡ soundDesk m
-        no-lines e h = rw (rest, e, h)
+          pub no-roster : rosterSound m ≡ false → false ≡ soundDesk m
+          no-roster h = rw (rest, h)
 
-        pub the-rest : rosterSound m ≡ true → linesSound m ≡ true → (t : Bool) → t ≡ (ascend 0 (openOrders m) && ordersSound m && positionsSound m) → t ≡ soundDesk m
-        the-rest e f t h = rw (rest, e, f) h
+          pub no-lines : rosterSound m ≡ true → linesSound m ≡ false → false ≡ soundDesk m
+          no-lines e h = rw (rest, e, h)
+
+          pub the-rest : rosterSound m ≡ true → linesSound m ≡ true → (t : Bool) → t ≡ (ascend 0 (openOrders m) && ordersSound m && positionsSound m) → t ≡ soundDesk m
+          the-rest e f t h = rw (rest, e, f) h

@@ -6,7 +6,6 @@ use mathlib.Core.List.{List}
 use Rattle.words.specs.Words.{wordAt}
 use Rattle.ledger.specs.declared.order.Order.{Order}
 use Rattle.ledger.specs.Orders.{remaining}
-use Rattle.ledger.specs.Records.{packedAccount, packedInstrument, detailFilled, detailRemaining}
 use Rattle.ledger.specs.Roster.{Numbered}
 use Rattle.layout.specs.Layout.{countWord}
 use Rattle.layout.specs.View.{rosterOf, tradingOf}
@@ -34,10 +33,3 @@ pub record Marked (m : List ℕ) (o : Order) : Type 0 where
   pub account : Numbered (rosterOf m .accounts) (o .account)
   pub instrument : Numbered (rosterOf m .instruments) (o .instrument)
   pub marked : tradingOf m (o .account) ≡ true
-
--- its account and instrument, what is filled of it and what remains are at most those that a detail says
-pub record Within (detail : ℕ) (o : Order) : Type 0 where
-  pub account : o .account ≤ packedAccount detail
-  pub instrument : o .instrument ≤ packedInstrument detail
-  pub filled : o .filled ≤ detailFilled detail
-  pub remaining : remaining o ≤ detailRemaining detail

@@ -1,4 +1,5 @@
--- What a memory that passes question 5 is, as facts: it shows a sound book, and the figures of lines that are not set are in range too.
+-- What a memory that passes question 5 is, as facts: it shows a sound book, its records stand inside their region, and the figures of lines
+-- that are not set are in range too.
 use Prim.Native.Nat.{ℕ, _+_, _*_, _≤_}
 use mathlib.Core.Path.{_≡_}
 use mathlib.Core.List.{List}
@@ -9,7 +10,7 @@ use Rattle.limits.specs.InBytes.{lineAt, groupLineAt}
 use Rattle.book.specs.Market.{derivatives}
 use Rattle.book.specs.Sound.{LineFits, GroupLineFits, Sound}
 use Rattle.layout.specs.Layout.{kindWord, ownRow, defaultRow, groupRow}
-use Rattle.layout.specs.View.{rosterOf, view}
+use Rattle.layout.specs.View.{rosterOf, firstOf, view}
 
 -- the figures of each line on the roster are in range, whether the line is set or not
 pub record Figures (m : List ℕ) : Type 0 where
@@ -20,5 +21,6 @@ pub record Figures (m : List ℕ) : Type 0 where
 pub record Held (m : List ℕ) : Type 0 where
   pub long : 65536 ≤ length m
   pub kind : wordAt m kindWord ≡ 1
+  pub first : firstOf m ≤ 256
   pub figures : Figures m
   pub book : Sound derivatives (rosterOf m) (view m .book) (view m .trading)

@@ -6,7 +6,7 @@ use mathlib.Core.List.{List, [], _∷_}
 use lib.Dec.{leb, ltb, eqb}
 use lib.IntN.{pos}
 use lib.Signed.{leZ}
-use Rattle.words.specs.Words.{wordAt, partOf}
+use Rattle.words.specs.Words.{wordAt}
 use Rattle.ledger.specs.declared.order.Order.{Order}
 use Rattle.ledger.specs.Orders.{remaining}
 use Rattle.ledger.specs.Records.{orderAt}
@@ -16,9 +16,9 @@ use Rattle.limits.specs.Lines.{Line, GroupLine}
 use Rattle.limits.specs.InBytes.{lineAt, groupLineAt}
 use Rattle.book.specs.Decoding.{between}
 use Rattle.book.specs.Market.{derivatives}
-use Rattle.layout.specs.Layout.{kindWord, countWord, ordersWord, ownRow, defaultRow, groupRow}
+use Rattle.layout.specs.Layout.{kindWord, countWord, ownRow, defaultRow, groupRow}
 use Rattle.layout.specs.Rosters.{every, sizesFit, namesFit, weightsFit, longEnough}
-use Rattle.layout.specs.View.{rosterOf, balancesOf, openOrders, tradingOf}
+use Rattle.layout.specs.View.{rosterOf, balancesOf, firstOf, recordsOf, openOrders, tradingOf}
 
 -- ids above `least`, strictly ascending: from 0 on they are non-zero and differ
 unfoldable pub ascend : ℕ → List Order → Bool
@@ -32,9 +32,13 @@ lineInRange l = leb (l .tci) 1000000000 && leb (l .tvi) 1000000000 && leb (l .lc
 unfoldable pub groupLineInRange : GroupLine → Bool
 groupLineInRange l = leb (l .lcc) 1000000000 && leb (l .lvc) 1000000000
 
--- the layout's own conditions: the kind of desk, the count of orders, ids ascending
+-- the layout's own conditions: the kind of desk, the count of orders, their first record, ids ascending
 unfoldable pub holds : List ℕ → Bool
-holds m = eqb (wordAt m kindWord) 1 && leb (wordAt m countWord) 256 && ascend 0 (openOrders m)
+holds m =
+    eqb (wordAt m kindWord) 1
+    && leb (wordAt m countWord) 256
+    && leb (firstOf m) 256
+    && ascend 0 (openOrders m)
 
 -- its roster would be accepted
 unfoldable pub rosterSound : List ℕ → Bool
@@ -70,7 +74,7 @@ recordsSound r trading m p (suc n) =
 -- its orders are in range
 unfoldable pub ordersSound : List ℕ → Bool
 ordersSound m =
-    recordsSound (rosterOf m) (tradingOf m) (partOf m ordersWord 512) 0 (wordAt m countWord)
+    recordsSound (rosterOf m) (tradingOf m) (recordsOf m) 0 (wordAt m countWord)
 
 -- S + B (long) and −S + V (short) are at most 1,000,000,000
 unfoldable pub positionSound : List ℕ → ℕ → ℕ → Way → Bool

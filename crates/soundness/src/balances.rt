@@ -1,11 +1,9 @@
 // The positions that a memory holds: S + B and −S + V of each account and instrument, by the gathered cells.
 ghost use mathlib.Core.Path.{_≡_};
 ghost use mathlib.Core.Bool.{true, _&&_};
-ghost use Prim.Native.Nat.{_≤_};
-ghost use Rattle.words.specs.Words.{wordAt};
 ghost use Rattle.ledger.specs.Roster.{Numbered};
-ghost use Rattle.layout.specs.Layout.{countWord};
 ghost use Rattle.layout.specs.View.{rosterOf, openOrders};
+ghost use Rattle.layout.specs.Stores.{Records};
 ghost use Rattle.soundness.specs.Soundness.{ascend, ordersSound, placeSound, accountSound, positionsSound};
 ghost use Rattle.soundness.specs.Cells.{Readable, Empty, Gathered};
 use crate::bits::all_small;
@@ -64,7 +62,7 @@ fn positions_are_sound(m: &[u8], cells: &[u64; 1089]) -> bool
 
 // The orders in one pass, which gathers, then the positions in another.
 pub fn orders_and_positions(m: &[u8], cells: &mut [u64; 1089]) -> bool
-    requires { ⌜ Readable (now m) × (wordAt (now m) countWord ≤ 256) × Empty (now cells) ⌝ }
+    requires { ⌜ Readable (now m) × Records (now m) × Empty (now cells) ⌝ }
     ensures { λ r. ⌜ (r ≡ (ascend 0 (openOrders (now (m .entry))) && ordersSound (now (m .entry)) && positionsSound (now (m .entry)))) × (r ≡ true → Gathered (now (cells .exit)) (openOrders (now (m .entry)))) ⌝ }
 {
     if !gather(m, cells) {

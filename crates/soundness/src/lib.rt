@@ -12,6 +12,7 @@ ghost use Rattle.layout.specs.View.{openOrders};
 ghost use Rattle.soundness.specs.Soundness.{soundDesk};
 ghost use Rattle.soundness.specs.Cells.{Empty, Gathered};
 use layout::table::COUNT;
+use layout::table::FIRST;
 use layout::table::KIND;
 use layout::table::MEMORY_BYTES;
 use words::word;
@@ -29,6 +30,9 @@ pub fn is_sound_with_sums(m: &[u8], cells: &mut [u64; 1089]) -> bool
         return false;
     }
     if word(m, COUNT) > 256 {
+        return false;
+    }
+    if word(m, FIRST) > 256 {
         return false;
     }
     if !roster::roster_is_sound(m) {

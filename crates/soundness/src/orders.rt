@@ -4,22 +4,28 @@ ghost use mathlib.Core.Path.{_≡_};
 ghost use mathlib.Core.Bool.{true, _&&_};
 ghost use Prim.Native.Nat.{ℕ, _≤_};
 ghost use lib.ListN.{length, getD};
-ghost use Rattle.words.specs.Words.{wordAt};
-ghost use Rattle.ledger.specs.Records.{Packable, orderOf};
-ghost use Rattle.layout.specs.Layout.{countWord};
+ghost use Rattle.ledger.specs.Records.{Packable, Within, orderOf};
 ghost use Rattle.layout.specs.View.{openOrders};
+ghost use Rattle.layout.specs.Stores.{Records};
 ghost use Rattle.soundness.specs.Soundness.{ascend, ordersSound};
 ghost use Rattle.soundness.specs.Cells.{Readable, added, Empty, Sums, Gathered};
-ghost use Rattle.soundness.specs.Each.{Tells, Each, Remains, TotalFits, Marked, Within};
+ghost use Rattle.soundness.specs.Each.{Tells, Each, Remains, TotalFits, Marked};
 use crate::ranges::between;
 use crate::roster::accounts;
 use crate::roster::instruments;
+use layout::orders::records;
 use layout::table::COUNT;
 use layout::table::MARKS;
-use layout::table::ORDERS;
 use ledger::order::Order;
+use ledger::records::account_of;
+use ledger::records::detail_in;
+use ledger::records::filled_of;
+use ledger::records::id_in;
+use ledger::records::instrument_of;
+use ledger::records::joined;
 use ledger::records::load;
-use words::part;
+use ledger::records::packed_of;
+use ledger::records::remaining_of;
 use words::word;
 
 // What the pass tells: do the ids ascend, and does something remain of each order? And a detail with the bits of all.
@@ -33,38 +39,38 @@ fn add_to(cells: &mut [u64; 1089], w: u64)
     requires { ⌜ (length (now cells) ≡ 1089) × ((j : ℕ) → getD (now cells) j 0 ≤ 34359738368) ⌝ }
     ensures { λ r. ⌜ ((id : ℕ) → now (cells .exit) ≡ added (now (cells .entry)) (orderOf id w)) ⌝ }
 {
-    let j = 65 + (w % 1024) as usize;
-    cells[j] += w / 137438953472;
+    let j = 65 + packed_of(w) as usize;
+    cells[j] += remaining_of(w);
 }
 
 // The pass, which gathers B and V of all accounts and instruments into the cells.
 fn gather_all(m: &[u8], cells: &mut [u64; 1089]) -> Pass
-    requires { ⌜ Readable (now m) × (wordAt (now m) countWord ≤ 256) × Empty (now cells) ⌝ }
+    requires { ⌜ Readable (now m) × Records (now m) × Empty (now cells) ⌝ }
     ensures sound { λ r. ⌜ Tells (r .sound) ((ascend 0 (openOrders (now (m .entry))) ≡ true) × Each (now (m .entry)) Remains) ⌝ }
     ensures details { λ r. ⌜ (r .sound ≡ true → Each (now (m .entry)) (Within (r .details))) ⌝ }
     ensures sums { λ r. ⌜ (r .sound ≡ true → Sums (now (cells .exit)) (openOrders (now (m .entry)))) ⌝ }
 {
     let n = word(m, COUNT) as usize;
-    let orders = part(m, ORDERS, 512);
+    let orders = records(m);
     let mut last: u64 = 0;
     let mut all: u64 = 0;
     for p in 0..n {
-        let id = word(orders, p * 2);
-        let w = word(orders, p * 2 + 1);
+        let id = id_in(orders, p);
+        let w = detail_in(orders, p);
         if id <= last {
             return Pass {
                 sound: false,
                 details: 0,
             };
         }
-        if w < 137438953472 {
+        if remaining_of(w) == 0 {
             return Pass {
                 sound: false,
                 details: 0,
             };
         }
         last = id;
-        all = all | w;
+        all = joined(all, w);
         add_to(cells, w);
     }
     Pass {
@@ -75,14 +81,14 @@ fn gather_all(m: &[u8], cells: &mut [u64; 1089]) -> Pass
 
 // Is every total in range? All at once by the detail with the bits of all, and where that does not tell, one by one.
 fn totals_fit(m: &[u8], details: u64) -> bool
-    requires { ⌜ Readable (now m) × (wordAt (now m) countWord ≤ 256) × Each (now m) (Within details) ⌝ }
+    requires { ⌜ Readable (now m) × Records (now m) × Each (now m) (Within details) ⌝ }
     ensures { λ r. ⌜ Tells r (Each (now (m .entry)) TotalFits) ⌝ }
 {
-    if details / 1024 % 134217728 + details / 137438953472 <= 1000000 {
+    if filled_of(details) + remaining_of(details) <= 1000000 {
         return true;
     }
     let count = word(m, COUNT) as usize;
-    let orders = part(m, ORDERS, 512);
+    let orders = records(m);
     for p in 0..count {
         let o = load(orders, p);
         if o.total > 1000000 {
@@ -97,11 +103,11 @@ fn all_trade(m: &[u8], details: u64) -> bool
     requires { ⌜ Readable (now m) ⌝ }
     ensures { λ r. ⌜ (r ≡ true → (o : Order) → Packable (o .account) (o .instrument) → Within details o → Marked (now (m .entry)) o) ⌝ }
 {
-    let most = details / 64 % 16 + 1;
+    let most = account_of(details);
     if accounts(m) < most {
         return false;
     }
-    if instruments(m) < details % 32 + 1 {
+    if instruments(m) < instrument_of(details) {
         return false;
     }
     for a in 0..most as usize {
@@ -128,14 +134,14 @@ fn is_marked(m: &[u8], o: Order) -> bool
 
 // Is that so of every order? All at once by the detail with the bits of all, and where that does not tell, one by one.
 fn all_marked(m: &[u8], details: u64) -> bool
-    requires { ⌜ Readable (now m) × (wordAt (now m) countWord ≤ 256) × Each (now m) (Within details) ⌝ }
+    requires { ⌜ Readable (now m) × Records (now m) × Each (now m) (Within details) ⌝ }
     ensures { λ r. ⌜ Tells r (Each (now (m .entry)) (Marked (now (m .entry)))) ⌝ }
 {
     if all_trade(m, details) {
         return true;
     }
     let count = word(m, COUNT) as usize;
-    let orders = part(m, ORDERS, 512);
+    let orders = records(m);
     for p in 0..count {
         if !is_marked(m, load(orders, p)) {
             return false;
@@ -146,7 +152,7 @@ fn all_marked(m: &[u8], details: u64) -> bool
 
 // Do the ids ascend and is each order sound? If so, B and V of all accounts and instruments are in the cells.
 pub fn gather(m: &[u8], cells: &mut [u64; 1089]) -> bool
-    requires { ⌜ Readable (now m) × (wordAt (now m) countWord ≤ 256) × Empty (now cells) ⌝ }
+    requires { ⌜ Readable (now m) × Records (now m) × Empty (now cells) ⌝ }
     ensures { λ r. ⌜ (r ≡ (ascend 0 (openOrders (now (m .entry))) && ordersSound (now (m .entry)))) × (r ≡ true → Gathered (now (cells .exit)) (openOrders (now (m .entry)))) ⌝ }
 {
     let passed = gather_all(m, cells);

@@ -8,3 +8,4 @@ pub mod Apart
 mod Moves
 pub mod Parts
 pub mod TwosComplement
+pub mod Bits

@@ -38,23 +38,27 @@ module _ (by n : ℕ) where
       let f : n - 0 ≡ n = omega arith in
       is ∙ rw (z, e, f)
 
-  -- the words from i + by on are still to be stored, each by words lower
+module _ (to from n : ℕ) where
+  -- the words from from + i on are still to be stored, from to + i on
   pub falling : List ℕ → ℕ → List ℕ
-  falling m i = putWords m i (wordsAt m (i + by) (n - i))
+  falling m i = putWords m (to + i) (wordsAt m (from + i) (n - i))
 
-  pub falling-start : (m : List ℕ) → falling m 0 ≡ putWords m 0 (wordsAt m by n)
+  pub falling-start : (m : List ℕ) → falling m 0 ≡ putWords m to (wordsAt m from n)
   unfolding falling
   falling-start m =
-      let e : 0 + by ≡ by = omega arith in
-      let f : n - 0 ≡ n = omega arith in
-      rw (e, f)
+      let e : to + 0 ≡ to = omega arith in
+      let f : from + 0 ≡ from = omega arith in
+      let g : n - 0 ≡ n = omega arith in
+      rw (e, f, g)
 
-  pub falling-turn : (m next : List ℕ) (i v : ℕ) → i < n → v ≡ wordAt m (i + by) → next ≡ putWord m i v → falling next (i + 1) ≡ falling m i
+  -- the word v of place j is stored in place k
+  pub falling-turn : (m next : List ℕ) (i j k v : ℕ) → to ≤ from → i < n → j ≡ from + i → k ≡ to + i → v ≡ wordAt m j → next ≡ putWord m k v → falling next (i + 1) ≡ falling m i
   unfolding falling putWords wordsAt
-  falling-turn m next i v h read stored =
+  falling-turn m next i j k v lower h is-j is-k read stored =
       let e : n - i ≡ suc (n - (i + 1)) = omega arith in
-      let f : i + 1 + by ≡ i + by + 1 = omega arith in
-      rw (stored, read, e, f, words-put-other m i (wordAt m (i + by)) (i + by + 1) (n - (i + 1)) (λ j low e. omega arith))
+      let f : to + (i + 1) ≡ to + i + 1 = omega arith in
+      let g : from + (i + 1) ≡ from + i + 1 = omega arith in
+      rw (stored, read, is-j, is-k, e, f, g, words-put-other m (to + i) (wordAt m (from + i)) (from + i + 1) (n - (i + 1)) (λ j low e. omega arith))
 
   pub falling-end : (m : List ℕ) (i : ℕ) → n ≤ i → falling m i ≡ m
   unfolding falling putWords wordsAt

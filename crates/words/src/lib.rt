@@ -84,6 +84,17 @@ fn down(s: &mut [u8], by: usize, n: usize)
     }
 }
 
+// Copies the `n` words from word `from` on to word `to` and after it, which are lower, the first one first. It is a loop of its own: `words_down`
+// has one distance wherever it is called, and so stays a memmove.
+pub fn words_copied(m: &mut [u8], from: usize, to: usize, n: usize)
+    requires { ⌜ (to ≤ from) × ((from + n) * 8 ≤ length (now m)) ⌝ }
+    ensures { λ r. ⌜ now (m .exit) ≡ putWords (now (m .entry)) to (wordsAt (now (m .entry)) from n) ⌝ }
+{
+    for i in 0..n {
+        set_word(m, to + i, word(m, from + i));
+    }
+}
+
 // Moves the `n` words from word `k` on to word `k + by` and after it. The loop runs over a part that starts at the lowest word
 // touched: with a `by` that is a constant where it is called, it compiles to one memmove.
 pub fn words_up(m: &mut [u8], k: usize, by: usize, n: usize)

@@ -8,7 +8,8 @@ use mathlib.Core.Option.{some}
 use native.Mathlib.Omega.{arith}
 use lib.Dec.{eqb}
 use lib.IntN.{ℤ, natAbs}
-use lib.ListN.{length, set}
+use lib.ListN.{set}
+use borrow.Author.Tests.{eq-eqb, ne-eqb}
 use mir.Syntax.{w64}
 use mir.Val.{SFits, toZ, ofZ}
 use mir.ValLaws.{toZ-ofZ}
@@ -17,7 +18,7 @@ use Rattle.words.specs.Words.{wordAt}
 use Rattle.ledger.specs.declared.order.Order.{Order}
 use Rattle.ledger.specs.declared.order.Side.{Side}
 use Rattle.ledger.specs.declared.find.Found.the-variants.{At}
-use Rattle.ledger.specs.Orders.{remaining, filledBy, replacedTotal, placeFrom}
+use Rattle.ledger.specs.Orders.{remaining, filledBy, replacedTotal, closes, placeFrom}
 use Rattle.ledger.specs.Records.{Storable, orderAt, ordersFrom}
 use Rattle.ledger.proofs.Search.{found-place}
 use Rattle.book.specs.declared.Event.the-variants.{New, Replace, Cancel}
@@ -26,15 +27,15 @@ use Rattle.book.specs.Books.{newOrder}
 use Rattle.book.specs.Sound.{OrderFits}
 use Rattle.book.proofs.Shifts.{kept-none, kept-some}
 use Rattle.book.proofs.SoundOrders.{new-fits, replaced-fits}
-use Rattle.layout.specs.Layout.{memoryBytes, countWord}
-use Rattle.layout.specs.View.{rosterOf, openOrders}
+use Rattle.layout.specs.Layout.{countWord}
+use Rattle.layout.specs.View.{rosterOf, firstOf, openOrders}
 use Rattle.layout.specs.Judged.{judged}
-use Rattle.layout.specs.Stores.{orderIn, storeOrders, Records, without}
+use Rattle.layout.specs.Stores.{orderIn, storeFrom, joinedFirst, leftFirst, Records, rank, without}
 use Rattle.layout.specs.FieldStores.{storeMark}
-use Rattle.layout.proofs.OrderRecords.{small-record}
+use Rattle.layout.proofs.OrderRecords.{small-open}
 use Rattle.layout.proofs.ViewOrders.{change-leaves, change-becomes}
 use Rattle.soundness.specs.Held.{Held}
-use Rattle.working.specs.Working.{Ready, Stands, worked}
+use Rattle.working.specs.Working.{Ready, Stands, keptFirst, worked}
 use Rattle.working.proofs.Told.{records, storable, told}
 
 -- ---- the place
@@ -64,8 +65,8 @@ named-found m id p = found-there _ id (wordAt m countWord) 0 p
 pub at-place : (m : List ℕ) (id p : ℕ) → Records m → placeFrom 0 id (openOrders m) ≡ At p → Records m × (p < wordAt m countWord)
 at-place m id p r found = (r, named-inside m id p found)
 
-pub loadable : (m : List ℕ) (id p : ℕ) → Records m → placeFrom 0 id (openOrders m) ≡ At p → (memoryBytes ≤ length m) × (p < 256)
-loadable m id p r found = let inside = named-inside m id p found in omega (arith, r .long, r .count)
+pub loadable : (m : List ℕ) (id p : ℕ) → Records m → placeFrom 0 id (openOrders m) ≡ At p → Records m × (p < 256)
+loadable m id p r found = let inside = named-inside m id p found in (r, omega (arith, r .count))
 
 -- ---- NEW
 pub new-storable : (m : List ℕ) (held : Held m) (s : Side) (a i id : ℕ) (n : ℤ) → SFits w64 n → judged m (New s a i id n) ≡ 0 → Storable (record { id = id; account = a; instrument = i; side = s; total = natAbs (toZ w64 (ofZ w64 n)); filled = 0 })
@@ -74,9 +75,9 @@ new-storable m held s a i id n fits passes =
     let t = told m held (New s a i id n) passes in
     rw (toZ-ofZ w64 n fits) (storable m held (newOrder s a i id n) (new-fits (rosterOf m) s a i id n (t .0) (t .1) (t .2 .1)))
 
-pub joined : (m l x : List ℕ) (s : Side) (a i id : ℕ) (n : ℤ) → SFits w64 n → l ≡ storeOrders m (insert (record { id = id; account = a; instrument = i; side = s; total = natAbs (toZ w64 (ofZ w64 n)); filled = 0 }) (openOrders m)) → x ≡ storeMark l a → x ≡ worked m (New s a i id n)
+pub joined : (m l x : List ℕ) (s : Side) (a i id : ℕ) (n : ℤ) (p : ℕ) → p ≡ rank id (openOrders m) → SFits w64 n → l ≡ storeFrom m (joinedFirst m p) (insert (record { id = id; account = a; instrument = i; side = s; total = natAbs (toZ w64 (ofZ w64 n)); filled = 0 }) (openOrders m)) → x ≡ storeMark l a → x ≡ worked m (New s a i id n)
 unfolding worked newOrder
-joined m l x s a i id n fits stored marked = marked ∙ rw (stored, toZ-ofZ w64 n fits)
+joined m l x s a i id n p named fits stored marked = marked ∙ rw (stored, toZ-ofZ w64 n fits, named)
 
 -- ---- REPLACE
 pub replaced-storable : (m : List ℕ) (id : ℕ) (n : ℤ) (p : ℕ) (o y : Order) → Ready m (Replace id n) p → SFits w64 n → o ≡ orderIn m p → y ≡ replacedTotal o (natAbs (toZ w64 (ofZ w64 n))) → Records m × (p < wordAt m countWord) × Storable y
@@ -88,19 +89,21 @@ replaced-storable m id n p o y ready fits loaded made =
     let here = at-place m id p (records m (ready .held)) (ready .named) in
     (here .0, here .1, rw (made, toZ-ofZ w64 n fits) (storable m (ready .held) (replacedTotal o (natAbs n)) new))
 
-pub replaced : (m x : List ℕ) (id : ℕ) (n : ℤ) (p : ℕ) (o y : Order) → Bytes m → Ready m (Replace id n) p → SFits w64 n → o ≡ orderIn m p → y ≡ replacedTotal o (natAbs (toZ w64 (ofZ w64 n))) → x ≡ storeOrders m (set (openOrders m) p y) → x ≡ worked m (Replace id n)
+pub replaced : (m x : List ℕ) (id : ℕ) (n : ℤ) (p : ℕ) (o y : Order) → Bytes m → Ready m (Replace id n) p → SFits w64 n → o ≡ orderIn m p → y ≡ replacedTotal o (natAbs (toZ w64 (ofZ w64 n))) → x ≡ storeFrom m (firstOf m) (set (openOrders m) p y) → x ≡ worked m (Replace id n)
 unfolding worked
 replaced m x id n p o y bytes ready fits loaded made stored =
     stored
-    ∙ ap (storeOrders m)
+    ∙ ap (storeFrom m (firstOf m))
     (sym (change-becomes m bytes (records m (ready .held)) id p (ready .named) (λ o. replacedTotal o (natAbs n) ∷ []) y
     (ap (λ z. z ∷ []) (sym (made ∙ rw (loaded, toZ-ofZ w64 n fits))))))
 
 -- ---- CANCEL
-pub cancelled : (m x : List ℕ) (id p : ℕ) → Bytes m → Ready m (Cancel id) p → x ≡ storeOrders m (without p (openOrders m)) → x ≡ worked m (Cancel id)
+pub cancelled : (m x : List ℕ) (id p : ℕ) → Bytes m → Ready m (Cancel id) p → x ≡ storeFrom m (leftFirst m p) (without p (openOrders m)) → x ≡ worked m (Cancel id)
 unfolding worked
 cancelled m x id p bytes ready stored =
-    stored ∙ ap (storeOrders m) (sym (change-leaves m bytes (records m (ready .held)) id p (ready .named) (λ o. []) refl))
+    stored
+    ∙ rw (ready .named)
+    (ap (storeFrom m (leftFirst m p)) (sym (change-leaves m bytes (records m (ready .held)) id p (ready .named) (λ o. []) refl)))
 
 -- ---- FILL
 -- the order found, filled by n, is `next`, of which r remains
@@ -115,17 +118,21 @@ module _ {m : List ℕ} {p : ℕ} {o : Order} {n : ℕ} (bytes : Bytes m) (stand
   unfolding filledBy remaining
   filled-storable some-left =
       let at = at-place m (o .id) p (stands .records) (stands .found) in
-      let was : Storable o = rw (stands .loaded) (small-record m p (omega (arith, at .1, stands .records .count)) bytes .detail) in
+      let was : Storable o = rw (stands .loaded) (small-open m (stands .records .first) p (omega (arith, at .1, stands .records .count)) bytes .detail) in
       let rest : remaining (filledBy o n) ≢ 0 = λ e. some-left (read ∙ ap remaining made ∙ e) in
       let new : Storable (filledBy o n) = record { packable = was .packable; part = omega (arith, rest); filled = stands .small; remaining = omega (arith, was .remaining) } in
       (at .0, at .1, rw made new)
 
-  pub filled-leaves : r ≡ 0 → storeOrders m (without p (openOrders m)) ≡ storeOrders m (change (o .id) fills (openOrders m))
+  pub filled-leaves : r ≡ 0 → storeFrom m (leftFirst m p) (without p (openOrders m)) ≡ storeFrom m (keptFirst m (At p) (filledBy o n)) (change (o .id) fills (openOrders m))
+  unfolding closes
   filled-leaves none-left =
-      ap (storeOrders m)
-      (sym (change-leaves m bytes (stands .records) (o .id) p (stands .found) fills (ap kept here ∙ kept-none next (sym read ∙ none-left))))
+      rw (← made, eq-eqb (remaining next) 0 (sym read ∙ none-left))
+      (ap (storeFrom m (leftFirst m p))
+      (sym (change-leaves m bytes (stands .records) (o .id) p (stands .found) fills (ap kept here ∙ kept-none next (sym read ∙ none-left)))))
 
-  pub filled-stays : r ≢ 0 → storeOrders m (set (openOrders m) p next) ≡ storeOrders m (change (o .id) fills (openOrders m))
+  pub filled-stays : r ≢ 0 → storeFrom m (firstOf m) (set (openOrders m) p next) ≡ storeFrom m (keptFirst m (At p) (filledBy o n)) (change (o .id) fills (openOrders m))
+  unfolding closes
   filled-stays some-left =
-      ap (storeOrders m)
-      (sym (change-becomes m bytes (stands .records) (o .id) p (stands .found) fills next (ap kept here ∙ kept-some next (λ e. some-left (read ∙ e)))))
+      rw (← made, ne-eqb (remaining next) 0 (λ e. some-left (read ∙ e)))
+      (ap (storeFrom m (firstOf m))
+      (sym (change-becomes m bytes (stands .records) (o .id) p (stands .found) fills next (ap kept here ∙ kept-some next (λ e. some-left (read ∙ e))))))

@@ -12,6 +12,7 @@ use mir.ValLaws.{toZ-pos, toZ-ofZ}
 use Rattle.integers.specs.Magnitude.{sized, magnitude-sum, magnitude-difference}
 use Rattle.words.specs.Words.{signedAt}
 use Rattle.ledger.specs.declared.order.Side.{Side}
+use Rattle.ledger.specs.declared.find.Found.the-variants.{At}
 use Rattle.ledger.specs.declared.order.Side.the-variants.{Buy, Sell}
 use Rattle.ledger.specs.declared.order.Order.{Order}
 use Rattle.ledger.specs.Orders.{remaining, filledBy}
@@ -25,11 +26,11 @@ use Rattle.book.specs.OpenOrders.{find, change, kept}
 use Rattle.book.specs.Sound.{OrderFits}
 use Rattle.layout.specs.Layout.{memoryBytes, balanceRow}
 use Rattle.layout.specs.View.{rosterOf, balancesOf, openOrders}
-use Rattle.layout.specs.Stores.{orderIn, storeOrders}
+use Rattle.layout.specs.Stores.{orderIn, storeFrom}
 use Rattle.layout.specs.FieldStores.{storeBalance}
 use Rattle.layout.proofs.GuardedTables.{on-here}
 use Rattle.soundness.proofs.Bounded.{balance-small}
-use Rattle.working.specs.Working.{Ready, Stands, worked, moved, onSide}
+use Rattle.working.specs.Working.{Ready, Stands, keptFirst, worked, moved, onSide}
 use Rattle.working.proofs.Told.{Told, laid, records, told}
 use Rattle.working.proofs.Rooms.{Cast, cast-fits}
 use Rattle.working.proofs.Changing.{named-id, named-found}
@@ -115,10 +116,12 @@ module _ {m : List ℕ} {id : ℕ} {n : ℤ} {p : ℕ} (ready : Ready m (Fill id
       fill-small =
           (rw same-balance (balance-small m (ready .held) (o .account) (o .instrument)), omega (arith, same-quantity, t .1 .1 .1))
 
-      pub fill-worked : {z : ℤ} {l x : List ℕ} → SFits w64 z → l ≡ storeOrders m (change (o .id) (λ y. kept (filledBy y quantity)) (openOrders m)) → z ≡ toZ w64 (ofZ w64 s) +ℤ toward (wayOf (o .side)) (pos quantity) → x ≡ storeBalance l (o .account) (o .instrument) (toZ w64 (ofZ w64 z)) → x ≡ worked m (Fill id n)
+      pub fill-worked : {z : ℤ} {l x : List ℕ} → SFits w64 z → l ≡ storeFrom m (keptFirst m (At p) (filledBy o quantity)) (change (o .id) (λ y. kept (filledBy y quantity)) (openOrders m)) → z ≡ toZ w64 (ofZ w64 s) +ℤ toward (wayOf (o .side)) (pos quantity) → x ≡ storeBalance l (o .account) (o .instrument) (toZ w64 (ofZ w64 z)) → x ≡ worked m (Fill id n)
       unfolding worked
       fill-worked {z} fits-z stored after put =
-          put ∙ rw (stored, toZ-ofZ w64 z fits-z, after, same-balance, own-id, same-quantity, found, fill-one o (natAbs n))
+          let first = keptFirst m (At p) (filledBy o quantity) in
+          let here = stored ∙ ap (λ j. storeFrom m first (change j (λ y. kept (filledBy y quantity)) (openOrders m))) own-id in
+          put ∙ rw (here, toZ-ofZ w64 z fits-z, after, same-balance, same-quantity, found, ready .named, fill-one o (natAbs n))
 
     pub fill-moved : (s : Side) (k : ℕ) → k ≡ onSide s (o .side) quantity → k ≡ moved m (Fill id n) s
     unfolding moved

@@ -17,7 +17,7 @@ use Rattle.book.proofs.Decoded.{HasId}
 use Rattle.book.proofs.Plain.{derivatives-unit}
 use Rattle.book.proofs.SoundSteps.{sound-step}
 use Rattle.layout.specs.Layout.{ownRow, defaultRow, groupRow}
-use Rattle.layout.specs.View.{rosterOf, bookOf, tradingOf}
+use Rattle.layout.specs.View.{rosterOf, firstOf, bookOf, tradingOf}
 use Rattle.layout.specs.Judged.{judged}
 use Rattle.soundness.specs.Held.{Figures, Held}
 use Rattle.working.specs.Working.{worked}
@@ -35,7 +35,22 @@ put-fits l k v j long inside small was = by (ℕ-discrete j k)
         rw (same, word-put-same l k v (omega arith) (omega arith)) fits
     by (no other) = rw (word-put-other l k v j other) was
 
+put-first : (l : List ℕ) (k v : ℕ) → 65536 ≤ length l → k < 8192 → (k ≡ 113 → v ≤ 256) → firstOf l ≤ 256 → firstOf (putWord l k v) ≤ 256
+put-first l k v long inside small was = by (ℕ-discrete 113 k)
+  where
+    by : Dec (113 ≡ k) → firstOf (putWord l k v) ≤ 256
+    by (yes same) =
+        let fits = small (sym same) in
+        rw (same, word-put-same l k v (omega arith) (omega arith)) fits
+    by (no other) = rw (word-put-other l k v 113 other) was
+
 module _ (m : List ℕ) (held : Held m) (e : Event) (passes : judged m e ≡ 0) where
+  first-worked : firstOf (worked m e) ≤ 256
+  first-worked =
+      worked-keeps e (λ l. (65536 ≤ length l) × (firstOf l ≤ 256))
+      (λ l k v s p. (omega (arith, length-put l k v), put-first l k v (p .0) (s .high) (s .first) (p .1)))
+      m held passes (held .long, held .first) .1
+
   word-fits : (j : ℕ) → 1536 ≤ j → j < 2880 → FiguresFit (wordAt m j) → FiguresFit (wordAt (worked m e) j)
   word-fits j low high was =
       worked-keeps e (λ l. (65536 ≤ length l) × FiguresFit (wordAt l j))
@@ -72,6 +87,7 @@ held-worked m bytes held e id-word id-0 passes =
     record {
       long = omega (arith, length-worked m held e passes, held .long);
       kind = word-worked m held e passes 0 (omega arith) ∙ held .kind;
+      first = first-worked m held e passes;
       figures = figures-worked m held e passes;
       book = rw (roster-worked m held e passes, view-worked m bytes held e id-word passes) (sound-step derivatives derivatives-unit (rosterOf m) (bookOf m) (tradingOf m) (sound m held) e id-0 passes);
     }

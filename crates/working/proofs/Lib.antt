@@ -1,4 +1,5 @@
 pub mod Told
+pub mod FirstRecord
 pub mod Writes
 pub mod Small
 pub mod ViewWorked

@@ -9,7 +9,7 @@ use lib.Dec.{eqb}
 use lib.IntN.{natAbs}
 use Rattle.words.specs.Bytes.{Bytes}
 use Rattle.words.specs.Fields.{u64At}
-use Rattle.words.specs.Words.{wordAt, partOf}
+use Rattle.words.specs.Words.{wordAt}
 use Rattle.words.proofs.Numbers.{number-below}
 use Rattle.ledger.specs.declared.order.Order.{Order}
 use Rattle.limits.specs.Lines.{Line, GroupLine}
@@ -23,12 +23,12 @@ use Rattle.book.specs.Sound.{LineFits, GroupLineFits}
 use Rattle.book.proofs.Cuts.{standing, standing-member, insert-members}
 use Rattle.book.proofs.Ids.{Became, gone, became, replaced-became, filled-became}
 use Rattle.book.proofs.SoundOrders.{change-each, fits-after}
-use Rattle.layout.specs.Layout.{countWord, ordersWord}
-use Rattle.layout.specs.View.{rosterOf, openOrders, bookOf, tradingOf}
+use Rattle.layout.specs.Layout.{countWord}
+use Rattle.layout.specs.View.{rosterOf, recordsOf, openOrders, bookOf, tradingOf}
 use Rattle.layout.specs.Stores.{SmallOrder, SmallOrders}
 use Rattle.layout.specs.Judged.{judged}
 use Rattle.layout.proofs.RosterLaws.{by-test}
-use Rattle.layout.proofs.OrderRecords.{small-record}
+use Rattle.layout.proofs.OrderRecords.{small-open}
 use Rattle.layout.proofs.StoreWords.{SmallLine, SmallGroupLine}
 use Rattle.soundness.specs.Held.{Held}
 use Rattle.soundness.proofs.OrderFacts.{each-member}
@@ -85,8 +85,8 @@ module _ (m : List ℕ) (bytes : Bytes m) (held : Held m) where
   open-ids : (o : Order) → List·Memᴰ o (openOrders m) → o .id < 2 ^ 64
   unfolding openOrders
   open-ids =
-      each-member (partOf m ordersWord 512) (λ o. o .id < 2 ^ 64) 0 (wordAt m countWord)
-      (λ q a b. small-record m q (omega (arith, held-count m held)) bytes .id)
+      each-member (recordsOf m) (λ o. o .id < 2 ^ 64) 0 (wordAt m countWord)
+      (λ q a b. small-open m (held .first) q (omega (arith, held-count m held)) bytes .id)
 
   changed-ids : (id : ℕ) (f : Order → List Order) → ((o : Order) → Became o (f o)) → Found m id → (x : Order) → List·Memᴰ x (change id f (openOrders m)) → x .id < 2 ^ 64
   changed-ids id f becomes d =

@@ -38,7 +38,7 @@ use Rattle.layout.specs.Stores.{Records}
 use Rattle.layout.specs.Judged.{judged}
 use Rattle.layout.proofs.SameFields as layout
 use Rattle.soundness.specs.Held.{Held}
-use Rattle.soundness.proofs.SoundDesk.{held-count, open-count}
+use Rattle.soundness.proofs.SoundDesk.{held-count, held-records, open-count}
 
 -- the item of a line is on the roster
 abbrev pub LineTold : Roster → LimitLine → Type 0
@@ -86,11 +86,12 @@ module _ (m : List ℕ) (held : Held m) where
         long = held .long;
         sized = record { accounts = f .accounts .1; groups = f .groups .1; contracts = f .contracts .1; instruments = f .instruments .1 };
         count = held-count m held;
+        first = held .first;
       }
 
   -- its records can be worked on
   pub records : Records m
-  records = record { long = held .long; count = held-count m held }
+  records = held-records m held
 
   -- a record can hold an order in range
   pub storable : (o : Order) → OrderFits (rosterOf m) o → Storable o

@@ -1,5 +1,5 @@
 -- The view of a memory after an accepted event is the book's work and mark of the view before it.
-use Prim.Native.Nat.{ℕ, _^_, _<_}
+use Prim.Native.Nat.{ℕ, _^_, _≤_, _<_}
 use mathlib.Core.Path.{_≡_, refl, _∙_, sym, ap, fun-ext}
 use mathlib.Core.Bool.{true, cond}
 use mathlib.Core.List.{List}
@@ -9,6 +9,7 @@ use Rattle.words.specs.Bytes.{Bytes}
 use Rattle.ledger.specs.declared.order.Order.{Order}
 use Rattle.ledger.specs.declared.order.Side.{Side}
 use Rattle.ledger.specs.declared.order.Side.the-variants.{Buy, Sell}
+use Rattle.ledger.specs.Orders.{filledBy, placeFrom}
 use Rattle.ledger.specs.Fillings.{fillMoves}
 use Rattle.ledger.specs.Positions.{toward, wayOf}
 use Rattle.ledger.proofs.Amounts.{fill-apart}
@@ -20,17 +21,19 @@ use Rattle.book.specs.declared.Event.the-variants.{Limit, Balance, Block, New, 
 use Rattle.book.specs.Market.{derivatives}
 use Rattle.book.specs.Books.{at, lineOf, groupLineOf, withOrders, work, mark}
 use Rattle.book.proofs.SoundLines.{line-fits, group-line-fits}
-use Rattle.layout.specs.View.{linesOf, balancesOf, blocksOf, bookOf, tradingOf, view}
-use Rattle.layout.specs.Stores.{storeOrders}
+use Rattle.layout.specs.View.{linesOf, balancesOf, blocksOf, firstOf, openOrders, bookOf, tradingOf, view}
+use Rattle.layout.specs.Stores.{storeFrom, joinedFirst, rank}
 use Rattle.layout.specs.Judged.{judged}
+use Rattle.layout.proofs.Shifting.{joined-small}
 use Rattle.layout.proofs.ViewStores.{view-balance, view-mark}
 use Rattle.layout.proofs.ViewBlocks.{view-block-account, view-block-instrument, view-block-group}
 use Rattle.layout.proofs.ViewLimits.{view-own, view-default, view-of-group}
 use Rattle.layout.proofs.ViewOrders.{view-orders, held-orders, roster-orders}
 use Rattle.soundness.specs.Held.{Held}
 use Rattle.soundness.proofs.Bounded.{balance-small}
-use Rattle.working.specs.Working.{worked}
+use Rattle.working.specs.Working.{keptFirst, worked}
 use Rattle.working.proofs.Told.{laid, told}
+use Rattle.working.proofs.FirstRecord.{gone-small, kept-small}
 use Rattle.working.proofs.Writes.{few-after}
 use Rattle.working.proofs.Filling.{fill-one}
 use Rattle.working.proofs.Small.{Sized, small-line, small-group-line, small-after}
@@ -67,27 +70,29 @@ fill-size o n = ap natAbs (fill-one o n) ∙ by (o .side)
 
 module _ (m : List ℕ) (bytes : Bytes m) (held : Held m) where
   -- the orders afterwards, stored
-  orders-shown : (e : Event) → Sized e → judged m e ≡ 0 → view (storeOrders m (work (derivatives .unit) (bookOf m) e .orders)) ≡ record { book = withOrders (bookOf m) (work (derivatives .unit) (bookOf m) e .orders); trading = tradingOf m }
-  orders-shown e id-word passes =
-      view-orders m (work (derivatives .unit) (bookOf m) e .orders) (laid m held) (few-after m held e passes) (small-after m bytes held e id-word passes)
+  orders-shown : (f : ℕ) → f ≤ 256 → (e : Event) → Sized e → judged m e ≡ 0 → view (storeFrom m f (work (derivatives .unit) (bookOf m) e .orders)) ≡ record { book = withOrders (bookOf m) (work (derivatives .unit) (bookOf m) e .orders); trading = tradingOf m }
+  orders-shown f inside e id-word passes =
+      view-orders m f (work (derivatives .unit) (bookOf m) e .orders) (laid m held) inside (few-after m held e passes) (small-after m bytes held e id-word passes)
 
   new-shown : (s : Side) (a i id : ℕ) (n : ℤ) → id < 2 ^ 64 → judged m (New s a i id n) ≡ 0 → view (worked m (New s a i id n)) ≡ record { book = work (derivatives .unit) (bookOf m) (New s a i id n); trading = at a true (tradingOf m) }
   unfolding worked work bookOf view
   new-shown s a i id n id-word passes =
       let e = New s a i id n in
-      let shown = orders-shown e id-word passes in
-      let l = storeOrders m (work (derivatives .unit) (bookOf m) e .orders) in
+      let f = joinedFirst m (rank id (openOrders m)) in
+      let inside = joined-small m (rank id (openOrders m)) (held .first) in
+      let shown = orders-shown f inside e id-word passes in
+      let l = storeFrom m f (work (derivatives .unit) (bookOf m) e .orders) in
       let few = few-after m held e passes in
-      view-mark l (held-orders m _ (laid m held) few) a (rw (roster-orders m _ (laid m held) few) (told m held e passes .0))
+      view-mark l (held-orders m f _ (laid m held) inside few) a (rw (roster-orders m f _ (laid m held) inside few) (told m held e passes .0))
       ∙ ap (λ k. record { book = k .book; trading = at a true (k .trading) }) shown
 
   replace-shown : (id : ℕ) (n : ℤ) → judged m (Replace id n) ≡ 0 → view (worked m (Replace id n)) ≡ record { book = work (derivatives .unit) (bookOf m) (Replace id n); trading = tradingOf m }
   unfolding worked work bookOf
-  replace-shown id n passes = orders-shown (Replace id n) tt passes
+  replace-shown id n passes = orders-shown (firstOf m) (held .first) (Replace id n) tt passes
 
   cancel-shown : (id : ℕ) → judged m (Cancel id) ≡ 0 → view (worked m (Cancel id)) ≡ record { book = work (derivatives .unit) (bookOf m) (Cancel id); trading = tradingOf m }
   unfolding worked work bookOf
-  cancel-shown id passes = orders-shown (Cancel id) tt passes
+  cancel-shown id passes = orders-shown _ (gone-small m (held .first) (placeFrom 0 id (openOrders m))) (Cancel id) tt passes
 
   fill-shown : (id : ℕ) (n : ℤ) → judged m (Fill id n) ≡ 0 → view (worked m (Fill id n)) ≡ record { book = work (derivatives .unit) (bookOf m) (Fill id n); trading = tradingOf m }
   unfolding worked work bookOf view
@@ -99,13 +104,15 @@ module _ (m : List ℕ) (bytes : Bytes m) (held : Held m) where
       let i = o .instrument in
       let unit = derivatives .unit in
       let z = balancesOf m a i +ℤ fillMoves unit a i o (natAbs n) in
-      let l = storeOrders m (work unit (bookOf m) e .orders) in
+      let f = keptFirst m (placeFrom 0 id (openOrders m)) (filledBy o (natAbs n)) in
+      let inside = kept-small m (held .first) (placeFrom 0 id (openOrders m)) (filledBy o (natAbs n)) in
+      let l = storeFrom m f (work unit (bookOf m) e .orders) in
       let few = few-after m held e passes in
-      let roster = roster-orders m (work unit (bookOf m) e .orders) (laid m held) few in
+      let roster = roster-orders m f (work unit (bookOf m) e .orders) (laid m held) inside few in
       let balances = fill-moves unit o (natAbs n) (balancesOf m) in
       rw (t .0 .found)
-      (view-balance l (held-orders m _ (laid m held) few) a i z (rw roster (t .0 .fits .account)) (rw roster (t .0 .fits .instrument)) (omega (sized, balance-small m held a i, fill-size o (natAbs n), magnitude-sum (balancesOf m a i) (fillMoves unit a i o (natAbs n)))) unit
-      ∙ ap (λ k. record { book = work unit (k .book) (Balance a i z); trading = k .trading }) (orders-shown e tt passes)
+      (view-balance l (held-orders m f _ (laid m held) inside few) a i z (rw roster (t .0 .fits .account)) (rw roster (t .0 .fits .instrument)) (omega (sized, balance-small m held a i, fill-size o (natAbs n), magnitude-sum (balancesOf m a i) (fillMoves unit a i o (natAbs n)))) unit
+      ∙ ap (λ k. record { book = work unit (k .book) (Balance a i z); trading = k .trading }) (orders-shown f inside e tt passes)
       ∙ ap (λ s. record { book = record { balanceOf = s; linesOf = linesOf m; blocks = blocksOf m; orders = work unit (bookOf m) e .orders }; trading = tradingOf m }) balances)
 
   pub view-worked : (e : Event) → Sized e → judged m e ≡ 0 → view (worked m e) ≡ record { book = work (derivatives .unit) (bookOf m) e; trading = mark (tradingOf m) e }

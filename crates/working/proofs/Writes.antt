@@ -4,13 +4,14 @@ use mathlib.Core.Path.{_≡_, refl, _∙_}
 use mathlib.Core.List.{List, [], _∷_}
 use mathlib.Core.Option.{Option, none, some}
 use native.Mathlib.Omega.{arith}
-use lib.IntN.{ℤ}
+use lib.IntN.{ℤ, natAbs}
 use lib.ListN.{length, getD}
 use Rattle.integers.specs.TwosComplement.{bitsOf}
 use Rattle.words.specs.Bytes.{Bytes}
 use Rattle.words.specs.Words.{wordAt, putWord, lower, upper, putSigned, putWords}
 use Rattle.words.proofs.Memory.{length-put, bytes-put, byte-put-other, word-put-other}
 use Rattle.ledger.specs.declared.order.Order.{Order}
+use Rattle.ledger.specs.Orders.{filledBy, placeFrom}
 use Rattle.ledger.specs.Roster.{Numbered}
 use Rattle.limits.specs.Lines.{Line, GroupLine}
 use Rattle.book.specs.declared.LimitLine.the-variants.{Own, Default, OfGroup}
@@ -23,14 +24,16 @@ use Rattle.book.specs.Sound.{LineFits, GroupLineFits}
 use Rattle.book.proofs.SoundLines.{line-fits, group-line-fits}
 use Rattle.book.proofs.SoundOrders.{count-after}
 use Rattle.layout.specs.Layout.{markWord, accountBlockWord, instrumentBlockWord, groupBlockRow, balanceRow, ownSetRow, defaultSetRow, groupSetRow, ownRow, defaultRow, groupRow}
-use Rattle.layout.specs.View.{rosterOf, bookOf, tradingOf}
-use Rattle.layout.specs.Stores.{orderWord, fields, putOrder, putOrders, storeOrders}
+use Rattle.layout.specs.View.{rosterOf, openOrders, bookOf, tradingOf}
+use Rattle.layout.specs.Stores.{recordWord, fields, putOrder, putOrders, storeFrom}
 use Rattle.layout.specs.FieldStores.{lineWords, groupLineWords, storeLine, storeGroupLine, storeBalance}
 use Rattle.layout.specs.Judged.{judged}
 use Rattle.layout.proofs.RosterLaws.{roster-same}
+use Rattle.layout.proofs.Shifting.{joined-small}
 use Rattle.soundness.specs.Held.{Held}
 use Rattle.working.specs.Working.{worked}
 use Rattle.working.proofs.Told.{sound, laid, passed, told}
+use Rattle.working.proofs.FirstRecord.{gone-small, kept-small}
 
 -- no event of an order
 abbrev pub Setting : Event → Type 0
@@ -47,11 +50,13 @@ Setting Junk = Unit
 abbrev pub FiguresFit : ℕ → Type 0
 FiguresFit v = (lower v ≤ 1000000000) × (upper v ≤ 1000000000)
 
--- what a store of v in word k is: behind the roster, inside the desk, of a setting before the records, and of a line with its figures in range
+-- what a store of v in word k is: behind the roster, inside the desk, of a setting before the records, of the first record's place inside the
+-- region, and of a line with its figures in range
 pub record Stores (e : Event) (k v : ℕ) : Type 0 where
   pub low : 112 ≤ k
   pub high : k < 8192
   pub aside : Setting e → (128 ≤ k) × (k < 4224)
+  pub first : k ≡ 113 → v ≤ 256
   pub figures : 1536 ≤ k → k < 2880 → FiguresFit v
 
 -- at most 256 orders are open afterwards
@@ -83,17 +88,18 @@ module _ (S : ℕ → ℕ → Type 0) (P : List ℕ → Type 0) (keeps : (l : Li
   unfolding putSigned
   keeps-signed l k z ok = keeps l k (bitsOf 64 z) (ok (bitsOf 64 z))
 
-  module _ (ok : (j v : ℕ) → 4224 ≤ j → j < 6272 → S j v) where
-    keeps-records : (os : List Order) (l : List ℕ) (q : ℕ) → q + length os ≤ 256 → P l → P (putOrders l q os)
+  module _ (ok : (j v : ℕ) → 4224 ≤ j → j < 5248 → S j v) where
+    keeps-records : (os : List Order) (l : List ℕ) (q : ℕ) → q + length os ≤ 512 → P l → P (putOrders l q os)
     unfolding putOrders putOrder fields
     keeps-records [] l q few p = p
     keeps-records (o ∷ os) l q few p =
-        keeps-records os (putOrder l q o) (q + 1) (omega arith) (keeps-words (fields o) l (orderWord q) (λ j h. ok (orderWord q + j) _ (omega arith) (omega arith)) p)
+        keeps-records os (putOrder l q o) (q + 1) (omega arith) (keeps-words (fields o) l (recordWord q) (λ j h. ok (recordWord q + j) _ (omega arith) (omega arith)) p)
 
-    keeps-orders : ((v : ℕ) → S 112 v) → (m : List ℕ) (os : List Order) → length os ≤ 256 → P m → P (storeOrders m os)
-    unfolding storeOrders
-    keeps-orders count m os few p =
-        keeps (putOrders m 0 os) 112 (length os) (count (length os)) (keeps-records os m 0 (omega arith) p)
+    keeps-orders : ((v : ℕ) → S 112 v) → ((v : ℕ) → v ≤ 256 → S 113 v) → (m : List ℕ) (f : ℕ) (os : List Order) → f ≤ 256 → length os ≤ 256 → P m → P (storeFrom m f os)
+    unfolding storeFrom
+    keeps-orders count first m f os low few p =
+        keeps (putWord (putOrders m f os) 113 f) 112 (length os) (count (length os))
+        (keeps (putOrders m f os) 113 f (first f low) (keeps-records os m f (omega arith) p))
 
   -- a line: its figures are in range
   module _ (m : List ℕ) (s k : ℕ) (set : (v : ℕ) → v ≤ 1 → S s v) (p : P m) where
@@ -116,9 +122,18 @@ module _ (e : Event) (P : List ℕ → Type 0) (keeps : (l : List ℕ) (k v : �
       let sized = laid m held .sized in
       keeps-signed (Stores e) P keeps l (balanceRow a + i) z (λ v. omega arith)
 
-  keeps-list : (Setting e → ⊥) → judged m e ≡ 0 → P m → P (storeOrders m (work (derivatives .unit) (bookOf m) e .orders))
-  keeps-list of-order passes =
-      keeps-orders (Stores e) P keeps (λ j v low high. record { low = omega arith; high = omega arith; aside = λ s. absurd (of-order s); figures = omega arith }) (λ v. record { low = omega arith; high = omega arith; aside = λ s. absurd (of-order s); figures = omega arith }) m _ (few-after m held e passes)
+  -- a word behind the roster, of an event of an order
+  of-order : (Setting e → ⊥) → (k v : ℕ) → 112 ≤ k → k < 8192 → (k ≡ 113 → v ≤ 256) → (1536 ≤ k → k < 2880 → ⊥) → Stores e k v
+  of-order no-setting k v low high first apart =
+      record { low = low; high = high; aside = λ s. absurd (no-setting s); first = first; figures = λ a b. absurd (apart a b) }
+
+  keeps-list : (Setting e → ⊥) → (f : ℕ) → f ≤ 256 → judged m e ≡ 0 → P m → P (storeFrom m f (work (derivatives .unit) (bookOf m) e .orders))
+  keeps-list no-setting f inside passes =
+      keeps-orders (Stores e) P keeps
+      (λ j v low high. of-order no-setting j v (omega arith) (omega arith) (λ same. omega arith) (λ a b. omega arith))
+      (λ v. of-order no-setting 112 v (omega arith) (omega arith) (λ same. omega arith) (λ a b. omega arith))
+      (λ v small. of-order no-setting 113 v (omega arith) (omega arith) (λ same. small) (λ a b. omega arith))
+      m f _ inside (few-after m held e passes)
 
 pub worked-keeps : (e : Event) (P : List ℕ → Type 0) → ((l : List ℕ) (k v : ℕ) → Stores e k v → P l → P (putWord l k v)) → (m : List ℕ) → Held m → judged m e ≡ 0 → P m → P (worked m e)
 unfolding worked work bookOf derivatives
@@ -152,13 +167,13 @@ worked-keeps (Block (GroupFor a g) z) P keeps m held passes p =
 worked-keeps (New s a i id n) P keeps m held passes p =
     let t = told m held (New s a i id n) passes in
     let sized = laid m held .sized in
-    keeps _ (markWord a) 1 (omega arith) (keeps-list (New s a i id n) P keeps m held (λ x. x) passes p)
-worked-keeps (Replace id n) P keeps m held passes p = keeps-list (Replace id n) P keeps m held (λ x. x) passes p
-worked-keeps (Cancel id) P keeps m held passes p = keeps-list (Cancel id) P keeps m held (λ x. x) passes p
+    keeps _ (markWord a) 1 (omega arith) (keeps-list (New s a i id n) P keeps m held (λ x. x) _ (joined-small m _ (held .first)) passes p)
+worked-keeps (Replace id n) P keeps m held passes p = keeps-list (Replace id n) P keeps m held (λ x. x) _ (held .first) passes p
+worked-keeps (Cancel id) P keeps m held passes p = keeps-list (Cancel id) P keeps m held (λ x. x) _ (gone-small m (held .first) (placeFrom 0 id (openOrders m))) passes p
 worked-keeps (Fill id n) P keeps m held passes p =
     let f = told m held (Fill id n) passes .0 in
     rw (f .found)
-    (keeps-balance (Fill id n) P keeps m held _ (f .order .account) (f .order .instrument) _ (f .fits .account) (f .fits .instrument) (keeps-list (Fill id n) P keeps m held (λ x. x) passes p))
+    (keeps-balance (Fill id n) P keeps m held _ (f .order .account) (f .order .instrument) _ (f .fits .account) (f .fits .instrument) (keeps-list (Fill id n) P keeps m held (λ x. x) _ (kept-small m (held .first) (placeFrom 0 id (openOrders m)) (filledBy (f .order) (natAbs n))) passes p))
 worked-keeps Junk P keeps m held passes p = p
 
 -- ---- so are kept

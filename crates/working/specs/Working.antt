@@ -1,15 +1,16 @@
 -- The memory after an accepted event, by an equation for each kind, and the contracts bought and sold that it moved.
 use Prim.Native.Nat.{ℕ, _+_, _<_}
 use mathlib.Core.Path.{_≡_}
-use mathlib.Core.Bool.{Bool, not}
+use mathlib.Core.Bool.{Bool, not, cond}
 use mathlib.Core.List.{List, [], _∷_}
 use mathlib.Core.Option.{Option, none, some}
 use lib.IntN.{natAbs, _+ℤ_}
 use Rattle.ledger.specs.declared.order.Order.{Order}
 use Rattle.ledger.specs.declared.order.Side.{Side}
 use Rattle.ledger.specs.declared.order.Side.the-variants.{Buy, Sell}
-use Rattle.ledger.specs.declared.find.Found.the-variants.{At}
-use Rattle.ledger.specs.Orders.{filledBy, replacedTotal, placeFrom}
+use Rattle.ledger.specs.declared.find.Found.{Found}
+use Rattle.ledger.specs.declared.find.Found.the-variants.{At, Nothing}
+use Rattle.ledger.specs.Orders.{filledBy, replacedTotal, closes, placeFrom}
 use Rattle.ledger.specs.Fillings.{fillMoves}
 use Rattle.limits.specs.Asked.{isZero}
 use Rattle.book.specs.declared.LimitLine.{LimitLine}
@@ -21,9 +22,9 @@ use Rattle.book.specs.declared.Event.the-variants.{Limit, Balance, Block, New, 
 use Rattle.book.specs.Market.{derivatives}
 use Rattle.book.specs.OpenOrders.{find, insert, change, kept}
 use Rattle.book.specs.Books.{lineOf, groupLineOf, newOrder}
-use Rattle.layout.specs.View.{balancesOf, openOrders}
+use Rattle.layout.specs.View.{balancesOf, firstOf, openOrders}
 use Rattle.layout.specs.Judged.{judged, NamedAt}
-use Rattle.layout.specs.Stores.{orderIn, storeOrders, Records}
+use Rattle.layout.specs.Stores.{orderIn, storeFrom, joinedFirst, leftFirst, Records, rank}
 use Rattle.layout.specs.FieldStores.{storeBalance, storeMark, blockAccount, blockInstrument, blockGroup, storeOwn, storeDefault, storeOfGroup}
 use Rattle.soundness.specs.Held.{Held}
 
@@ -50,22 +51,35 @@ blockStored m (Account a) on = blockAccount m a on
 blockStored m (Instrument i) on = blockInstrument m i on
 blockStored m (GroupFor a g) on = blockGroup m a g on
 
+-- where the first record stands when the order found at a place leaves
+abbrev pub goneFirst : List ℕ → Found → ℕ
+goneFirst m Nothing = firstOf m
+goneFirst m (At p) = leftFirst m p
+
+-- and when an order, which becomes o, is kept as long as something remains of it
+abbrev pub keptFirst : List ℕ → Found → Order → ℕ
+keptFirst m found o = cond (closes o) (goneFirst m found) (firstOf m)
+
 -- the order found is filled by n: its record changes or leaves, and its account's balance moves
 abbrev pub filled : List ℕ → ℕ → ℕ → Option Order → List ℕ
 filled m id n none = m
 filled m id n (some o) =
     let a = o .account in
     let i = o .instrument in
-    storeBalance (storeOrders m (change id (λ x. kept (filledBy x n)) (openOrders m))) a i (balancesOf m a i +ℤ fillMoves (derivatives .unit) a i o n)
+    let f = keptFirst m (placeFrom 0 id (openOrders m)) (filledBy o n) in
+    storeBalance (storeFrom m f (change id (λ x. kept (filledBy x n)) (openOrders m))) a i (balancesOf m a i +ℤ fillMoves (derivatives .unit) a i o n)
 
 -- the memory after the event
 unfoldable pub worked : List ℕ → Event → List ℕ
 worked m (Limit a l) = lineStored m a l
 worked m (Balance a i z) = storeBalance m a i z
 worked m (Block what z) = blockStored m what (not (isZero z))
-worked m (New s a i id n) = storeMark (storeOrders m (insert (newOrder s a i id n) (openOrders m))) a
-worked m (Replace id n) = storeOrders m (change id (λ o. replacedTotal o (natAbs n) ∷ []) (openOrders m))
-worked m (Cancel id) = storeOrders m (change id (λ o. []) (openOrders m))
+worked m (New s a i id n) =
+    storeMark (storeFrom m (joinedFirst m (rank id (openOrders m))) (insert (newOrder s a i id n) (openOrders m))) a
+worked m (Replace id n) =
+    storeFrom m (firstOf m) (change id (λ o. replacedTotal o (natAbs n) ∷ []) (openOrders m))
+worked m (Cancel id) =
+    storeFrom m (goneFirst m (placeFrom 0 id (openOrders m))) (change id (λ o. []) (openOrders m))
 worked m (Fill id n) = filled m id (natAbs n) (find id (openOrders m))
 worked m Junk = m
 

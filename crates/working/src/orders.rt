@@ -3,13 +3,14 @@ ghost use mathlib.Core.Path.{_≡_};
 ghost use Prim.Native.Nat.{_≤_};
 ghost use lib.IntN.{pos, natAbs, _+ℤ_};
 ghost use Rattle.ledger.specs.declared.order.Side.the-variants.{Buy, Sell};
+ghost use Rattle.ledger.specs.declared.find.Found.the-variants.{At};
 ghost use Rattle.ledger.specs.Orders.{filledBy};
 ghost use Rattle.ledger.specs.Positions.{toward, wayOf};
 ghost use Rattle.book.specs.declared.Event.the-variants.{New, Replace, Cancel, Fill};
 ghost use Rattle.book.specs.OpenOrders.{change, kept};
 ghost use Rattle.layout.specs.View.{openOrders};
-ghost use Rattle.layout.specs.Stores.{storeOrders};
-ghost use Rattle.working.specs.Working.{Ready, Stands, worked, moved, onSide};
+ghost use Rattle.layout.specs.Stores.{storeFrom};
+ghost use Rattle.working.specs.Working.{Ready, Stands, keptFirst, worked, moved, onSide};
 use crate::Moved;
 use layout::orders::insert_order;
 use layout::orders::load_order;
@@ -91,7 +92,7 @@ fn balance_after(side: Side, balance: i64, n: u64) -> i64
 // The order's record after a fill by `n`: at remaining 0 it leaves.
 fn fill_record(m: &mut [u8], place: usize, o: Order, n: u64)
     requires { ⌜ Stands (now m) place o n ⌝ }
-    ensures { λ r. ⌜ now (m .exit) ≡ storeOrders (now (m .entry)) (change (o .id) (λ x. kept (filledBy x n)) (openOrders (now (m .entry)))) ⌝ }
+    ensures { λ r. ⌜ now (m .exit) ≡ storeFrom (now (m .entry)) (keptFirst (now (m .entry)) (At place) (filledBy o n)) (change (o .id) (λ x. kept (filledBy x n)) (openOrders (now (m .entry)))) ⌝ }
 {
     let next = o.filled_by(n);
     if next.remaining() == 0 {

@@ -7,6 +7,8 @@ mod detail;
 mod field;
 mod sound;
 
+use std::ops::Range;
+
 use days::plain::{Block, Line};
 use reference::roster::Sizes;
 use reference::{Book, Desk, GroupLine, Order, Roster, MEMORY};
@@ -78,12 +80,24 @@ impl<'a> Words<'a> {
         Some(count).filter(|&count| count <= RECORDS)
     }
 
-    /// Every word that has a meaning, if sizes and count are within their limits.
-    pub fn fields(&self) -> Option<Vec<Field>> {
-        Some(fields(self.sizes()?, self.count()?))
+    /// Which record is the first in use, if there are records from it on.
+    pub fn first(&self) -> Option<usize> {
+        let first = usize::try_from(self.get(Field::First)).ok()?;
+        Some(first).filter(|&first| first <= RECORDS)
     }
 
-    /// Every other word: spare ones, places off the roster, records behind the count.
+    /// The records in use, if the first and the count are within their limits.
+    pub fn records(&self) -> Option<Range<usize>> {
+        let first = self.first()?;
+        Some(first..first + self.count()?)
+    }
+
+    /// Every word that has a meaning, if sizes, first and count are within their limits.
+    pub fn fields(&self) -> Option<Vec<Field>> {
+        Some(fields(self.sizes()?, self.records()?))
+    }
+
+    /// Every other word: spare ones, places off the roster, records not in use.
     pub fn without_meaning(&self) -> Option<Vec<usize>> {
         let mut meaning = [false; WORDS];
         for field in self.fields()? {
@@ -93,7 +107,7 @@ impl<'a> Words<'a> {
     }
 
     /// The desk that the words say, sound or not. None where the second implementation's data has
-    /// no room for it: another kind of desk, sizes or a count past their limits, numbers of
+    /// no room for it: another kind of desk, sizes, first or count past their limits, numbers of
     /// groups or contracts past 16 bits.
     pub fn desk(&self) -> Option<Desk> {
         if self.get(Field::Kind) != 1 {
@@ -113,7 +127,7 @@ impl<'a> Words<'a> {
         for line in lines(sizes).filter(|&line| self.is(Field::Set(line))) {
             self.read_line(line, &mut desk.book);
         }
-        let orders = (0..self.count()?).map(|record| self.order(record));
+        let orders = self.records()?.map(|record| self.order(record));
         desk.book.orders = orders.collect();
         Some(desk)
     }

@@ -4,13 +4,17 @@ use days::gate::{Gate, GroupPosition, InstrumentPosition};
 use days::random::Random;
 use reference::MEMORY;
 
-use crate::layout::{Field, Words};
+use crate::layout::{Field, Words, PARTS};
 use crate::ProvedDesk;
 
-/// Changes at random all that must not matter on a sound desk: words without meaning, the bytes
-/// behind the first 65,536, which word other than 0 says yes, and the figures of lines that are not
-/// set. A memory whose sizes or count are past their limits stays as it is.
+/// Changes at random all that must not matter on a sound desk: where in their region the order
+/// records stand, words without meaning, the bytes behind the first 65,536, which word other than 0
+/// says yes, and the figures of lines that are not set. A memory whose sizes, first record or count
+/// are past their limits stays as it is.
 pub fn scramble(desk: &mut ProvedDesk, random: &mut Random) {
+    if desk.words().fields().is_some() {
+        place_records(desk, random);
+    }
     let words = desk.words();
     let (Some(spare), Some(fields)) = (words.without_meaning(), words.fields()) else {
         return;
@@ -29,6 +33,23 @@ pub fn scramble(desk: &mut ProvedDesk, random: &mut Random) {
     }
     for place in MEMORY..desk.memory().len() {
         desk.put(place, &[random.number() as u8]);
+    }
+}
+
+/// Places the records in use anywhere in their region.
+fn place_records(desk: &mut ProvedDesk, random: &mut Random) {
+    let words = desk.words();
+    let records = words.records().into_iter().flatten();
+    let records: Vec<[u64; 2]> = records
+        .map(|record| PARTS.map(|part| words.get(Field::Order(record, part))))
+        .collect();
+    let any = random.below(257);
+    let first = random.one_of(&[0, 1, 255, 256, any]);
+    desk.put_field(Field::First, first as u64);
+    for (place, record) in records.iter().enumerate() {
+        for (part, value) in PARTS.into_iter().zip(record) {
+            desk.put_field(Field::Order(first + place, part), *value);
+        }
     }
 }
 

@@ -1,6 +1,7 @@
 use borrow.Author.Needs.{needs}
 use mir.Syntax.{w64}
 use mir.ValLaws.{toZ-ofZ}
+use Rattle.soundness.proofs.SoundDesk.{held-records}
 use Rattle.soundness.proofs.Bounded.{group-bounds}
 use Rattle.reading.proofs.Reports.{group-told}
 use Rattle.reading.proofs.group_report.Statement.{statement}
@@ -10,7 +11,7 @@ group-position-requires : tie.Need-group-position-requires
 group-position-requires c κs =
     let orders = c .before .before .before in
     let read = orders .before .before .pre in
-    rw (orders .part .ensures, c .before .before .word .ensures, c .before .part2 .ensures, c .part3 .ensures) (group-bounds _ (read .held) _ (read .account))
+    rw (orders .records .ensures, c .before .before .word .ensures, c .before .part .ensures, c .part2 .ensures) (group-bounds _ (read .held) _ (read .account))
 
 returns : tie.Need-returns
 returns c =
@@ -18,13 +19,13 @@ returns c =
     let start = at .before .before .before .before .before .before in
     rw (toZ-ofZ w64 (c .before .weighted .result) (record { sfits = c .before .weighted .ok }), c .before .weighted .ensures, toZ-ofZ w64 (c .weighted2 .result) (record { sfits = c .weighted2 .ok }), c .weighted2 .ensures)
     (group-told _ _ (start .pre) _ (at .group-position .result)
-    (rw (← at .before .before .before .before .part .ensures, ← at .before .before .before .word .ensures, ← at .before .before .part2 .ensures, ← at .before .part3 .ensures) (at .group-position .ensures)))
+    (rw (← at .before .before .before .before .records .ensures, ← at .before .before .before .word .ensures, ← at .before .before .part .ensures, ← at .before .part2 .ensures) (at .group-position .ensures)))
 
 pub group-report-spec : {M : Type 1} → statement M
 group-report-spec =
     tie.close
     (tie.spec
-    (λ c κs. search needs)
+    (λ c κs. held-records _ (c .before .pre .held))
     (λ c κs. search needs)
     (λ c. search needs)
     (λ c. search needs)

@@ -1,7 +1,7 @@
 use borrow.Author.Needs.{needs}
 use mir.Syntax.{w64}
 use mir.ValLaws.{toZ-ofZ}
-use Rattle.soundness.proofs.SoundDesk.{held-count}
+use Rattle.soundness.proofs.SoundDesk.{held-count, held-records}
 use Rattle.soundness.proofs.Bounded.{instrument-bounds}
 use Rattle.reading.proofs.Reports.{instrument-told}
 use Rattle.reading.proofs.instrument_report.Statement.{statement}
@@ -11,7 +11,7 @@ listed-position-requires : tie.Need-listed-position-requires
 listed-position-requires c κs =
     let orders = c .before .before in
     let read = orders .before .before .pre in
-    rw (orders .part .ensures, c .before .word .ensures, c .part2 .ensures) (held-count _ (read .0 .held), instrument-bounds _ (read .0 .held) _ (read .0 .account) _ (read .1))
+    rw (orders .records .ensures, c .before .word .ensures, c .part .ensures) (held-count _ (read .0 .held), instrument-bounds _ (read .0 .held) _ (read .0 .account) _ (read .1))
 
 returns : tie.Need-returns
 returns c =
@@ -19,13 +19,13 @@ returns c =
     let start = at .before .before .before .before .before in
     rw (toZ-ofZ w64 (c .before .before .contracts .result) (record { sfits = c .before .before .contracts .ok }), c .before .before .contracts .ensures, toZ-ofZ w64 (c .before .contracts2 .result) (record { sfits = c .before .contracts2 .ok }), c .before .contracts2 .ensures, toZ-ofZ w64 (c .contracts3 .result) (record { sfits = c .contracts3 .ok }), c .contracts3 .ensures)
     (instrument-told _ _ (start .pre .0) _ (start .pre .1) (at .listed-position .result)
-    (rw (← at .before .before .before .part .ensures, ← at .before .before .word .ensures, ← at .before .part2 .ensures) (at .listed-position .ensures)))
+    (rw (← at .before .before .before .records .ensures, ← at .before .before .word .ensures, ← at .before .part .ensures) (at .listed-position .ensures)))
 
 pub instrument-report-spec : {M : Type 1} → statement M
 instrument-report-spec =
     tie.close
     (tie.spec
-    (λ c κs. search needs)
+    (λ c κs. held-records _ (c .before .pre .0 .held))
     (λ c κs. search needs)
     (λ c. search needs)
     (λ c. search needs)

@@ -8,7 +8,7 @@ use Rattle.soundness.specs.Soundness.{rosterSound}
 use Rattle.soundness.specs.Cells.{Readable}
 use Rattle.soundness.proofs.Asked.{said-no, said-yes}
 use Rattle.soundness.proofs.RosterLaws.{readable, sound-sizes}
-use Rattle.soundness.proofs.Whole.{too-short, other-kind, too-many, no-roster, no-lines, the-rest}
+use Rattle.soundness.proofs.Whole.{too-short, other-kind, too-many, too-far, no-roster, no-lines, the-rest}
 use Rattle.soundness.proofs.is_sound_with_sums.Statement.{statement}
 use Rattle.soundness.proofs.is_sound_with_sums.Tie as tie
 
@@ -16,8 +16,8 @@ use Rattle.soundness.proofs.is_sound_with_sums.Tie as tie
 kind : (c : tie.Else2) → wordAt (c .before .before .before .before .args .m .now) kindWord ≡ 1
 kind c = sym (c .before .word .ensures) ∙ c .if2 .left
 
-passed : (c : tie.Else4) → rosterSound (c .before .before .before .before .before .before .before .before .args .m .now) ≡ true
-passed c = said-yes _ _ (c .before .roster-is-sound .ensures) (c .if4 .left)
+passed : (c : tie.Else5) → rosterSound (c .before .before .before .before .before .before .before .before .before .before .args .m .now) ≡ true
+passed c = said-yes _ _ (c .before .roster-is-sound .ensures) (c .if5 .left)
 
 returns : tie.Need-returns
 returns c = (too-short _ (c .if1 .taken), λ e. absurd (false≢true e))
@@ -38,7 +38,7 @@ returns-4 c =
     let three = c .before .before in
     let two = three .before .before in
     let one = two .before .before in
-    (no-roster _ (one .if1 .left) (kind two) (omega (arith, three .before .word2 .ensures)) (said-no _ _ (c .before .roster-is-sound .ensures) (c .if4 .taken)), λ e. absurd (false≢true e))
+    (too-far _ (one .if1 .left) (kind two) (omega (arith, three .before .word2 .ensures)) (omega (arith, c .before .word3 .ensures)), λ e. absurd (false≢true e))
 
 returns-5 : tie.Need-returns-5
 returns-5 c =
@@ -46,7 +46,7 @@ returns-5 c =
     let three = four .before .before in
     let two = three .before .before in
     let one = two .before .before in
-    (no-lines _ (one .if1 .left) (kind two) (omega (arith, three .before .word2 .ensures)) (passed four) (said-no _ _ (c .before .lines-are-sound .ensures) (c .if5 .taken)), λ e. absurd (false≢true e))
+    (no-roster _ (one .if1 .left) (kind two) (omega (arith, three .before .word2 .ensures)) (omega (arith, four .before .word3 .ensures)) (said-no _ _ (c .before .roster-is-sound .ensures) (c .if5 .taken)), λ e. absurd (false≢true e))
 
 returns-6 : tie.Need-returns-6
 returns-6 c =
@@ -55,18 +55,30 @@ returns-6 c =
     let three = four .before .before in
     let two = three .before .before in
     let one = two .before .before in
-    (the-rest _ (one .if1 .left) (kind two) (omega (arith, three .before .word2 .ensures)) (passed four) (said-yes _ _ (five .before .lines-are-sound .ensures) (five .if5 .left)) _ (c .orders-and-positions .ensures .0), c .orders-and-positions .ensures .1)
+    (no-lines _ (one .if1 .left) (kind two) (omega (arith, three .before .word2 .ensures)) (omega (arith, four .before .word3 .ensures)) (passed five) (said-no _ _ (c .before .lines-are-sound .ensures) (c .if6 .taken)), λ e. absurd (false≢true e))
 
-may-read : (c : tie.Else4) → Readable (c .before .before .before .before .before .before .before .before .args .m .now)
+returns-7 : tie.Need-returns-7
+returns-7 c =
+    let six = c .before .before in
+    let five = six .before .before in
+    let four = five .before .before in
+    let three = four .before .before in
+    let two = three .before .before in
+    let one = two .before .before in
+    (the-rest _ (one .if1 .left) (kind two) (omega (arith, three .before .word2 .ensures)) (omega (arith, four .before .word3 .ensures)) (passed five) (said-yes _ _ (six .before .lines-are-sound .ensures) (six .if6 .left)) _ (c .orders-and-positions .ensures .0), c .orders-and-positions .ensures .1)
+
+may-read : (c : tie.Else5) → Readable (c .before .before .before .before .before .before .before .before .before .before .args .m .now)
 may-read c =
-    let one = c .before .before .before .before .before .before in
+    let one = c .before .before .before .before .before .before .before .before in
     readable _ (one .if1 .left) (sound-sizes _ (passed c))
 
 orders-and-positions-requires : tie.Need-orders-and-positions-requires
 orders-and-positions-requires c κs =
-    let four = c .before .before .before in
+    let five = c .before .before .before in
+    let four = five .before .before in
     let three = four .before .before in
-    (may-read four, omega (arith, three .before .word2 .ensures), three .before .before .before .before .before .before .pre)
+    let one = three .before .before .before .before in
+    (may-read five, record { long = one .if1 .left; count = omega (arith, three .before .word2 .ensures); first = omega (arith, four .before .word3 .ensures) }, one .before .before .pre)
 
 pub is-sound-with-sums-spec : {M : Type 1} → statement M
 is-sound-with-sums-spec =
@@ -79,7 +91,9 @@ is-sound-with-sums-spec =
     returns-3
     (λ c κs. search needs)
     returns-4
-    (λ c κs. may-read c)
+    (λ c κs. search needs)
     returns-5
+    (λ c κs. may-read c)
+    returns-6
     orders-and-positions-requires
-    returns-6)
+    returns-7)

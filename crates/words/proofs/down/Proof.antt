@@ -9,7 +9,7 @@ use Rattle.words.proofs.down.Tie as tie
 
 -- what is left to store from i on is what was to be stored from the start
 abbrev Inv-loop : tie.InvT-loop
-Inv-loop s₀ by n i₀ s i = (i ≤ n) × (length s ≡ length s₀) × (falling by n s i ≡ falling by n s₀ 0)
+Inv-loop s₀ by n i₀ s i = (i ≤ n) × (length s ≡ length s₀) × (falling 0 by n s i ≡ falling 0 by n s₀ 0)
 
 abbrev μ-loop : tie.MeasureT-loop
 μ-loop s₀ by n i₀ s i = n - i
@@ -21,12 +21,12 @@ loop-again : tie.Need-loop-again Inv-loop μ-loop
 loop-again c =
     let put = c .before .before in
     let at = put .before .before .before .before .before in
-    (omega arith, put .set-word .kept .0 ∙ at .loop .inv .1, falling-turn _ _ _ _ (at .loop .i) _ (omega arith) (put .before .word .ensures) (put .set-word .ensures) ∙ at .loop .inv .2)
+    (omega arith, put .set-word .kept .0 ∙ at .loop .inv .1, falling-turn _ _ _ _ _ (at .loop .i) _ _ _ (omega arith) (omega arith) (omega arith) (omega arith) (put .before .word .ensures) (put .set-word .ensures) ∙ at .loop .inv .2)
 
 returns : tie.Need-returns Inv-loop μ-loop
 returns c =
     let at = c .before in
-    sym (falling-end _ _ _ (at .loop .i) (omega arith)) ∙ at .loop .inv .2 ∙ falling-start _ _ _
+    sym (falling-end _ _ _ _ (at .loop .i) (omega arith)) ∙ at .loop .inv .2 ∙ falling-start _ _ _ _
 
 pub down-spec : {M : Type 1} → statement M
 down-spec =

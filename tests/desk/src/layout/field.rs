@@ -8,7 +8,7 @@ use reference::roster::Sizes;
 /// How many words a desk's memory has.
 pub const WORDS: usize = 8_192;
 
-/// How many order records a desk's memory has.
+/// How many order records can be in use, and how many can stand before the first of them.
 pub const RECORDS: usize = 256;
 
 /// How many words a record has.
@@ -48,6 +48,8 @@ pub enum Field {
     Weight(u16),
     /// How many orders are open.
     Count,
+    /// Which record is the first in use.
+    First,
     /// The trading mark of an account.
     Mark(u16),
     Block(Block),
@@ -83,6 +85,7 @@ impl Field {
             Field::ContractOf(instrument) => numbered(13, instrument),
             Field::Weight(instrument) => numbered(45, instrument),
             Field::Count => 112,
+            Field::First => 113,
             Field::Mark(account) => numbered(128, account),
             Field::Block(block) => block_word(block),
             Field::Balance {
@@ -178,9 +181,9 @@ pub fn places(sizes: Sizes) -> impl Iterator<Item = (u16, u16)> {
     })
 }
 
-/// Every field of a desk with a roster of these sizes, all within their limits, and so many open
-/// orders, at most 256.
-pub fn fields(sizes: Sizes, count: usize) -> Vec<Field> {
+/// Every field of a desk with a roster of these sizes, all within their limits, and these records
+/// in use.
+pub fn fields(sizes: Sizes, records: Range<usize>) -> Vec<Field> {
     let mut fields = vec![
         Field::Kind,
         Field::Accounts,
@@ -188,6 +191,7 @@ pub fn fields(sizes: Sizes, count: usize) -> Vec<Field> {
         Field::Contracts,
         Field::Instruments,
         Field::Count,
+        Field::First,
     ];
     fields.extend((1..=sizes.contracts).map(Field::GroupOf));
     fields.extend((1..=sizes.instruments).flat_map(|i| [Field::ContractOf(i), Field::Weight(i)]));
@@ -201,7 +205,7 @@ pub fn fields(sizes: Sizes, count: usize) -> Vec<Field> {
         fields.push(Field::Set(line));
         fields.extend((0..figures_of(line)).map(|place| Field::Figure(line, place)));
     }
-    for record in 0..count {
+    for record in records {
         fields.extend(PARTS.map(|part| Field::Order(record, part)));
     }
     fields

@@ -2,6 +2,7 @@
 //! itself.
 
 use std::collections::BTreeSet;
+use std::ops::Range;
 
 use days::plain::Line;
 use reference::roster::Sizes;
@@ -22,6 +23,8 @@ pub enum Clause {
     Kind,
     /// The layout's: at most 256 orders are open.
     Count,
+    /// The layout's: at most 256 records stand before the first in use.
+    First,
     /// The layout's: no id is below the one in the record before. With ids that differ and are
     /// not 0, they ascend strictly.
     IdsAscend,
@@ -49,9 +52,10 @@ pub enum Clause {
 }
 
 impl Clause {
-    pub const ALL: [Clause; 20] = [
+    pub const ALL: [Clause; 21] = [
         Clause::Kind,
         Clause::Count,
+        Clause::First,
         Clause::IdsAscend,
         Clause::UnsetLine,
         Clause::Sizes,
@@ -88,24 +92,25 @@ impl Asked {
 }
 
 impl Words<'_> {
-    /// The clauses that the memory breaks; a sound desk breaks none. Where sizes or count are past
-    /// their limits, what hangs on them is not asked.
+    /// The clauses that the memory breaks; a sound desk breaks none. Where sizes, first or count are
+    /// past their limits, what hangs on them is not asked.
     pub fn broken(&self) -> BTreeSet<Clause> {
         let mut asked = Asked::default();
         asked.ask(Clause::Kind, self.get(Field::Kind) == 1);
         asked.ask(Clause::Count, self.count().is_some());
+        asked.ask(Clause::First, self.first().is_some());
         asked.ask(Clause::Sizes, self.sizes().is_some());
         if let Some(sizes) = self.sizes() {
             self.ask_roster(sizes, &mut asked);
             for line in lines(sizes) {
                 asked.ask(self.line_clause(line), self.line_is_in_range(line));
             }
-            if let Some(count) = self.count() {
-                self.ask_ids(count, &mut asked);
-                for record in 0..count {
+            if let Some(records) = self.records() {
+                self.ask_ids(records.clone(), &mut asked);
+                for record in records.clone() {
                     self.ask_order(sizes, record, &mut asked);
                 }
-                self.ask_positions(sizes, count, &mut asked);
+                self.ask_positions(sizes, records, &mut asked);
             }
         }
         asked.broken
@@ -139,12 +144,12 @@ impl Words<'_> {
         (0..figures_of(line)).all(|place| self.get(Field::Figure(line, place)) <= LARGEST_LIMIT)
     }
 
-    fn ask_ids(&self, count: usize, asked: &mut Asked) {
+    fn ask_ids(&self, records: Range<usize>, asked: &mut Asked) {
         let id = |record| self.get(Field::Order(record, Part::Id));
-        let ids: Vec<u64> = (0..count).map(id).collect();
+        let ids: Vec<u64> = records.map(id).collect();
         let different: BTreeSet<u64> = ids.iter().copied().collect();
         asked.ask(Clause::IdsNonZero, !different.contains(&0));
-        asked.ask(Clause::IdsDiffer, different.len() == count);
+        asked.ask(Clause::IdsDiffer, different.len() == ids.len());
         asked.ask(Clause::IdsAscend, ids.is_sorted());
     }
 
@@ -164,11 +169,11 @@ impl Words<'_> {
     }
 
     /// S + B and −S + V of every account and instrument. An order off the roster is in no sum.
-    fn ask_positions(&self, sizes: Sizes, count: usize, asked: &mut Asked) {
+    fn ask_positions(&self, sizes: Sizes, records: Range<usize>, asked: &mut Asked) {
         let balance = |(account, instrument)| i128::from(self.balance(account, instrument));
         let mut long: Vec<i128> = places(sizes).map(balance).collect();
         let mut short: Vec<i128> = long.iter().map(|balance| -balance).collect();
-        for record in 0..count {
+        for record in records {
             let order = self.detail(record);
             let sums = match order.side {
                 Side::Buy => &mut long,

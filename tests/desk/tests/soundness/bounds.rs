@@ -19,6 +19,7 @@ pub fn clauses(words: Words, field: Field) -> Vec<Clause> {
         Field::ContractOf(_) => vec![Clause::ContractOfInstrument],
         Field::Weight(_) => vec![Clause::Weight],
         Field::Count => vec![Clause::Count],
+        Field::First => vec![Clause::First],
         Field::Mark(_) => vec![Clause::Trading],
         Field::Block(_) | Field::Set(_) => Vec::new(),
         Field::Balance { .. } => vec![Clause::Long, Clause::Short],
@@ -61,7 +62,7 @@ fn bounds(words: Words, field: Field) -> Vec<u64> {
         Field::GroupOf(_) => vec![words.get(Field::Groups)],
         Field::ContractOf(_) => vec![words.get(Field::Contracts)],
         Field::Weight(_) => vec![LARGEST_WEIGHT as u64, -LARGEST_WEIGHT as u64],
-        Field::Count => vec![256],
+        Field::Count | Field::First => vec![256],
         Field::Balance {
             account,
             instrument,
@@ -86,8 +87,9 @@ fn order_bounds(words: Words, record: usize, part: Part) -> Vec<u64> {
     let other = |record, part| words.get(Field::Order(record, part));
     match part {
         Part::Id => {
-            let last = words.count().map_or(0, |count| count.saturating_sub(1));
-            let neighbours = [record.saturating_sub(1), (record + 1).min(last)];
+            let records = words.records().unwrap_or(record..record + 1);
+            let before = record.saturating_sub(1).max(records.start);
+            let neighbours = [before, (record + 1).min(records.end - 1)];
             neighbours.map(|record| other(record, Part::Id)).to_vec()
         }
         Part::Detail => detail_bounds(words, words.detail(record)),

@@ -12,7 +12,7 @@ use Rattle.book.specs.Table.{isQuantity}
 use Rattle.book.proofs.Tables.{between-numbered, quantity-numbered}
 use Rattle.layout.specs.View.{rosterOf}
 use Rattle.soundness.proofs.Asked.{said-no, said-yes}
-use Rattle.soundness.proofs.SoundDesk.{held-count}
+use Rattle.soundness.proofs.SoundDesk.{held-records}
 use Rattle.judging.proofs.Said.{said, quantity-cast}
 use Rattle.judging.proofs.Verdicts.{refused}
 use Rattle.judging.proofs.ByKind.{new-answer}
@@ -59,7 +59,7 @@ cast-t15 c = quantity-cast _ (c .before .before .before .before .before .before 
 place-requires : tie.Need-place-requires
 place-requires c κs =
     let held = c .before .before .before .before .before .before .before .before .pre .0 in
-    (held .long, held-count _ held, held-ids _ held)
+    (held-records _ held, held-ids _ held)
 
 new-order-requires : tie.Need-new-order-requires
 new-order-requires c κs =

@@ -12,6 +12,7 @@ use Rattle.book.specs.Table.{isQuantity}
 use Rattle.book.proofs.Tables.{quantity-numbered}
 use Rattle.layout.specs.View.{openOrders}
 use Rattle.soundness.proofs.Asked.{said-no, said-yes}
+use Rattle.soundness.proofs.SoundDesk.{held-records}
 use Rattle.judging.proofs.Said.{said, quantity-cast}
 use Rattle.judging.proofs.Verdicts.{refused}
 use Rattle.judging.proofs.ByKind.{replace-figure, replace-none, replace-found}
@@ -34,7 +35,7 @@ returns c =
 load-order-requires : tie.Need-load-order-requires
 load-order-requires c κs =
     let s = c .before .before .before .before .before .before .before .before in
-    (s .pre .0 .long, place-small _ _ (s .pre .0) _ (found (c .before)))
+    (held-records _ (s .pre .0), place-small _ _ (s .pre .0) _ (found (c .before)))
 
 cast-replaced : tie.Need-cast-replaced
 cast-replaced c =

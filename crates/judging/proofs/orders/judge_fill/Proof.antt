@@ -12,6 +12,7 @@ use Rattle.book.specs.Answers.{numberOf}
 use Rattle.book.specs.Table.{isQuantity}
 use Rattle.layout.specs.View.{openOrders}
 use Rattle.soundness.proofs.Asked.{said-no, said-yes}
+use Rattle.soundness.proofs.SoundDesk.{held-records}
 use Rattle.judging.proofs.Said.{said, quantity-cast}
 use Rattle.judging.proofs.Verdicts.{refused}
 use Rattle.judging.proofs.ByKind.{fill-answer}
@@ -34,7 +35,7 @@ returns c =
 load-order-requires : tie.Need-load-order-requires
 load-order-requires c κs =
     let s = c .before .before .before .before .before .before .before in
-    (s .pre .long, place-small _ _ (s .pre) _ (found (c .before)))
+    (held-records _ (s .pre), place-small _ _ (s .pre) _ (found (c .before)))
 
 cast-filled : tie.Need-cast-filled
 cast-filled c =

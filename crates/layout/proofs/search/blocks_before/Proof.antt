@@ -46,8 +46,8 @@ loop-again c =
     let read = c .before .id-at .ensures in (
       omega arith,
       by-id (λ k. Before r (b + 1) (s .loop .before + k)) (c .counted .ensures)
-          (λ larger. none-before r b (s .loop .before) (s .loop .inv .1) (at-larger _ _ (pre .0 .1) _ _ inside read larger))
-          (λ other. one-before r b (s .loop .before) (s .loop .inv .1) (at-other _ _ (pre .0 .1) _ _ inside read (pre .0 .2) other)),
+          (λ larger. none-before r b (s .loop .before) (s .loop .inv .1) (at-larger _ _ _ _ inside read larger))
+          (λ other. one-before r b (s .loop .before) (s .loop .inv .1) (at-other _ _ _ _ inside read (pre .0 .1) other)),
     )
 
 returns : tie.Need-returns Inv-loop μ-loop

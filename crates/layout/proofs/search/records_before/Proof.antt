@@ -41,8 +41,8 @@ loop-again c =
       omega arith,
       omega arith,
       by-id (λ k. Before r (a .from) (p + 1) (s .loop .before + k)) (c .counted .ensures)
-          (λ larger. none-before r (a .from) p (s .loop .before) was (at-larger _ _ (pre .0 .1) _ _ inside read larger))
-          (λ other. one-before r (a .from) p (s .loop .before) was (at-other _ _ (pre .0 .1) _ _ inside read (pre .0 .2) other)),
+          (λ larger. none-before r (a .from) p (s .loop .before) was (at-larger _ _ _ _ inside read larger))
+          (λ other. one-before r (a .from) p (s .loop .before) was (at-other _ _ _ _ inside read (pre .0 .1) other)),
     )
 
 pub records-before-spec : {M : Type 1} → statement M

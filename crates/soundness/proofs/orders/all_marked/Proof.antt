@@ -20,11 +20,11 @@ returns c =
     tells-yes (λ p l. c .before .all-trade .ensures (c .if1 .taken) _ (record-packable _ p) (s .pre .2 p l))
 
 -- the records are there
-long : (c : tie.In-loop Inv-loop μ-loop) → let at = c .before in (length (at .before .part .result .now) ≡ 4096) × (at .loop .p < 256)
+long : (c : tie.In-loop Inv-loop μ-loop) → let at = c .before in (length (at .before .records .result .now) ≡ 4096) × (at .loop .p < 256)
 long c =
     let at = c .before in
     let s = at .before .before .before .before .before .before in
-    asked-long _ _ _ _ _ (at .loop .inv) (s .pre .0 .long) (s .pre .1) (omega arith)
+    asked-long _ _ _ _ _ (at .loop .inv) (s .pre .1) (omega arith)
 
 returns-2 : tie.Need-returns-2 Inv-loop μ-loop
 returns-2 c =
@@ -47,8 +47,8 @@ all-marked-spec =
     (λ c κs. c .before .pre .0)
     returns
     (λ c κs. omega (arith, c .before .before .before .pre .0 .long))
-    (λ c κs. omega (arith, c .before .before .before .before .pre .0 .long))
-    (λ c. asked-none _ _ _ _ (c .before .word .ensures) (c .part .ensures))
+    (λ c κs. c .before .before .before .before .pre .1)
+    (λ c. asked-none _ _ _ _ (c .before .word .ensures) (c .records .ensures))
     (λ c κs. omega (arith, long c))
     (λ c κs. c .before .before .before .before .before .before .before .before .pre .0)
     returns-2

@@ -1,7 +1,8 @@
 use mathlib.Core.Bool.{false≢true}
 use borrow.Author.Needs.{needs}
 use borrow.Author.Tests.{not-false}
-use Rattle.soundness.specs.Each.{Each, Within}
+use Rattle.ledger.specs.Records.{Within}
+use Rattle.soundness.specs.Each.{Each}
 use Rattle.soundness.proofs.Telling.{told-yes, told-no}
 use Rattle.soundness.proofs.OrdersTold.{refused-order, refused-total, last-told, gathered-small}
 use Rattle.soundness.proofs.orders.gather.Statement.{statement}
@@ -39,7 +40,7 @@ returns-3 c =
     let s = passed .before .before .before in
     let totals = told-yes _ (two .before .totals-fit .ensures) (two .if2 .left) in (
       last-told _ (told-yes _ (passed .gather-all .ensures .0) (one .if1 .left)) totals _ (c .all-marked .ensures),
-      λ e. gathered-small _ _ (s .pre .1) totals (passed .gather-all .ensures .1 .1 (not-false _ (one .if1 .left))),
+      λ e. gathered-small _ _ (s .pre .1 .count) totals (passed .gather-all .ensures .1 .1 (not-false _ (one .if1 .left))),
     )
 
 pub gather-spec : {M : Type 1} → statement M

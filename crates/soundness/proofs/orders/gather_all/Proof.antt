@@ -3,8 +3,9 @@ use mathlib.Core.Path.{_≡_}
 use mathlib.Core.Bool.{false≢true}
 use native.Mathlib.Omega.{arith}
 use lib.ListN.{length}
-use Rattle.words.specs.Words.{wordAt, partOf}
-use Rattle.layout.specs.Layout.{countWord, ordersWord}
+use Rattle.words.specs.Words.{wordAt}
+use Rattle.layout.specs.Layout.{countWord}
+use Rattle.layout.specs.View.{recordsOf}
 use Rattle.soundness.proofs.Telling.{records-long}
 use Rattle.soundness.proofs.Gathering.{Passed, passed-none, passed-id, passed-nothing, passed-more, ids-refused, record-refused, all-told, all-within, all-gathered}
 use Rattle.soundness.proofs.orders.gather_all.Statement.{statement}
@@ -13,46 +14,51 @@ use Rattle.soundness.proofs.orders.gather_all.Tie as tie
 abbrev Inv-loop : tie.InvT-loop
 Inv-loop m cells₀ n orders last₀ all₀ p₀ cells last all p =
     (n ≡ wordAt m countWord)
-    × (orders ≡ partOf m ordersWord 512)
+    × (orders ≡ recordsOf m)
     × Passed orders n cells last all p
 
 abbrev μ-loop : tie.MeasureT-loop
 μ-loop m cells₀ n orders last₀ all₀ p₀ cells last all p = n - p
 
 -- the records are there
-long : (c : tie.In-loop Inv-loop μ-loop) → let at = c .before in (length (at .before .part .result .now) ≡ 4096) × (at .loop .p < 256)
+long : (c : tie.In-loop Inv-loop μ-loop) → let at = c .before in (length (at .before .records .result .now) ≡ 4096) × (at .loop .p < 256)
 long c =
     let at = c .before in
     let s = at .before .before .before .before in
-    (records-long _ _ _ (at .loop .inv .0) (at .loop .inv .1) (s .pre .0 .long), omega (arith, at .loop .inv .0, s .pre .1))
+    (records-long _ _ _ (at .loop .inv .0) (at .loop .inv .1) (s .pre .1), omega (arith, at .loop .inv .0, s .pre .1 .count))
 
 returns : tie.Need-returns Inv-loop μ-loop
 returns c =
     let at = c .before .before .before .before in
-    let ids = passed-id _ _ _ _ _ (at .loop .p) (at .loop .inv .2) _ _ (omega arith) (c .before .before .word2 .ensures) (c .before .word3 .ensures) (c .if1 .taken) in
+    let ids = passed-id _ _ _ _ _ (at .loop .p) (at .loop .inv .2) _ _ (omega arith) (c .before .before .id-in .ensures) (c .before .detail-in .ensures) (c .if1 .taken) in
     (ids-refused _ _ _ (at .loop .inv .0) (at .loop .inv .1) ids, (λ e. absurd (false≢true e), λ e. absurd (false≢true e)))
 
 returns-2 : tie.Need-returns-2 Inv-loop μ-loop
 returns-2 c =
-    let at = c .before .before .before .before .before in
-    let none = passed-nothing _ _ _ _ _ (at .loop .p) (at .loop .inv .2) _ _ (omega arith) (c .before .before .before .word2 .ensures) (c .before .before .word3 .ensures) (c .if2 .taken) in
+    let rest = c .before in
+    let read = rest .before .before in
+    let at = read .before .before .before in
+    let none = passed-nothing _ _ _ _ _ (at .loop .p) (at .loop .inv .2) _ _ (omega arith) (read .before .id-in .ensures) (read .detail-in .ensures) _ (rest .remaining-of .ensures) (c .if2 .taken) in
     (record-refused _ _ _ (at .loop .inv .0) (at .loop .inv .1) (at .loop .p) (omega arith) none, (λ e. absurd (false≢true e), λ e. absurd (false≢true e)))
 
 add-to-requires : tie.Need-add-to-requires Inv-loop μ-loop
 add-to-requires c κs =
-    let at = c .before .before .before .before .before .before in
+    let at = c .before .before .before .before .before .before .before .before in
     let past = at .loop .inv .2 in
     let s = at .before .before .before .before in
-    (past .size, λ j. omega (arith, past .small j, at .loop .inv .0, s .pre .1, past .upto))
+    (past .size, λ j. omega (arith, past .small j, at .loop .inv .0, s .pre .1 .count, past .upto))
 
 loop-again : tie.Need-loop-again Inv-loop μ-loop
 loop-again c =
-    let two = c .before .before in
-    let read = two .before .before in
+    let all = c .before .before in
+    let two = all .before in
+    let rest = two .before in
+    let one = rest .before in
+    let read = one .before in
     let at = read .before .before .before in (
       at .loop .inv .0,
       at .loop .inv .1,
-      passed-more _ _ _ _ _ (at .loop .p) (at .loop .inv .2) _ _ (omega arith) (read .before .word2 .ensures) (read .word3 .ensures) (two .before .if1 .left) (two .if2 .left) (read .word3 .ok) _ (c .add-to .ensures _),
+      passed-more _ _ _ _ _ (at .loop .p) (at .loop .inv .2) _ _ (omega arith) (read .before .id-in .ensures) (read .detail-in .ensures) (one .if1 .left) _ (rest .remaining-of .ensures) (two .if2 .left) (read .detail-in .ok) _ (all .joined .ensures) _ (c .add-to .ensures _),
     )
 
 returns-3 : tie.Need-returns-3 Inv-loop μ-loop
@@ -70,17 +76,16 @@ gather-all-spec =
     Inv-loop
     μ-loop
     (λ c κs. omega (arith, c .before .pre .0 .long))
-    (λ c κs. omega (arith, c .before .before .pre .0 .long))
-    (λ c. (c .before .word .ensures, c .part .ensures, passed-none _ _ _ (c .before .before .before .pre .2)))
-    (λ c. omega (arith, long c))
+    (λ c κs. c .before .before .pre .1)
+    (λ c. (c .before .word .ensures, c .records .ensures, passed-none _ _ _ (c .before .before .before .pre .2)))
     (λ c κs. omega (arith, long c))
-    (λ c. omega (arith, long (c .before)))
-    (λ c. omega (arith, long (c .before)))
     (λ c κs. omega (arith, long (c .before)))
     returns
+    (λ c κs. tt)
     returns-2
+    (λ c κs. tt)
     add-to-requires
-    (λ c. omega (arith, long (c .before .before .before .before .before .before)))
+    (λ c. omega (arith, long (c .before .before .before .before .before .before .before .before)))
     (λ c. omega arith)
     loop-again
     returns-3)

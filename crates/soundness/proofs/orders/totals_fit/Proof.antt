@@ -3,7 +3,7 @@ use mathlib.Core.Path.{_≡_}
 use native.Mathlib.Omega.{arith}
 use lib.ListN.{length}
 use Rattle.soundness.specs.Each.{TotalFits}
-use Rattle.soundness.proofs.Details.{within-total}
+use Rattle.ledger.proofs.Details.{within-total}
 use Rattle.soundness.proofs.Telling.{tells-yes, AskedTo, asked-none, asked-all, asked-long, asked-more, asked-refused}
 use Rattle.soundness.proofs.orders.totals_fit.Statement.{statement}
 use Rattle.soundness.proofs.orders.totals_fit.Tie as tie
@@ -16,15 +16,16 @@ abbrev μ-loop : tie.MeasureT-loop
 
 returns : tie.Need-returns Inv-loop μ-loop
 returns c =
-    let s = c .before .before in
-    tells-yes (λ p l. omega (arith, within-total _ _ (s .pre .2 p l), c .if1 .taken))
+    let rest = c .before in
+    let s = rest .before .before .before in
+    tells-yes (λ p l. omega (arith, within-total _ _ (s .pre .2 p l), c .if1 .taken, rest .remaining-of .ensures, rest .before .filled-of .ensures))
 
 -- the records are there
-long : (c : tie.In-loop Inv-loop μ-loop) → let at = c .before in (length (at .before .part .result .now) ≡ 4096) × (at .loop .p < 256)
+long : (c : tie.In-loop Inv-loop μ-loop) → let at = c .before in (length (at .before .records .result .now) ≡ 4096) × (at .loop .p < 256)
 long c =
     let at = c .before in
-    let s = at .before .before .before .before .before in
-    asked-long _ _ _ _ _ (at .loop .inv) (s .pre .0 .long) (s .pre .1) (omega arith)
+    let s = at .before .before .before .before .before .before .before in
+    asked-long _ _ _ _ _ (at .loop .inv) (s .pre .1) (omega arith)
 
 returns-2 : tie.Need-returns-2 Inv-loop μ-loop
 returns-2 c =
@@ -44,11 +45,13 @@ totals-fit-spec =
     (tie.spec
     Inv-loop
     μ-loop
-    (λ c. omega (arith, c .before .fits .details))
+    (λ c κs. tt)
+    (λ c κs. tt)
+    (λ c. omega (arith, c .remaining-of .ensures, c .before .filled-of .ensures, c .before .before .before .fits .details))
     returns
-    (λ c κs. omega (arith, c .before .before .pre .0 .long))
-    (λ c κs. omega (arith, c .before .before .before .pre .0 .long))
-    (λ c. asked-none _ _ _ _ (c .before .word .ensures) (c .part .ensures))
+    (λ c κs. omega (arith, c .before .before .before .before .pre .0 .long))
+    (λ c κs. c .before .before .before .before .before .pre .1)
+    (λ c. asked-none _ _ _ _ (c .before .word .ensures) (c .records .ensures))
     (λ c κs. omega (arith, long c))
     returns-2
     (λ c. omega (arith, long (c .before .before .before)))

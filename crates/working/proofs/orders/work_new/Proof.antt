@@ -25,7 +25,7 @@ returns : tie.Need-returns
 returns c =
     let put = c .before .before .before .before .before .before in
     let start = put .before .before .before in
-    joined _ _ _ _ _ _ _ _ (start .fits .quantity) (put .insert-order .ensures) (c .before .before .set-mark .ensures)
+    joined _ _ _ _ _ _ _ _ _ (start .pre .named) (start .fits .quantity) (put .insert-order .ensures) (c .before .before .set-mark .ensures)
 
 pub work-new-spec : {M : Type 1} → statement M
 work-new-spec = tie.close (tie.spec cast-t11 insert-order-requires set-mark-requires (λ c. search needs) returns)

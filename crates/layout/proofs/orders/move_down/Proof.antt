@@ -1,0 +1,21 @@
+use borrow.Author.Needs.{needs}
+use Rattle.layout.proofs.Shifting.{moved-down}
+use Rattle.layout.proofs.orders.move_down.Statement.{statement}
+use Rattle.layout.proofs.orders.move_down.Tie as tie
+
+returns : tie.Need-returns
+returns c =
+    let moved = c .before .before in
+    let start = moved .before .before .before in
+    moved-down (start .args .m .now) _ (start .args .at) (start .args .n) (start .pre .1) (moved .words-down .ensures)
+
+pub move-down-spec : {M : Type 1} → statement M
+move-down-spec =
+    tie.close
+    (tie.spec
+    (λ c. search needs)
+    (λ c. search needs)
+    (λ c. search needs)
+    (λ c κs. search needs)
+    (λ c. search needs)
+    returns)

@@ -1,0 +1,80 @@
+-- What the order of an id and a detail says, and details joined bit by bit: each figure is at most that of the whole.
+use Prim.Native.Nat.{ℕ, _+_, _/_, _%_, _≤_, _<_, _^_}
+use mathlib.Core.Path.{_≡_, refl, ap, _∙_}
+use mathlib.Core.List.{List}
+use native.Mathlib.Omega.{arith}
+use lib.Bits.{bitOr, or-shr, or-mod}
+use Rattle.words.proofs.Bits.{or-left, or-right}
+use Rattle.ledger.specs.declared.order.Order.{Order}
+use Rattle.ledger.specs.Orders.{remaining}
+use Rattle.ledger.specs.Records.{packed, packedSide, packedAccount, packedInstrument, Packable, detailPacked, detailFilled, detailRemaining, Within, orderOf, idAt, detailAt, orderAt}
+use Rattle.ledger.proofs.Packing.{packed-again}
+
+-- ---- the order of an id and a detail
+module _ (id w : ℕ) where
+  pub id-of : orderOf id w .id ≡ id
+  unfolding orderOf
+  id-of = refl
+
+  pub remaining-of : remaining (orderOf id w) ≡ detailRemaining w
+  unfolding remaining orderOf
+  remaining-of = omega arith
+
+  pub packed-of : packed (orderOf id w .side) (orderOf id w .account) (orderOf id w .instrument) ≡ detailPacked w
+  unfolding orderOf
+  packed-of = packed-again w
+
+  -- its account and its instrument are numbers that can be packed
+  pub packable-of : Packable (orderOf id w .account) (orderOf id w .instrument)
+  unfolding orderOf
+  packable-of = ((omega arith, omega arith), (omega arith, omega arith))
+
+pub remaining-below : (w : ℕ) → w < 2 ^ 64 → detailRemaining w < 134217728
+remaining-below w h = omega arith
+
+-- ---- a record
+module _ (s : List ℕ) (p : ℕ) where
+  pub order-of : orderAt s p ≡ orderOf (idAt s p) (detailAt s p)
+  unfolding orderAt
+  order-of = refl
+
+  pub id-at : orderAt s p .id ≡ idAt s p
+  id-at = ap (λ (o : Order). o .id) order-of ∙ id-of (idAt s p) (detailAt s p)
+
+-- ---- details joined
+module _ (all w : ℕ) where
+  filled-joined : detailFilled (bitOr all w) ≡ bitOr (detailFilled all) (detailFilled w)
+  filled-joined = ap (λ (x : ℕ). x % 134217728) (or-shr all w 10) ∙ or-mod (all / 1024) (w / 1024) 27
+
+  remaining-joined : detailRemaining (bitOr all w) ≡ bitOr (detailRemaining all) (detailRemaining w)
+  remaining-joined = or-shr all w 37
+
+  account-joined : packedAccount (bitOr all w) ≡ bitOr (all / 64 % 16) (w / 64 % 16) + 1
+  account-joined = ap (λ (x : ℕ). x % 16 + 1) (or-shr all w 6) ∙ ap (λ (x : ℕ). x + 1) (or-mod (all / 64) (w / 64) 4)
+
+  instrument-joined : packedInstrument (bitOr all w) ≡ bitOr (all % 32) (w % 32) + 1
+  instrument-joined = ap (λ (x : ℕ). x + 1) (or-mod all w 5)
+
+  pub joined-before : (o : Order) → Within all o → Within (bitOr all w) o
+  joined-before o h =
+      record {
+        account = rw account-joined (omega (arith, h .account, or-left (all / 64 % 16) (w / 64 % 16)));
+        instrument = rw instrument-joined (omega (arith, h .instrument, or-left (all % 32) (w % 32)));
+        filled = rw filled-joined (omega (arith, h .filled, or-left (detailFilled all) (detailFilled w)));
+        remaining = rw remaining-joined (omega (arith, h .remaining, or-left (detailRemaining all) (detailRemaining w)));
+      }
+
+module _ (all id w : ℕ) where
+  pub joined-here : Within (bitOr all w) (orderOf id w)
+  unfolding remaining orderOf
+  joined-here =
+      record {
+        account = rw (account-joined all w) (omega (arith, or-right (all / 64 % 16) (w / 64 % 16)));
+        instrument = rw (instrument-joined all w) (omega (arith, or-right (all % 32) (w % 32)));
+        filled = rw (filled-joined all w) (or-right (detailFilled all) (detailFilled w));
+        remaining = rw (remaining-joined all w) (omega (arith, or-right (detailRemaining all) (detailRemaining w)));
+      }
+
+pub within-total : (all : ℕ) (o : Order) → Within all o → o .total ≤ detailFilled all + detailRemaining all
+unfolding remaining
+within-total all o h = omega (arith, h .filled, h .remaining)
