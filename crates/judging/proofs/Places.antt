@@ -18,7 +18,7 @@ use Rattle.book.proofs.Cuts.{standing}
 use Rattle.layout.specs.Layout.{countWord}
 use Rattle.layout.specs.View.{recordsOf, openOrders, bookOf, view}
 use Rattle.layout.specs.Stores.{orderIn, rank}
-use Rattle.layout.proofs.Shifting.{rank-open}
+use Rattle.layout.proofs.Lengths.{rank-open}
 use Rattle.soundness.specs.Held.{Held}
 use Rattle.soundness.proofs.SoundDesk.{held-count}
 

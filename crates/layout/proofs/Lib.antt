@@ -6,6 +6,9 @@ pub mod Stored
 pub mod Apart
 pub mod Pieces
 pub mod Shifting
+pub mod Lengths
+pub mod FirstRecord
+pub mod ListChanges
 pub mod Ranking
 pub mod LinesInRows
 pub mod BookLists

@@ -15,7 +15,7 @@ use Rattle.book.specs.Sound.{Ascending, next}
 use Rattle.layout.specs.Layout.{countWord}
 use Rattle.layout.specs.View.{recordsOf, openOrders}
 use Rattle.layout.specs.Stores.{orderIn, rank}
-use Rattle.layout.proofs.Shifting.{rank-open}
+use Rattle.layout.proofs.Lengths.{rank-open}
 
 ascending-out : {least : ℕ} {o : Order} {os : List Order} → Ascending least (o ∷ os) → (least < o .id) × Ascending (o .id) os
 ascending-out (next l a) = (l, a)

@@ -7,7 +7,7 @@ use Rattle.ledger.specs.declared.find.Found.{Found}
 use Rattle.ledger.specs.declared.find.Found.the-variants.{At, Nothing}
 use Rattle.ledger.specs.Orders.{closes}
 use Rattle.layout.specs.View.{firstOf}
-use Rattle.layout.proofs.Shifting.{left-small}
+use Rattle.layout.proofs.FirstRecord.{left-small}
 use Rattle.working.specs.Working.{goneFirst, keptFirst}
 
 module _ (m : List ℕ) (inside : firstOf m ≤ 256) where

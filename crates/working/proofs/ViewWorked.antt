@@ -24,7 +24,7 @@ use Rattle.book.proofs.SoundLines.{line-fits, group-line-fits}
 use Rattle.layout.specs.View.{linesOf, balancesOf, blocksOf, firstOf, openOrders, bookOf, tradingOf, view}
 use Rattle.layout.specs.Stores.{storeFrom, joinedFirst, rank}
 use Rattle.layout.specs.Judged.{judged}
-use Rattle.layout.proofs.Shifting.{joined-small}
+use Rattle.layout.proofs.FirstRecord.{joined-small}
 use Rattle.layout.proofs.ViewStores.{view-balance, view-mark}
 use Rattle.layout.proofs.ViewBlocks.{view-block-account, view-block-instrument, view-block-group}
 use Rattle.layout.proofs.ViewLimits.{view-own, view-default, view-of-group}

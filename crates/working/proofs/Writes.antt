@@ -29,7 +29,7 @@ use Rattle.layout.specs.Stores.{recordWord, fields, putOrder, putOrders, storeF
 use Rattle.layout.specs.FieldStores.{lineWords, groupLineWords, storeLine, storeGroupLine, storeBalance}
 use Rattle.layout.specs.Judged.{judged}
 use Rattle.layout.proofs.RosterLaws.{roster-same}
-use Rattle.layout.proofs.Shifting.{joined-small}
+use Rattle.layout.proofs.FirstRecord.{joined-small}
 use Rattle.soundness.specs.Held.{Held}
 use Rattle.working.specs.Working.{worked}
 use Rattle.working.proofs.Told.{sound, laid, passed, told}

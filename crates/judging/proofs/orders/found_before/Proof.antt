@@ -2,7 +2,7 @@ use Prim.Native.Nat.{_-_}
 use mathlib.Core.Path.{_≡_, refl, _∙_, sym}
 use native.Mathlib.Omega.{arith}
 use Rattle.layout.proofs.Ranking.{at-larger, found-before, found-none}
-use Rattle.layout.proofs.Shifting.{rank-open}
+use Rattle.layout.proofs.Lengths.{rank-open}
 use Rattle.soundness.proofs.SoundDesk.{held-records}
 use Rattle.judging.proofs.Places.{held-ids, rank-small}
 use Rattle.judging.proofs.orders.found_before.Statement.{statement}

@@ -1,7 +1,7 @@
 use mathlib.Core.Logic.{⊎-elim, inl, inr}
 use native.Mathlib.Omega.{arith}
 use borrow.Author.Needs.{needs}
-use Rattle.layout.proofs.Shifting.{leaves-before, leaves-behind}
+use Rattle.layout.proofs.ListChanges.{leaves-before, leaves-behind}
 use Rattle.layout.proofs.orders.close_gap.Statement.{statement}
 use Rattle.layout.proofs.orders.close_gap.Tie as tie
 

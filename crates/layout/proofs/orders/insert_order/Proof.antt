@@ -1,7 +1,9 @@
 use Prim.Native.Nat.{_+_, _<_}
 use native.Mathlib.Omega.{arith}
 use borrow.Author.Needs.{needs}
-use Rattle.layout.proofs.Shifting.{rank-open, joined-by, joined-small}
+use Rattle.layout.proofs.Lengths.{rank-open}
+use Rattle.layout.proofs.ListChanges.{joined-by}
+use Rattle.layout.proofs.FirstRecord.{joined-small}
 use Rattle.layout.proofs.orders.insert_order.Statement.{statement}
 use Rattle.layout.proofs.orders.insert_order.Tie as tie
 

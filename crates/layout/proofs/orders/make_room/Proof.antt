@@ -5,7 +5,7 @@ use mathlib.Core.Logic.{_⊎_, ⊎-elim, inl, inr}
 use native.Mathlib.Omega.{arith}
 use borrow.Author.Needs.{needs}
 use lib.Dec.{ltb}
-use Rattle.layout.proofs.Shifting.{joins-before, joins-behind, joins-again}
+use Rattle.layout.proofs.ListChanges.{joins-before, joins-behind, joins-again}
 use Rattle.layout.proofs.orders.make_room.Statement.{statement}
 use Rattle.layout.proofs.orders.make_room.Tie as tie
 

@@ -1,6 +1,5 @@
 use mathlib.Core.Path.{_∙_, ap}
 use Prim.Native.Nat.{_+_, _*_}
-use native.Mathlib.Omega.{arith}
 use borrow.Author.Needs.{needs}
 use Rattle.words.specs.Words.{partOf}
 use Rattle.layout.proofs.orders.records.Statement.{statement}

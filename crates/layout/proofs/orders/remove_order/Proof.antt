@@ -1,5 +1,5 @@
 use borrow.Author.Needs.{needs}
-use Rattle.layout.proofs.Shifting.{left-by}
+use Rattle.layout.proofs.ListChanges.{left-by}
 use Rattle.layout.proofs.orders.remove_order.Statement.{statement}
 use Rattle.layout.proofs.orders.remove_order.Tie as tie
 

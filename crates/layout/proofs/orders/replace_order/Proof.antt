@@ -1,9 +1,8 @@
 use mathlib.Core.Path.{_∙_, ap}
 use Prim.Native.Nat.{_+_}
-use native.Mathlib.Omega.{arith}
 use borrow.Author.Needs.{needs}
 use Rattle.layout.specs.Stores.{putOrder}
-use Rattle.layout.proofs.Shifting.{changed}
+use Rattle.layout.proofs.ListChanges.{changed}
 use Rattle.layout.proofs.orders.replace_order.Statement.{statement}
 use Rattle.layout.proofs.orders.replace_order.Tie as tie
 

@@ -1,7 +1,7 @@
 use mathlib.Core.Logic.{⊎-elim}
 use native.Mathlib.Omega.{arith}
 use borrow.Author.Needs.{needs}
-use Rattle.layout.proofs.Shifting.{rank-open}
+use Rattle.layout.proofs.Lengths.{rank-open}
 use Rattle.layout.proofs.search.place.Statement.{statement}
 use Rattle.layout.proofs.search.place.Tie as tie
 
