@@ -21,8 +21,8 @@ fn no_day_differs_from_the_reference() {
     }
 }
 
-/// Spare words, places off the roster, records behind the count and the bytes behind the first
-/// 65,536 have no meaning.
+/// Spare words, places off the roster, records not in use and the bytes behind the first 65,536 have
+/// no meaning, and where in their region the records in use stand does not matter.
 #[test]
 fn no_day_differs_where_bytes_without_meaning_change() {
     for kind in kinds() {
