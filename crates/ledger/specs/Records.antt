@@ -44,7 +44,7 @@ packedInstrument w = w % 32 + 1
 unfoldable pub detail : Order → ℕ
 detail o = packed (o .side) (o .account) (o .instrument) + o .filled * 1024 + remaining o * 137438953472
 
--- what a detail says: side, account and instrument as one number, and with those of `packedSide` and the next two, what is
+-- what a detail says, beside the side, the account and the instrument that are read above: those three as one number, what is
 -- filled and what remains
 abbrev pub detailPacked : ℕ → ℕ
 detailPacked w = w % 1024
