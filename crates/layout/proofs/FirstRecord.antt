@@ -20,19 +20,21 @@ module _ (x y a n : ℕ) (t : Bool) where
   side-behind (inl both) = rw (lt-ltb a n (both .0), both .1)
   side-behind (inr most) = rw (le-ltb a n most)
 
-  side-small : (most : ℕ) → x ≤ most → y ≤ most → cond (ltb a n && t) x y ≤ most
-  side-small most hx hy = by (ltb a n && t)
+  -- what holds of both, of the first where t holds
+  side-small : (most : ℕ) → (t ≡ true → x ≤ most) → y ≤ most → cond (ltb a n && t) x y ≤ most
+  side-small most hx hy = by (ltb a n) t hx
     where
-      by : (u : Bool) → cond u x y ≤ most
-      by true = hx
-      by false = hy
+      by : (s u : Bool) → (u ≡ true → x ≤ most) → cond (s && u) x y ≤ most
+      by true true h = h refl
+      by true false h = hy
+      by false u h = hy
 
+-- the first record stands inside the region wherever an order joins or leaves
 module _ (m : List ℕ) (p : ℕ) (few : firstOf m ≤ 256) where
-  -- the first record stands inside the region wherever an order joins or leaves
   pub joined-small : joinedFirst m p ≤ 256
   unfolding joinedFirst
   joined-small =
-      side-small (firstOf m - 1) (cond (eqb (firstOf m) 256) 0 (firstOf m)) (p * 2) (wordAt m countWord) (ltb 0 (firstOf m)) 256 (omega arith)
+      side-small (firstOf m - 1) (cond (eqb (firstOf m) 256) 0 (firstOf m)) (p * 2) (wordAt m countWord) (ltb 0 (firstOf m)) 256 (λ e. omega arith)
       (by (eqb (firstOf m) 256))
     where
       by : (t : Bool) → cond t 0 (firstOf m) ≤ 256
@@ -41,9 +43,6 @@ module _ (m : List ℕ) (p : ℕ) (few : firstOf m ≤ 256) where
 
   pub left-small : leftFirst m p ≤ 256
   unfolding leftFirst
-  left-small = by (ltb (p * 2) (wordAt m countWord)) (ltb (firstOf m) 256) refl
-    where
-      by : (t u : Bool) → ltb (firstOf m) 256 ≡ u → cond (t && u) (firstOf m + 1) (firstOf m) ≤ 256
-      by true true e = omega (arith, ltb-true (firstOf m) 256 e)
-      by true false e = few
-      by false u e = few
+  left-small =
+      side-small (firstOf m + 1) (firstOf m) (p * 2) (wordAt m countWord) (ltb (firstOf m) 256) 256
+      (λ e. omega (arith, ltb-true (firstOf m) 256 e)) few

@@ -13,20 +13,20 @@ use Rattle.words.proofs.Parts.{length-part, word-part}
 use Rattle.ledger.specs.declared.order.Order.{Order}
 use Rattle.ledger.specs.Records.{orderOf, orderAt, ordersFrom}
 use Rattle.ledger.proofs.Packing.{detail-again, detail-below, detail-back, word-storable}
+use Rattle.ledger.proofs.Details.{id-of, order-of}
 use Rattle.layout.specs.Layout.{ordersWord}
 use Rattle.layout.specs.View.{firstOf, recordsOf}
 use Rattle.layout.specs.Stores.{orderIn, ordersIn, recordWord, recordIn, recordsIn, fields, putOrder, SmallOrder, Records}
 
 -- ---- the words of a record
-id-in : (m : List ℕ) (p : ℕ) → p < 512 → wordAt (partOf m ordersWord 1024) (p * 2) ≡ wordAt m (recordWord p)
-id-in m p h = word-part m ordersWord 1024 (p * 2) (omega arith)
-
-detail-in : (m : List ℕ) (p : ℕ) → p < 512 → wordAt (partOf m ordersWord 1024) (p * 2 + 1) ≡ wordAt m (recordWord p + 1)
-detail-in m p h = word-part m ordersWord 1024 (p * 2 + 1) (omega arith) ∙ ap (wordAt m) (omega arith)
+-- record p of a part of n words from word k on
+part-words : (m : List ℕ) (k n p : ℕ) → p * 2 + 1 < n → orderAt (partOf m k n) p ≡ orderOf (wordAt m (k + p * 2)) (wordAt m (k + p * 2 + 1))
+part-words m k n p h =
+    let e : k + (p * 2 + 1) ≡ k + p * 2 + 1 = omega arith in
+    order-of (partOf m k n) p ∙ rw (word-part m k n (p * 2) (omega arith), word-part m k n (p * 2 + 1) h, e)
 
 pub order-words : (m : List ℕ) (p : ℕ) → p < 512 → recordIn m p ≡ orderOf (wordAt m (recordWord p)) (wordAt m (recordWord p + 1))
-unfolding orderAt
-order-words m p h = rw (id-in m p h, detail-in m p h)
+order-words m p h = part-words m ordersWord 1024 p (omega arith)
 
 -- records of the same words are the same
 pub same-record : (l m : List ℕ) (p : ℕ) → p < 512 → ((j : ℕ) → recordWord p ≤ j → j < recordWord p + 2 → wordAt l j ≡ wordAt m j) → recordIn l p ≡ recordIn m p
@@ -78,10 +78,10 @@ module _ (m : List ℕ) (p : ℕ) (o : Order) where
 
 -- ---- the words of a record, stored again
 pub fields-in : (m : List ℕ) (p : ℕ) → p < 512 → fields (recordIn m p) ≡ wordsAt m (recordWord p) 2
-unfolding fields wordsAt orderOf
+unfolding fields wordsAt
 fields-in m p h =
     let k : ℕ = recordWord p in
-    rw (order-words m p h, detail-again (wordAt m k) (wordAt m (k + 1)))
+    rw (order-words m p h, detail-again (wordAt m k) (wordAt m (k + 1)), id-of (wordAt m k) (wordAt m (k + 1)))
 
 -- where they stand they change nothing
 pub order-stands : (m : List ℕ) (p : ℕ) → p < 512 → Bytes m → putOrder m p (recordIn m p) ≡ m
@@ -90,11 +90,10 @@ order-stands m p h bytes = ap (putWords m (recordWord p)) (fields-in m p h) ∙ 
 
 -- what a record says can be stored
 pub small-record : (m : List ℕ) (p : ℕ) → p < 512 → Bytes m → SmallOrder (recordIn m p)
-unfolding orderOf
 small-record m p h bytes =
     let k : ℕ = recordWord p in
     rw (order-words m p h)
-    (record { id = word-below m k bytes; detail = word-storable (wordAt m k) (wordAt m (k + 1)) (word-below m (k + 1) bytes) })
+    (record { id = rw (id-of (wordAt m k) (wordAt m (k + 1))) (word-below m k bytes); detail = word-storable (wordAt m k) (wordAt m (k + 1)) (word-below m (k + 1) bytes) })
 
 -- ---- the open orders
 pub records-long : (m : List ℕ) → Records m → length (recordsOf m) ≡ 4096
@@ -102,14 +101,10 @@ records-long m h = length-part m (ordersWord + firstOf m * 2) 512 (omega (arith,
 
 module _ (m : List ℕ) (few : firstOf m ≤ 256) where
   pub open-record : (p : ℕ) → p < 256 → orderIn m p ≡ recordIn m (firstOf m + p)
-  unfolding orderAt
   open-record p h =
-      let r : ℕ = firstOf m + p in
       let k : ℕ = ordersWord + firstOf m * 2 in
-      let first : k + p * 2 ≡ recordWord r = omega arith in
-      let second : k + (p * 2 + 1) ≡ recordWord r + 1 = omega arith in
-      rw (word-part m k 512 (p * 2) (omega arith), word-part m k 512 (p * 2 + 1) (omega arith), first, second)
-      (sym (order-words m r (omega arith)))
+      let e : k + p * 2 ≡ recordWord (firstOf m + p) = omega arith in
+      part-words m k 512 p (omega arith) ∙ rw e (sym (order-words m (firstOf m + p) (omega arith)))
 
   pub open-records : (n p : ℕ) → p + n ≤ 256 → ordersIn m p n ≡ recordsIn m (firstOf m + p) n
   unfolding ordersFrom

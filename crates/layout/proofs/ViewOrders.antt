@@ -4,7 +4,6 @@ use mathlib.Core.Path.{_≡_, _∙_, sym, ap}
 use mathlib.Core.List.{List, [], _∷_}
 use native.Mathlib.Omega.{arith}
 use lib.ListN.{length, set}
-use Rattle.words.specs.Bytes.{Bytes}
 use Rattle.words.specs.Words.{wordAt}
 use Rattle.ledger.specs.declared.order.Order.{Order}
 use Rattle.ledger.specs.declared.find.Found.the-variants.{At}
@@ -13,7 +12,7 @@ use Rattle.book.specs.OpenOrders.{change}
 use Rattle.book.specs.Books.{withOrders}
 use Rattle.layout.specs.Layout.{countWord}
 use Rattle.layout.specs.View.{rosterOf, openOrders, bookOf, tradingOf, view}
-use Rattle.layout.specs.Stores.{orderIn, recordWord, storeFrom, SmallOrders, Records, without}
+use Rattle.layout.specs.Stores.{orderIn, recordWord, storeFrom, SmallOrders, without}
 use Rattle.layout.proofs.RosterLaws.{roster-same}
 use Rattle.layout.proofs.GuardedTables.{same-view}
 use Rattle.layout.proofs.SameFields.{Same, Held, balances-same, lines-same, blocks-same, marks-same}
@@ -50,21 +49,19 @@ module _ (m : List ℕ) (f : ℕ) (os : List Order) (held : Held m) (low : f ≤
       (orders-store m f os low few (held .long) small)
       (marks-same l m held roster-orders (elsewhere 128 144 (λ a b. omega arith) (omega arith)))
 
--- ---- the lists are the book's
-module _ (m : List ℕ) (bytes : Bytes m) (records : Records m) where
-  -- an order found by its id
-  module _ (id p : ℕ) (found : placeFrom 0 id (openOrders m) ≡ At p) (f : Order → List Order) where
-    from-zero : 0 + p ≡ p
-    from-zero = omega arith
+-- ---- the list is the book's: an order found by its id
+module _ (m : List ℕ) (id p : ℕ) (found : placeFrom 0 id (openOrders m) ≡ At p) (f : Order → List Order) where
+  from-zero : 0 + p ≡ p
+  from-zero = omega arith
 
-    -- CANCEL, and a FILL that leaves nothing
-    pub change-leaves : f (orderIn m p) ≡ [] → change id f (openOrders m) ≡ without p (openOrders m)
-    unfolding openOrders
-    change-leaves gone =
-        leaving m id f (wordAt m countWord) 0 p (found ∙ ap At (sym from-zero)) (ap (λ q. f (orderIn m q)) from-zero ∙ gone)
+  -- CANCEL, and a FILL that leaves nothing
+  pub change-leaves : f (orderIn m p) ≡ [] → change id f (openOrders m) ≡ without p (openOrders m)
+  unfolding openOrders
+  change-leaves gone =
+      leaving m id f (wordAt m countWord) 0 p (found ∙ ap At (sym from-zero)) (ap (λ q. f (orderIn m q)) from-zero ∙ gone)
 
-    -- REPLACE, and any other FILL
-    pub change-becomes : (y : Order) → f (orderIn m p) ≡ y ∷ [] → change id f (openOrders m) ≡ set (openOrders m) p y
-    unfolding openOrders
-    change-becomes y new =
-        becoming m id f y (wordAt m countWord) 0 p (found ∙ ap At (sym from-zero)) (ap (λ q. f (orderIn m q)) from-zero ∙ new)
+  -- REPLACE, and any other FILL
+  pub change-becomes : (y : Order) → f (orderIn m p) ≡ y ∷ [] → change id f (openOrders m) ≡ set (openOrders m) p y
+  unfolding openOrders
+  change-becomes y new =
+      becoming m id f y (wordAt m countWord) 0 p (found ∙ ap At (sym from-zero)) (ap (λ q. f (orderIn m q)) from-zero ∙ new)

@@ -47,9 +47,9 @@ putOrders m r (o ∷ os) = putOrders (putOrder m r o) (r + 1) os
 unfoldable pub storeFrom : List ℕ → ℕ → List Order → List ℕ
 storeFrom m f os = putWord (putWord (putOrders m f os) firstWord f) countWord (length os)
 
--- where the first record stands when an order joins at place p, or that at place p leaves: the records before it move if they
--- are fewer than those behind it and the region has room for the move, and else those behind it. Where those behind it would
--- make room for an order that joins, and the first record stands at its last place, all go back to the start of the region.
+-- where the first record stands when an order joins at place p, or that at place p leaves: the records before it move where p
+-- is below half of the count and the region has room for the move, and else those behind it. Where those behind it would make
+-- room for an order that joins, and the first record stands at its last place, all go back to the start of the region.
 unfoldable pub joinedFirst : List ℕ → ℕ → ℕ
 joinedFirst m p =
     let f = firstOf m in

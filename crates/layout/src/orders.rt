@@ -1,5 +1,5 @@
 // The order records of a desk: two words each, ascending by id, and their count. They stand in a region of twice their number, so that an order
-// that joins or leaves moves the records on one side of it alone, the shorter one.
+// that joins or leaves moves the records on the shorter side of it, where the region has room there.
 ghost use mathlib.Core.Path.{_≡_};
 ghost use Prim.Native.Nat.{_+_, _≤_, _<_};
 ghost use lib.ListN.{length, set};

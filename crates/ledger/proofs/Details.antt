@@ -3,8 +3,8 @@ use Prim.Native.Nat.{ℕ, _+_, _/_, _%_, _≤_, _<_, _^_}
 use mathlib.Core.Path.{_≡_, refl, ap, _∙_}
 use mathlib.Core.List.{List}
 use native.Mathlib.Omega.{arith}
-use lib.Bits.{bitOr, or-shr, or-mod}
-use Rattle.words.proofs.Bits.{or-left, or-right}
+use lib.Bits.{bitOr, or-comm, or-shr, or-mod}
+use Rattle.words.proofs.Bits.{or-left}
 use Rattle.ledger.specs.declared.order.Order.{Order}
 use Rattle.ledger.specs.Orders.{remaining}
 use Rattle.ledger.specs.Records.{packed, packedAccount, packedInstrument, Packable, detailPacked, detailFilled, detailRemaining, Within, orderOf, idAt, detailAt, orderAt}
@@ -64,16 +64,13 @@ module _ (all w : ℕ) where
         remaining = rw remaining-joined (omega (arith, h .remaining, or-left (detailRemaining all) (detailRemaining w)));
       }
 
-module _ (all id w : ℕ) where
-  pub joined-here : Within (bitOr all w) (orderOf id w)
-  unfolding remaining orderOf
-  joined-here =
-      record {
-        account = rw (account-joined all w) (omega (arith, or-right (all / 64 % 16) (w / 64 % 16)));
-        instrument = rw (instrument-joined all w) (omega (arith, or-right (all % 32) (w % 32)));
-        filled = rw (filled-joined all w) (or-right (detailFilled all) (detailFilled w));
-        remaining = rw (remaining-joined all w) (omega (arith, or-right (detailRemaining all) (detailRemaining w)));
-      }
+-- an order is within its own detail
+within-own : (id w : ℕ) → Within w (orderOf id w)
+unfolding remaining orderOf
+within-own id w = record { account = omega arith; instrument = omega arith; filled = omega arith; remaining = omega arith }
+
+pub joined-here : (all id w : ℕ) → Within (bitOr all w) (orderOf id w)
+joined-here all id w = rw (or-comm all w) (joined-before w all (orderOf id w) (within-own id w))
 
 pub within-total : (all : ℕ) (o : Order) → Within all o → o .total ≤ detailFilled all + detailRemaining all
 unfolding remaining

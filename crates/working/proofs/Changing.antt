@@ -94,7 +94,7 @@ unfolding worked
 replaced m x id n p o y bytes ready fits loaded made stored =
     stored
     ∙ ap (storeFrom m (firstOf m))
-    (sym (change-becomes m bytes (records m (ready .held)) id p (ready .named) (λ o. replacedTotal o (natAbs n) ∷ []) y
+    (sym (change-becomes m id p (ready .named) (λ o. replacedTotal o (natAbs n) ∷ []) y
     (ap (λ z. z ∷ []) (sym (made ∙ rw (loaded, toZ-ofZ w64 n fits))))))
 
 -- ---- CANCEL
@@ -103,7 +103,7 @@ unfolding worked
 cancelled m x id p bytes ready stored =
     stored
     ∙ rw (ready .named)
-    (ap (storeFrom m (leftFirst m p)) (sym (change-leaves m bytes (records m (ready .held)) id p (ready .named) (λ o. []) refl)))
+    (ap (storeFrom m (leftFirst m p)) (sym (change-leaves m id p (ready .named) (λ o. []) refl)))
 
 -- ---- FILL
 -- the order found, filled by n, is `next`, of which r remains
@@ -128,11 +128,11 @@ module _ {m : List ℕ} {p : ℕ} {o : Order} {n : ℕ} (bytes : Bytes m) (stand
   filled-leaves none-left =
       rw (← made, eq-eqb (remaining next) 0 (sym read ∙ none-left))
       (ap (storeFrom m (leftFirst m p))
-      (sym (change-leaves m bytes (stands .records) (o .id) p (stands .found) fills (ap kept here ∙ kept-none next (sym read ∙ none-left)))))
+      (sym (change-leaves m (o .id) p (stands .found) fills (ap kept here ∙ kept-none next (sym read ∙ none-left)))))
 
   pub filled-stays : r ≢ 0 → storeFrom m (firstOf m) (set (openOrders m) p next) ≡ storeFrom m (keptFirst m (At p) (filledBy o n)) (change (o .id) fills (openOrders m))
   unfolding closes
   filled-stays some-left =
       rw (← made, ne-eqb (remaining next) 0 (λ e. some-left (read ∙ e)))
       (ap (storeFrom m (firstOf m))
-      (sym (change-becomes m bytes (stands .records) (o .id) p (stands .found) fills next (ap kept here ∙ kept-some next (λ e. some-left (read ∙ e))))))
+      (sym (change-becomes m (o .id) p (stands .found) fills next (ap kept here ∙ kept-some next (λ e. some-left (read ∙ e))))))

@@ -1,6 +1,6 @@
 -- A memory that holds a sound desk holds one after an accepted event: the book's is sound, and the figures of every line stay in
 -- range.
-use Prim.Native.Nat.{ℕ, _+_, _*_, _≤_, _<_}
+use Prim.Native.Nat.{ℕ, _+_, _*_, _^_, _≤_, _<_}
 use mathlib.Core.Path.{_≡_, _∙_, sym}
 use mathlib.Core.List.{List}
 use native.Mathlib.Decide.{ℕ-discrete}
@@ -22,40 +22,34 @@ use Rattle.layout.specs.Judged.{judged}
 use Rattle.soundness.specs.Held.{Figures, Held}
 use Rattle.working.specs.Working.{worked}
 use Rattle.working.proofs.Told.{sound, laid}
-use Rattle.working.proofs.Writes.{FiguresFit, worked-keeps, length-worked, word-worked, roster-worked}
+use Rattle.working.proofs.Writes.{FiguresFit, Stores, worked-keeps, length-worked, word-worked, roster-worked}
 use Rattle.working.proofs.Small.{Sized}
 use Rattle.working.proofs.ViewWorked.{view-worked}
 
-put-fits : (l : List ℕ) (k v j : ℕ) → 65536 ≤ length l → k < 8192 → (k ≡ j → FiguresFit v) → FiguresFit (wordAt l j) → FiguresFit (wordAt (putWord l k v) j)
-put-fits l k v j long inside small was = by (ℕ-discrete j k)
+-- a store keeps what holds of word j, where it holds of what is stored there
+put-keeps : (Q : ℕ → Type 0) (l : List ℕ) (k v j : ℕ) → 65536 ≤ length l → k < 8192 → (k ≡ j → (v < 2 ^ 64) × Q v) → Q (wordAt l j) → Q (wordAt (putWord l k v) j)
+put-keeps Q l k v j long inside stored was = by (ℕ-discrete j k)
   where
-    by : Dec (j ≡ k) → FiguresFit (wordAt (putWord l k v) j)
+    by : Dec (j ≡ k) → Q (wordAt (putWord l k v) j)
     by (yes same) =
-        let fits = small (sym same) in
-        rw (same, word-put-same l k v (omega arith) (omega arith)) fits
+        let fits = stored (sym same) in
+        rw (same, word-put-same l k v (omega arith) (fits .0)) (fits .1)
     by (no other) = rw (word-put-other l k v j other) was
 
-put-first : (l : List ℕ) (k v : ℕ) → 65536 ≤ length l → k < 8192 → (k ≡ 113 → v ≤ 256) → firstOf l ≤ 256 → firstOf (putWord l k v) ≤ 256
-put-first l k v long inside small was = by (ℕ-discrete 113 k)
-  where
-    by : Dec (113 ≡ k) → firstOf (putWord l k v) ≤ 256
-    by (yes same) =
-        let fits = small (sym same) in
-        rw (same, word-put-same l k v (omega arith) (omega arith)) fits
-    by (no other) = rw (word-put-other l k v 113 other) was
-
 module _ (m : List ℕ) (held : Held m) (e : Event) (passes : judged m e ≡ 0) where
+  word-keeps : (Q : ℕ → Type 0) (j : ℕ) → ((k v : ℕ) → Stores e k v → k ≡ j → (v < 2 ^ 64) × Q v) → Q (wordAt m j) → Q (wordAt (worked m e) j)
+  word-keeps Q j stored was =
+      worked-keeps e (λ l. (65536 ≤ length l) × Q (wordAt l j))
+      (λ l k v s p. (omega (arith, length-put l k v), put-keeps Q l k v j (p .0) (s .high) (stored k v s) (p .1)))
+      m held passes (held .long, was) .1
+
   first-worked : firstOf (worked m e) ≤ 256
   first-worked =
-      worked-keeps e (λ l. (65536 ≤ length l) × (firstOf l ≤ 256))
-      (λ l k v s p. (omega (arith, length-put l k v), put-first l k v (p .0) (s .high) (s .first) (p .1)))
-      m held passes (held .long, held .first) .1
+      word-keeps (λ v. v ≤ 256) 113 (λ k v s same. let small = s .first same in (omega arith, small)) (held .first)
 
   word-fits : (j : ℕ) → 1536 ≤ j → j < 2880 → FiguresFit (wordAt m j) → FiguresFit (wordAt (worked m e) j)
-  word-fits j low high was =
-      worked-keeps e (λ l. (65536 ≤ length l) × FiguresFit (wordAt l j))
-      (λ l k v s p. (omega (arith, length-put l k v), put-fits l k v j (p .0) (s .high) (λ same. s .figures (omega arith) (omega arith)) (p .1)))
-      m held passes (held .long, was) .1
+  word-fits j low high =
+      word-keeps FiguresFit j (λ k v s same. let small = s .figures (omega arith) (omega arith) in (omega arith, small))
 
   line-worked : (k : ℕ) → 1536 ≤ k → k + 2 ≤ 2880 → LineFits 1000000000 (lineAt m k) → LineFits 1000000000 (lineAt (worked m e) k)
   unfolding lineAt

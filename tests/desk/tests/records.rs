@@ -28,11 +28,11 @@ enum Change {
 
 /// Which records move, and which is the first then, by the documented rule.
 fn expected(change: Change, first: usize, place: usize, count: usize) -> (Moved, usize) {
-    let before_is_shorter = 2 * place < count;
+    let in_the_first_half = 2 * place < count;
     match change {
-        Change::Joins if before_is_shorter && first > 0 => (Moved::Before, first - 1),
+        Change::Joins if in_the_first_half && first > 0 => (Moved::Before, first - 1),
         Change::Joins if first == 256 => (Moved::All, 0),
-        Change::Leaves if before_is_shorter && first < 256 => (Moved::Before, first + 1),
+        Change::Leaves if in_the_first_half && first < 256 => (Moved::Before, first + 1),
         Change::Joins | Change::Leaves => (Moved::Behind, first),
     }
 }
