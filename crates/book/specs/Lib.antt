@@ -9,3 +9,5 @@ pub mod SetAgain
 pub mod Demand3
 pub mod Contract
 pub mod Answers
+pub mod EventBytes
+pub mod Listing

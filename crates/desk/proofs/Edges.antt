@@ -30,7 +30,7 @@ use Rattle.layout.specs.Rosters.{listed, every, sizesFit, namesFit, weightsFit,
 use Rattle.opening.specs.Questions.{rosterFrom, rosterLength, lengthsFit, openingQuestions, openingAnswer}
 use Rattle.opening.specs.Opening.{afterOpening}
 use Rattle.desk.specs.Positions.{potentialIn, instrumentIn}
-use Rattle.desk.specs.Days.{bytesOf, figure, eventOf as bytesOfEvent, line, groupLine, balance, buy, sell}
+use Rattle.book.specs.EventBytes.{bytesOf, figure, eventBytes}
 use Rattle.desk.specs.Edges.{zeros, Case, CaseHolds, AllHold, edgeRoster, starredEdges, StarredEdges}
 use Rattle.desk.proofs.Readings.{instrument-read, shown-opened}
 use Rattle.desk.proofs.Carried.{areBytes, bytes-are, allBytes, decoded, answer-shown, answers-carried, shown-over}
@@ -88,7 +88,7 @@ unfolding openingAnswer openingQuestions firstNo longEnough lengthsFit rosterLen
 edge-opens m long = rw (le-leb 65536 (length m) long) refl
 
 edges-seen : AllSeen (rosterFrom edgeRoster) starredEdges
-unfolding rosterFrom listed i32At bitsOf bytesOf figure bytesOfEvent edgeRoster line groupLine balance buy sell starredEdges potentialIn instrumentIn number u8At u16At u64At i64At signedOf sumOver below remaining filledBy replacedTotal closes groupOfInstrument sideOf standsIn openOn ofInstrument groupPart sumGroup potential fillMoves lineInForce limit firstNo limitsSet sizeFits movesInstrument movesGroup within positionQuestions derivatives one named wellFormed eventOf decode find insert change kept emptyBook unsets lineOf groupLineOf setLine setBlock newOrder work mark isEvent accountKnown itemKnown figuresFit notYetTrading idOpen quantityFits entered idFree placeFree questionsBefore limitQuestions answer begun keep
+unfolding rosterFrom listed i32At bitsOf bytesOf figure eventBytes edgeRoster starredEdges potentialIn instrumentIn number u8At u16At u64At i64At signedOf sumOver below remaining filledBy replacedTotal closes groupOfInstrument sideOf standsIn openOn ofInstrument groupPart sumGroup potential fillMoves lineInForce limit firstNo limitsSet sizeFits movesInstrument movesGroup within positionQuestions derivatives one named wellFormed eventOf decode find insert change kept emptyBook unsets lineOf groupLineOf setLine setBlock newOrder work mark isEvent accountKnown itemKnown figuresFit notYetTrading idOpen quantityFits entered idFree placeFree questionsBefore limitQuestions answer begun keep
 edges-seen = (refl, (refl, (refl, (refl, (refl, (refl, (refl, (refl, (refl, tt)))))))))
 
 pub starred-edges : StarredEdges

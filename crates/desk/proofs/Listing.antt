@@ -30,8 +30,9 @@ use Rattle.layout.specs.Rosters.{listed, every, sizesFit, namesFit, weightsFit,
 use Rattle.opening.specs.Questions.{rosterFrom, rosterLength, lengthsFit, openingQuestions, openingAnswer}
 use Rattle.opening.specs.Opening.{afterOpening}
 use Rattle.desk.specs.Positions.{potentialIn, instrumentIn, groupIn}
-use Rattle.desk.specs.Days.{bytesOf, figure, eventOf as bytesOfEvent, line, groupLine, balance, buy, sell, fill, cancel}
-use Rattle.desk.specs.Listing.{listingRoster, listingEvents, Listing}
+use Rattle.book.specs.EventBytes.{bytesOf, figure, eventBytes}
+use Rattle.book.specs.Listing.{listingEvents}
+use Rattle.desk.specs.Listing.{listingRoster, Listing}
 use Rattle.desk.proofs.Readings.{instrument-read, group-read, shown-opened}
 use Rattle.desk.proofs.Carried.{allBytes, decoded, answers-carried, shown-over}
 
@@ -51,7 +52,7 @@ computed : (allBytes listingEvents ≡ true)
     × (between 1 (rosterFrom listingRoster .instruments) 1 ≡ true)
     × (between 1 (rosterFrom listingRoster .instruments) 2 ≡ true)
     × (between 1 (rosterFrom listingRoster .groups) 1 ≡ true)
-unfolding rosterFrom listed i32At bitsOf bytesOf figure bytesOfEvent listingRoster line groupLine balance buy sell fill cancel listingEvents potentialIn instrumentIn groupIn number u8At u16At u64At i64At signedOf sumOver below remaining filledBy replacedTotal closes groupOfInstrument sideOf standsIn openOn ofInstrument groupPart sumGroup potential fillMoves lineInForce limit firstNo limitsSet sizeFits movesInstrument movesGroup within positionQuestions derivatives one named wellFormed eventOf decode find insert change kept emptyBook unsets lineOf groupLineOf setLine setBlock newOrder work mark isEvent accountKnown itemKnown figuresFit notYetTrading idOpen quantityFits entered idFree placeFree questionsBefore limitQuestions answer begun keep
+unfolding rosterFrom listed i32At bitsOf bytesOf figure eventBytes listingRoster listingEvents potentialIn instrumentIn groupIn number u8At u16At u64At i64At signedOf sumOver below remaining filledBy replacedTotal closes groupOfInstrument sideOf standsIn openOn ofInstrument groupPart sumGroup potential fillMoves lineInForce limit firstNo limitsSet sizeFits movesInstrument movesGroup within positionQuestions derivatives one named wellFormed eventOf decode find insert change kept emptyBook unsets lineOf groupLineOf setLine setBlock newOrder work mark isEvent accountKnown itemKnown figuresFit notYetTrading idOpen quantityFits entered idFree placeFree questionsBefore limitQuestions answer begun keep
 computed = (refl, refl, refl, refl, refl, refl, refl, refl, refl)
 
 pub listing : Listing

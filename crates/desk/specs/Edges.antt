@@ -10,7 +10,8 @@ use Rattle.opening.specs.Questions.{openingAnswer}
 use Rattle.opening.specs.Opening.{afterOpening}
 use Rattle.reading.specs.Reading.{instrumentAnswer, instrumentReport}
 use Rattle.desk.specs.Step.{answerTo}
-use Rattle.desk.specs.Days.{bytesOf, answersOver, memoryOver, line, groupLine, balance, buy, sell}
+use Rattle.book.specs.EventBytes.{bytesOf, line, groupLine, balance, buy, sell}
+use Rattle.desk.specs.Days.{answersOver, memoryOver}
 
 abbrev pub zeros : List (List ℕ) → List ℕ
 zeros [] = []

@@ -1,15 +1,17 @@
--- Document 01's listing, in bytes.
+-- Document 01's listing: its roster in bytes, and what holds of it.
 use Prim.Native.Nat.{ℕ, _≤_}
 use mathlib.Core.Path.{_≡_}
 use mathlib.Core.List.{List, [], _∷_, _++_}
 use lib.ListN.{length}
-use lib.IntN.{pos, negsuc, negℤ}
+use lib.IntN.{pos, negsuc}
 use Rattle.integers.specs.TwosComplement.{bitsOf}
 use Rattle.words.specs.Bytes.{Bytes}
 use Rattle.opening.specs.Questions.{openingAnswer}
 use Rattle.opening.specs.Opening.{afterOpening}
 use Rattle.reading.specs.Reading.{instrumentReport, groupReport}
-use Rattle.desk.specs.Days.{bytesOf, answersOver, memoryOver, line, groupLine, balance, buy, sell, fill, cancel}
+use Rattle.book.specs.EventBytes.{bytesOf}
+use Rattle.book.specs.Listing.{listingEvents}
+use Rattle.desk.specs.Days.{answersOver, memoryOver}
 
 -- one account, group and contract, two instruments of weight 10000 and −5000
 unfoldable pub listingRoster : List ℕ
@@ -17,20 +19,6 @@ listingRoster =
     bytesOf 2 1
     ++ (bytesOf 2 1
     ++ (bytesOf 2 1 ++ (bytesOf 2 2 ++ (1 ∷ 1 ∷ 1 ∷ (bytesOf 4 10000 ++ bytesOf 4 (bitsOf 32 (negsuc 4999)))))))
-
--- default line 100 100 100 100; group line 60 60; balance of instrument 1 is −2; buy 62 of 1, id 7; sell 1 of 2, id 8;
--- fill 12 of 7; buy 4 of 2, id 9; cancel 7
-unfoldable pub listingEvents : List (List ℕ)
-listingEvents =
-    line 100 100 100 100
-    ∷ groupLine 60 60
-    ∷ balance (negℤ (pos 2))
-    ∷ buy 1 7 62
-    ∷ sell 2 8 1
-    ∷ fill 7 12
-    ∷ buy 2 9 4
-    ∷ cancel 7
-    ∷ []
 
 -- the output: R and E lines, then I and G lines
 pub record ListingHolds (m : List ℕ) : Type 0 where
