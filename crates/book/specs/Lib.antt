@@ -11,3 +11,5 @@ pub mod Contract
 pub mod Answers
 pub mod EventBytes
 pub mod Listing
+pub mod Written
+pub mod LongerDay

@@ -1,0 +1,80 @@
+-- A day with puts, in bytes, longer than document 01's listing: each way of refusing an order for a position limit, an order that is
+-- accepted at its limit, and what may come after it. Two accounts, groups and contracts. Contract 1, of group 1, has instruments 1, of
+-- weight 10000, and 2, a put of weight −5000; contract 2, of group 2, has instrument 3, of weight 10000.
+use Prim.Native.Nat.{ℕ}
+use mathlib.Core.List.{List, [], _∷_}
+use lib.IntN.{pos, negsuc, negℤ}
+use Rattle.book.specs.EventBytes.{limitBytes, line, groupLine, balanceBytes, balance, blockBytes, buy, sell, replaceBytes, cancelBytes, fillBytes}
+
+-- account 1's lines of contract 1 and group 1; two contracts of instrument 1 short; buy 50 of it, id 7, so that PCI is 48 and PCC 48
+-- contracts
+unfoldable pub morning : List (List ℕ)
+morning =
+    line 100 100 100 100
+    ∷ groupLine 60 40
+    ∷ balance (negℤ (pos 2))
+    ∷ buy 1 7 50
+    ∷ []
+
+-- ---- orders that some filling puts past a limit, each with its answer, after the morning
+-- 21: PCI would be 101
+abbrev pub tooLong : List ℕ
+tooLong = buy 1 8 53
+
+-- 22: PVI would be 101
+abbrev pub tooShort : List ℕ
+tooShort = sell 1 8 99
+
+-- 23: a put sold pushes the group up: PCC would be 60 contracts and a half
+abbrev pub putSold : List ℕ
+putSold = sell 2 8 25
+
+-- 24: a put bought pushes it down: PVC would be 40 contracts and a half
+abbrev pub putBought : List ℕ
+putBought = buy 2 8 77
+
+-- 23: order 7 raised, and counted once: PCC would be 61
+abbrev pub raisedTooFar : List ℕ
+raisedTooFar = replaceBytes 7 63
+
+-- ---- orders that reach a limit and are accepted
+-- PCC is 60
+abbrev pub putSoldToTheLimit : List ℕ
+putSoldToTheLimit = sell 2 8 24
+
+-- PVC is 40
+abbrev pub putBoughtToTheLimit : List ℕ
+putBoughtToTheLimit = buy 2 8 76
+
+-- PCC is 60
+abbrev pub raisedToTheLimit : List ℕ
+raisedToTheLimit = replaceBytes 7 62
+
+-- ---- what may follow an accepted N, of id 8 or a raised order 7, and sets no limit of group 1 or of instruments 1 and 2 again
+-- part fills, a refused and an accepted REPLACE, a block, a refused balance, a refused LIMIT on the group's very line and one on the
+-- default line in force, LIMITs elsewhere (group 2, contract 2, instrument 3, and the same lines of account 2), junk, a fill of all that
+-- remains, a cancel
+unfoldable pub afternoon : List (List ℕ)
+afternoon =
+    fillBytes 7 12
+    ∷ fillBytes 8 10
+    ∷ replaceBytes 7 90
+    ∷ replaceBytes 7 40
+    ∷ blockBytes 1 1 0 1
+    ∷ balance (pos 5)
+    ∷ groupLine 1000000001 0
+    ∷ limitBytes 2 1 1 (pos 5) (pos 5) (pos 5) (negsuc 0)
+    ∷ limitBytes 3 1 2 (pos 0) (pos 0) (pos 0) (pos 0)
+    ∷ limitBytes 2 1 2 (pos 0) (pos 0) (pos 0) (pos 0)
+    ∷ limitBytes 1 1 3 (pos 0) (pos 0) (pos 0) (pos 0)
+    ∷ limitBytes 3 2 1 (pos 0) (pos 0) (pos 0) (pos 0)
+    ∷ limitBytes 2 2 1 (pos 0) (pos 0) (pos 0) (pos 0)
+    ∷ balanceBytes 2 1 (pos 1000)
+    ∷ (255 ∷ [])
+    ∷ fillBytes 8 14
+    ∷ cancelBytes 7
+    ∷ []
+
+-- ---- a LIMIT that sets the group's limit again, and what it lets through: buy 70 of instrument 1
+unfoldable pub evening : List (List ℕ)
+evening = blockBytes 1 1 0 0 ∷ groupLine 100 100 ∷ buy 1 9 70 ∷ []
