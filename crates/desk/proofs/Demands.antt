@@ -137,6 +137,7 @@ demand-3 m s bytes zero =
       judged = demand-3-at r start begun shown;
       instrument-read = λ events a i. instrument-read r (memoryAfter gate start events) (keptAfter gate derivatives start begun events) (later events) a i;
       group-read = λ events a g. group-read r (memoryAfter gate start events) (keptAfter gate derivatives start begun events) (later events) a g;
+      answered = answers-table r start begun shown;
       never-5 =
           λ events e five. never-5 derivatives r (keptAfter gate derivatives start begun events .book) (keptAfter gate derivatives start begun events .trading) (said e) (sym (answers-table r start begun shown events e) ∙ five);
     }

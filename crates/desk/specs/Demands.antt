@@ -14,7 +14,8 @@ use Rattle.ledger.specs.Positions.{Way, long, short, openOn, groupPart, sumGrou
 use Rattle.limits.specs.Questions.{Question, allPass}
 use Rattle.book.specs.Decoding.{between}
 use Rattle.book.specs.Market.{derivatives}
-use Rattle.book.specs.Kept.{RawEvent, Desk, begun, memoryAfter, keptAfter}
+use Rattle.book.specs.Table.{answer}
+use Rattle.book.specs.Kept.{RawEvent, said, Desk, begun, memoryAfter, keptAfter}
 use Rattle.book.specs.Demand3.{Demand3At}
 use Rattle.layout.specs.View.{rosterOf, balancesOf, openOrders}
 use Rattle.opening.specs.Questions.{rosterFrom, openingQuestions, openingAnswer}
@@ -115,6 +116,12 @@ pub record Demand3From (m s : List ℕ) : Type 0 where
       → (let now = memoryAfter gate (afterOpening m s) events in
       let book = keptAfter gate derivatives (afterOpening m s) begun events .book in
       (groupAnswer now a g ≡ 0) × (groupReport now a g ≡ groupIn (rosterFrom s) book a g))
+  -- "Answers are demand 2's": after the list an event is answered by the table asked of the plain book
+  pub answered :
+      (events : List RawEvent) (e : RawEvent)
+      → (let kept = keptAfter gate derivatives (afterOpening m s) begun events in
+      answerTo (memoryAfter gate (afterOpening m s) events) (e .bytes)
+      ≡ answer derivatives (rosterFrom s) (kept .book) (kept .trading) (said e))
   -- the desk stays sound: question 5 is never answered no
   pub never-5 : (events : List RawEvent) (e : RawEvent) → answerTo (memoryAfter gate (afterOpening m s) events) (e .bytes) ≢ 5
 

@@ -1,0 +1,181 @@
+-- The claim: the user's three demands in the order of their words, each with its whole type. m is a memory, s the bytes of a roster and e
+-- those of an event: any lists of numbers, of any length. The contracts of the exported functions (include/exported.txt) say that the code
+-- computes the functions named here: openingAnswer and afterOpening (desk_open), answerTo and after (desk_event), instrumentAnswer,
+-- groupAnswer, their reports and `reported` (the readers), and answerTo and after along a list of events (desk_run).
+use Prim.Native.Nat.{ℕ, _≤_}
+use mathlib.Core.Path.{_≡_}
+use mathlib.Core.Logic.{_⊎_, _↔_, _≢_}
+use mathlib.Core.Bool.{true, false}
+use mathlib.Core.List.{List, [], _∷_, _++_, map, List·Memᴰ}
+use mathlib.Core.Option.{none, some}
+use lib.IntN.{ℤ, negℤ, _+ℤ_}
+use lib.Signed.{_≤ℤ_, _<ℤ_}
+use lib.ListN.{getD}
+use Rattle.words.specs.Bytes.{Bytes}
+use Rattle.ledger.specs.declared.order.Order.{Order}
+use Rattle.ledger.specs.declared.order.Side.the-variants.{Buy, Sell}
+use Rattle.ledger.specs.Derivatives.{one}
+use Rattle.ledger.specs.Positions.{Way, long, short, Place, openOn, ofInstrument, groupPart, sumGroup, position}
+use Rattle.ledger.specs.Fillings.{Filling, after as filledAfter}
+use Rattle.ledger.specs.Moves.{Moves}
+use Rattle.limits.specs.Lines.{limit}
+use Rattle.limits.specs.Questions.{Question, allPass}
+use Rattle.book.specs.declared.LimitLine.{LimitLine}
+use Rattle.book.specs.declared.Event.the-variants.{Limit}
+use Rattle.book.specs.Market.{derivatives}
+use Rattle.book.specs.Decoding.{between, decode}
+use Rattle.book.specs.Books.{work}
+use Rattle.book.specs.Table.{q, entered, questionsBefore, answer}
+use Rattle.book.specs.Kept.{RawEvent, said, begun, keep, memoryAfter, keptAfter}
+use Rattle.book.specs.SetAgain.{nameOf, lineOver}
+use Rattle.layout.specs.View.{rosterOf, balancesOf, openOrders, bookOf}
+use Rattle.opening.specs.Questions.{rosterFrom, openingQuestions, openingAnswer}
+use Rattle.opening.specs.Opening.{afterOpening}
+use Rattle.reading.specs.Reading.{readingQuestions, instrumentAnswer, groupAnswer, instrumentReport, groupReport, reported}
+use Rattle.desk.specs.Step.{eventQuestions, answerTo, after}
+use Rattle.desk.specs.Positions.{instrumentIn, groupIn}
+use Rattle.desk.specs.Demands.{gate}
+
+-- ---- 1. "The answer to every roster and every event, sound or junk, is an acceptance or one numbered refusal, it always comes, and a
+-- refusal leaves every byte of the desk's memory unchanged." That it always comes is the checker's: every proved function ends.
+pub record Demand1 : Type 0 where
+  pub roster : (m s : List ℕ) → List·Memᴰ (openingAnswer m s) (0 ∷ 1 ∷ 2 ∷ 3 ∷ 4 ∷ [])
+  pub event :
+      (m e : List ℕ)
+      → List·Memᴰ (answerTo m e)
+      (0 ∷ 5 ∷ 6 ∷ 7 ∷ 8 ∷ 9 ∷ 10 ∷ 11 ∷ 12 ∷ 13 ∷ 14 ∷ 15 ∷ 16 ∷ 17 ∷ 18 ∷ 19 ∷ 20 ∷ 21 ∷ 22 ∷ 23 ∷ 24 ∷ [])
+  pub roster-refused : (m s : List ℕ) → openingAnswer m s ≢ 0 → afterOpening m s ≡ m
+  pub event-refused : (m e : List ℕ) → answerTo m e ≢ 0 → after m e ≡ m
+  -- document 01: "later bytes are never touched", accepted or not
+  pub behind-roster : (m s : List ℕ) (k : ℕ) → 65536 ≤ k → getD (afterOpening m s) k 0 ≡ getD m k 0
+  pub behind-event : (m e : List ℕ) (k : ℕ) → 65536 ≤ k → getD (after m e) k 0 ≡ getD m k 0
+
+-- ---- 2. "The answer to a roster or an event is the first check that it fails, the EntryPoint LiNe phases among them, as document 01
+-- lists them, or an acceptance if it fails none, and every potential position reported is the one that the open orders and balances give."
+-- A table lists questions in document 01's order, each a number and whether it is answered yes; `q n false` is question n answered no.
+pub record Demand2 : Type 0 where
+  -- a roster is answered n, not 0, exactly where question n is answered no and each before it yes, and 0 exactly where each is answered yes
+  pub roster-refused :
+      (m s : List ℕ) (n : ℕ)
+      → n ≢ 0
+      → (openingAnswer m s ≡ n)
+      ↔ ((before : List Question) × (behind : List Question) × (openingQuestions m s ≡ before ++ (q n false ∷ behind)) × (allPass before ≡ true))
+  pub roster-accepted : (m s : List ℕ) → (openingAnswer m s ≡ 0) ↔ (allPass (openingQuestions m s) ≡ true)
+  pub roster-numbers : (m s : List ℕ) → map (λ x. x .number) (openingQuestions m s) ≡ 1 ∷ 2 ∷ 3 ∷ 4 ∷ []
+  -- an event likewise; 21 to 24 are asked of an order that is entered, or raised
+  pub event-refused :
+      (m e : List ℕ) (n : ℕ)
+      → n ≢ 0
+      → (answerTo m e ≡ n)
+      ↔ ((before : List Question) × (behind : List Question) × (eventQuestions m e ≡ before ++ (q n false ∷ behind)) × (allPass before ≡ true))
+  pub event-accepted : (m e : List ℕ) → (answerTo m e ≡ 0) ↔ (allPass (eventQuestions m e) ≡ true)
+  pub event-numbers :
+      (m e : List ℕ)
+      → entered (bookOf m) (decode e) ≡ none
+      → map (λ x. x .number) (eventQuestions m e)
+      ≡ 5 ∷ 6 ∷ 7 ∷ 8 ∷ 9 ∷ 10 ∷ 11 ∷ 12 ∷ 13 ∷ 14 ∷ 15 ∷ 16 ∷ 17 ∷ 18 ∷ 19 ∷ 20 ∷ []
+  pub order-numbers :
+      (m e : List ℕ) (o : Order)
+      → entered (bookOf m) (decode e) ≡ some o
+      → map (λ x. x .number) (eventQuestions m e)
+      ≡ 5 ∷ 6 ∷ 7 ∷ 8 ∷ 9 ∷ 10 ∷ 11 ∷ 12 ∷ 13 ∷ 14 ∷ 15 ∷ 16 ∷ 17 ∷ 18 ∷ 19 ∷ 20 ∷ 21 ∷ 22 ∷ 23 ∷ 24 ∷ []
+  -- a reading of an instrument's or a group's position likewise
+  pub instrument-refused :
+      (m : List ℕ) (a i n : ℕ)
+      → n ≢ 0
+      → (instrumentAnswer m a i ≡ n)
+      ↔ ((before : List Question) × (behind : List Question) × (readingQuestions m (rosterOf m .instruments) a i ≡ before ++ (q n false ∷ behind)) × (allPass before ≡ true))
+  pub instrument-accepted : (m : List ℕ) (a i : ℕ) → (instrumentAnswer m a i ≡ 0) ↔ (allPass (readingQuestions m (rosterOf m .instruments) a i) ≡ true)
+  pub group-refused :
+      (m : List ℕ) (a g n : ℕ)
+      → n ≢ 0
+      → (groupAnswer m a g ≡ n)
+      ↔ ((before : List Question) × (behind : List Question) × (readingQuestions m (rosterOf m .groups) a g ≡ before ++ (q n false ∷ behind)) × (allPass before ≡ true))
+  pub group-accepted : (m : List ℕ) (a g : ℕ) → (groupAnswer m a g ≡ 0) ↔ (allPass (readingQuestions m (rosterOf m .groups) a g) ≡ true)
+  pub reading-numbers : (m : List ℕ) (items a n : ℕ) → map (λ x. x .number) (readingQuestions m items a n) ≡ 5 ∷ 7 ∷ 8 ∷ []
+  -- what is reported: S, PCI = S + B and PVI = −S + V; PCC and PVC. `before` is what the output held, and a refusal leaves it
+  pub instrument-reported :
+      (m : List ℕ) (a i : ℕ) (before : List ℤ)
+      → instrumentAnswer m a i ≡ 0
+      → reported (instrumentAnswer m a i) (instrumentReport m a i) before
+      ≡ balancesOf m a i
+      ∷ (balancesOf m a i +ℤ openOn one (openOrders m) Buy a i)
+      ∷ (negℤ (balancesOf m a i) +ℤ openOn one (openOrders m) Sell a i)
+      ∷ []
+  pub group-reported :
+      (m : List ℕ) (a g : ℕ) (before : List ℤ)
+      → groupAnswer m a g ≡ 0
+      → reported (groupAnswer m a g) (groupReport m a g) before
+      ≡ sumGroup (rosterOf m) g (λ i. groupPart long (rosterOf m .weight i) (ofInstrument one (openOrders m) a (balancesOf m a) i))
+      ∷ sumGroup (rosterOf m) g (λ i. groupPart short (rosterOf m .weight i) (ofInstrument one (openOrders m) a (balancesOf m a) i))
+      ∷ []
+  pub instrument-left :
+      (m : List ℕ) (a i : ℕ) (before : List ℤ)
+      → instrumentAnswer m a i ≢ 0
+      → reported (instrumentAnswer m a i) (instrumentReport m a i) before ≡ before
+  pub group-left :
+      (m : List ℕ) (a g : ℕ) (before : List ℤ)
+      → groupAnswer m a g ≢ 0
+      → reported (groupAnswer m a g) (groupReport m a g) before ≡ before
+
+-- ---- 3. One theorem over every list of events.
+abbrev pub Demand3 : Type 0
+Demand3 =
+    -- "Take every list of events of every kind …, junk and refused ones included, from a freshly opened desk."
+    (m s : List ℕ)
+    → Bytes m
+    → openingAnswer m s ≡ 0
+    → (events : List RawEvent)
+    → (let r = rosterFrom s in
+    -- each event gets the memory as the one before left it; the plain book is kept from the roster, the events and their answers
+    let now = memoryAfter gate (afterOpening m s) events in
+    let kept = keptAfter gate derivatives (afterOpening m s) begun events in
+    let book = kept .book in
+    -- "After it let N be a new order, or a replace that raises one (then counted once, at its new total), that passes every check before
+    -- the position limits." o is the order that N enters, or raises to its new total
+    ((n : RawEvent) (o : Order)
+    → entered book (said n) ≡ some o
+    → allPass (questionsBefore derivatives r book (kept .trading) (said n)) ≡ true
+    → (let withN = work one book (said n) in
+    -- "N is refused for a position limit exactly when some filling of the open orders and N, each by any whole number from none to all
+    -- that remains, puts the instrument's or group's position past its limit on a side to which N's own fills move it."
+    (((answerTo now (n .bytes) ≡ 21)
+    ⊎ ((answerTo now (n .bytes) ≡ 22) ⊎ ((answerTo now (n .bytes) ≡ 23) ⊎ (answerTo now (n .bytes) ≡ 24))))
+    ↔ ((p : Place)
+    × (w : Way)
+    × Moves r o p w
+    × ((f : Filling (withN .orders))
+    × (limit r (withN .linesOf (o .account)) p w <ℤ position r (filledAfter one (o .account) (withN .balanceOf (o .account)) f) p w))))
+    -- "If N is accepted, then whatever events follow, those positions are not past those limits on those sides, after N and after each
+    -- event, until a limit that applies to them is set again." Every beginning of a list is a list
+    × (answerTo now (n .bytes) ≡ 0
+    → (p : Place) (w : Way)
+    → Moves r o p w
+    → (later : List RawEvent)
+    → (let next = after now (n .bytes) in
+    let keptN = keep derivatives kept (said n) (answerTo now (n .bytes)) in
+    -- no accepted LIMIT among them is on the line that the position is under before it or after it
+    ((before : List RawEvent) (e : RawEvent) (behind : List RawEvent) (a : ℕ) (l : LimitLine)
+    → later ≡ before ++ (e ∷ behind)
+    → said e ≡ Limit a l
+    → answerTo (memoryAfter gate next before) (e .bytes) ≡ 0
+    → (let b = keptAfter gate derivatives next keptN before .book in
+    (nameOf a l ≡ lineOver r b (o .account) p) ⊎ (nameOf a l ≡ lineOver r (work one b (said e)) (o .account) p) → ⊥))
+    -- the limit is the one that N was judged by, the position is not past it, and no filling of what is open then puts it past
+    → (let b = keptAfter gate derivatives next keptN later .book in
+    (limit r (b .linesOf (o .account)) p w ≡ limit r (book .linesOf (o .account)) p w)
+    × (position r (b .balanceOf (o .account)) p w ≤ℤ limit r (book .linesOf (o .account)) p w)
+    × ((f : Filling (b .orders))
+    → position r (filledAfter one (o .account) (b .balanceOf (o .account)) f) p w ≤ℤ limit r (book .linesOf (o .account)) p w))))))
+    -- "Answers are demand 2's": the same table, asked of the plain book, so that 5 is never the answer
+    × ((e : RawEvent) → answerTo now (e .bytes) ≡ answer derivatives r book (kept .trading) (said e))
+    × ((e : RawEvent) → answerTo now (e .bytes) ≢ 5)
+    -- document 01: "Positions read after the list are those that the book gives"
+    × ((a i : ℕ)
+    → between 1 (r .accounts) a ≡ true
+    → between 1 (r .instruments) i ≡ true
+    → (instrumentAnswer now a i ≡ 0) × (instrumentReport now a i ≡ instrumentIn r book a i))
+    × ((a g : ℕ)
+    → between 1 (r .accounts) a ≡ true
+    → between 1 (r .groups) g ≡ true
+    → (groupAnswer now a g ≡ 0) × (groupReport now a g ≡ groupIn r book a g)))

@@ -1,0 +1,1 @@
+// The claim, in specs/, and its proofs. There is no code.
