@@ -7,6 +7,7 @@ pub mod Cuts
 pub mod Ids
 pub mod Accepted
 pub mod Tables
+pub mod TableLaws
 pub mod Marks
 pub mod Shifts
 pub mod Potentials
