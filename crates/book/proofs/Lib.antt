@@ -7,6 +7,7 @@ pub mod Cuts
 pub mod Ids
 pub mod Accepted
 pub mod Tables
+pub mod TableLaws
 pub mod Marks
 pub mod Shifts
 pub mod Potentials
@@ -19,8 +20,13 @@ pub mod LimitsStay
 pub mod SetAgainLaws
 pub mod Entering
 pub mod Runs
+pub mod KeptLaws
+pub mod NotSetAgainLaws
 pub mod Demand3Proof
 pub mod Plain
+pub mod Computed
+pub mod PlainPromise
+pub mod LongerDay
 pub mod Others
 pub mod Fills
 pub mod Filled

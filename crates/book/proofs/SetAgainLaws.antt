@@ -3,19 +3,41 @@ use Prim.Native.Nat.{ℕ}
 use mathlib.Core.Path.{_≡_, refl, sym, _∙_, ap}
 use mathlib.Core.Logic.{_↔_, _⊎_, inl, inr, ⊎-elim}
 use mathlib.Core.Bool.{true, false}
-use mathlib.Core.Option.{some}
+use mathlib.Core.Option.{Option, none, some}
 use native.Mathlib.Omega.{arith}
 use Rattle.ledger.specs.declared.order.Order.{Order}
 use Rattle.ledger.specs.Roster.{Roster}
 use Rattle.ledger.specs.Positions.{instrument}
 use Rattle.limits.specs.Lines.{isSet}
+use Rattle.book.specs.declared.LimitLine.{LimitLine}
 use Rattle.book.specs.declared.LimitLine.the-variants.{Own, Default, OfGroup}
 use Rattle.book.specs.declared.Event.{Event}
 use Rattle.book.specs.declared.Event.the-variants.{Limit, Balance, Block, New, Replace, Cancel, Fill, Junk}
 use Rattle.book.specs.Books.{Book, setLine, work}
-use Rattle.book.specs.SetAgain.{ownLine, defaultLine, lineSet, lineOver, SetsAgain}
+use Rattle.book.specs.SetAgain.{LineName, nameOf, ownLine, defaultLine, lineSet, lineOver, SetsAgain}
 use Rattle.book.proofs.Tables.{at-each}
 use Rattle.book.proofs.LimitsStay.{test, under-own, under-default}
+
+-- ---- "by an accepted LIMIT": no other event sets a line, and a LIMIT sets the one that it names
+pub set-by-that-limit : (e : Event) (n : LineName) → (lineSet e ≡ some n) ↔ ((a : ℕ) × (l : LimitLine) × (e ≡ Limit a l) × (n ≡ nameOf a l))
+unfolding lineSet
+set-by-that-limit e n = (there e, λ h. rw (h .2, h .3) (sets-its-line (h .0) (h .1)))
+  where
+    sets-its-line : (a : ℕ) (l : LimitLine) → lineSet (Limit a l) ≡ some (nameOf a l)
+    sets-its-line a l = refl
+
+    nothing : {P : Type 0} → _≡_ {A = Option LineName} none (some n) → P
+    nothing h = absurd (let z : _≡_ {A = ℕ} 0 1 = cc in omega arith)
+
+    there : (e : Event) → lineSet e ≡ some n → (a : ℕ) × (l : LimitLine) × (e ≡ Limit a l) × (n ≡ nameOf a l)
+    there (Limit a l) h = (a, l, refl, cc)
+    there (Balance a i z) h = nothing h
+    there (Block what z) h = nothing h
+    there (New s a i id q) h = nothing h
+    there (Replace id q) h = nothing h
+    there (Cancel id) h = nothing h
+    there (Fill id q) h = nothing h
+    there Junk h = nothing h
 
 -- an event that sets a default line leaves every own line
 default-keeps-own : (unit : Order → ℕ) (b : Book) (e : Event) (a c i : ℕ) → lineSet e ≡ some (defaultLine a c) → work unit b e .linesOf a .ownOf i ≡ b .linesOf a .ownOf i

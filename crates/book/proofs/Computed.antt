@@ -1,0 +1,29 @@
+-- All that a day of bytes computes with, as one name: `unfolding computes` unfolds each.
+use Rattle.words.specs.Bytes.{number}
+use Rattle.words.specs.Fields.{u8At, u16At, u64At, i64At}
+use Rattle.integers.specs.TwosComplement.{signedOf, bitsOf}
+use Rattle.integers.specs.Sum.{sumOver, below}
+use Rattle.ledger.specs.Derivatives.{one}
+use Rattle.ledger.specs.Orders.{remaining, filledBy, replacedTotal, closes}
+use Rattle.ledger.specs.Roster.{groupOfInstrument}
+use Rattle.ledger.specs.Records.{sideOf}
+use Rattle.ledger.specs.Positions.{standsIn, openOn, ofInstrument, groupPart, sumGroup, potential, position}
+use Rattle.ledger.specs.Fillings.{fillMoves, after}
+use Rattle.limits.specs.Lines.{lineInForce, limit}
+use Rattle.limits.specs.Questions.{firstNo, allPass}
+use Rattle.limits.specs.Asked.{limitsSet, sizeFits, movesInstrument, movesGroup, within, positionQuestions}
+use Rattle.book.specs.Market.{derivatives}
+use Rattle.book.specs.Decoding.{named, wellFormed, eventOf, decode}
+use Rattle.book.specs.OpenOrders.{find, insert, change, kept}
+use Rattle.book.specs.Books.{emptyBook, unsets, lineOf, groupLineOf, setLine, setBlock, newOrder, work, mark}
+use Rattle.book.specs.Table.{isEvent, accountKnown, itemKnown, figuresFit, notYetTrading, idOpen, quantityFits, entered, idFree, placeFree, questionsBefore, limitQuestions, answer}
+use Rattle.book.specs.Kept.{begun, keep, memoryAfter, keptAfter}
+use Rattle.book.specs.SetAgain.{lineSet, lineOver}
+use Rattle.book.specs.EventBytes.{bytesOf, figure, eventBytes}
+use Rattle.book.specs.Written.{asBytes}
+use Rattle.book.specs.Listing.{listingEvents}
+use Rattle.book.specs.LongerDay.{morning, afternoon, evening}
+
+unfoldable pub computes : Unit {0}
+unfolding number u8At u16At u64At i64At signedOf sumOver below remaining filledBy replacedTotal closes groupOfInstrument sideOf standsIn openOn ofInstrument groupPart sumGroup potential position fillMoves after lineInForce limit firstNo allPass limitsSet sizeFits movesInstrument movesGroup within positionQuestions derivatives one named wellFormed eventOf decode find insert change kept emptyBook unsets lineOf groupLineOf setLine setBlock newOrder work mark isEvent accountKnown itemKnown figuresFit notYetTrading idOpen quantityFits entered idFree placeFree questionsBefore limitQuestions answer begun keep memoryAfter keptAfter lineSet lineOver asBytes bytesOf figure eventBytes bitsOf listingEvents morning afternoon evening
+computes = tt
