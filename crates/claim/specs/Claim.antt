@@ -5,9 +5,9 @@
 use Prim.Native.Nat.{ℕ, _≤_}
 use mathlib.Core.Path.{_≡_}
 use mathlib.Core.Logic.{_⊎_, _↔_, _≢_}
-use mathlib.Core.Bool.{true, false}
+use mathlib.Core.Bool.{true, false, cond}
 use mathlib.Core.List.{List, [], _∷_, _++_, map, List·Memᴰ}
-use mathlib.Core.Option.{none, some}
+use mathlib.Core.Option.{some}
 use lib.IntN.{ℤ, negℤ, _+ℤ_}
 use lib.Signed.{_≤ℤ_, _<ℤ_}
 use lib.ListN.{getD}
@@ -18,7 +18,7 @@ use Rattle.ledger.specs.Derivatives.{one}
 use Rattle.ledger.specs.Positions.{Way, long, short, Place, openOn, ofInstrument, groupPart, sumGroup, position}
 use Rattle.ledger.specs.Fillings.{Filling, after as filledAfter}
 use Rattle.ledger.specs.Moves.{Moves}
-use Rattle.limits.specs.Lines.{limit}
+use Rattle.limits.specs.Lines.{isSet, limit}
 use Rattle.limits.specs.Questions.{Question, allPass}
 use Rattle.book.specs.declared.LimitLine.{LimitLine}
 use Rattle.book.specs.declared.Event.the-variants.{Limit}
@@ -71,14 +71,9 @@ pub record Demand2 : Type 0 where
   pub event-accepted : (m e : List ℕ) → (answerTo m e ≡ 0) ↔ (allPass (eventQuestions m e) ≡ true)
   pub event-numbers :
       (m e : List ℕ)
-      → entered (bookOf m) (decode e) ≡ none
       → map (λ x. x .number) (eventQuestions m e)
-      ≡ 5 ∷ 6 ∷ 7 ∷ 8 ∷ 9 ∷ 10 ∷ 11 ∷ 12 ∷ 13 ∷ 14 ∷ 15 ∷ 16 ∷ 17 ∷ 18 ∷ 19 ∷ 20 ∷ []
-  pub order-numbers :
-      (m e : List ℕ) (o : Order)
-      → entered (bookOf m) (decode e) ≡ some o
-      → map (λ x. x .number) (eventQuestions m e)
-      ≡ 5 ∷ 6 ∷ 7 ∷ 8 ∷ 9 ∷ 10 ∷ 11 ∷ 12 ∷ 13 ∷ 14 ∷ 15 ∷ 16 ∷ 17 ∷ 18 ∷ 19 ∷ 20 ∷ 21 ∷ 22 ∷ 23 ∷ 24 ∷ []
+      ≡ 5 ∷ 6 ∷ 7 ∷ 8 ∷ 9 ∷ 10 ∷ 11 ∷ 12 ∷ 13 ∷ 14 ∷ 15 ∷ 16 ∷ 17 ∷ 18 ∷ 19 ∷ 20
+      ∷ cond (isSet (entered (bookOf m) (decode e))) (21 ∷ 22 ∷ 23 ∷ 24 ∷ []) []
   -- a reading of an instrument's or a group's position likewise
   pub instrument-refused :
       (m : List ℕ) (a i n : ℕ)

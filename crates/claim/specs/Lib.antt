@@ -1,1 +1,3 @@
 pub mod Claim
+pub mod Examples
+pub mod Days

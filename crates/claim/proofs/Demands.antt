@@ -1,0 +1,135 @@
+-- The three demands as the claim says them, each taken from the theorem of the same name in the crate desk.
+use Prim.Native.Nat.{ℕ}
+use mathlib.Core.Path.{_≡_, refl, sym, ap, _∙_}
+use mathlib.Core.Logic.{_⊎_, inl, inr, ⊎-elim, _↔_, _≢_}
+use mathlib.Core.Bool.{true, false, cond}
+use mathlib.Core.List.{List, [], _∷_, _++_, map, List·Memᴰ, List·Memᴰ·head, List·Memᴰ·tail}
+use mathlib.Core.Option.{Option, none, some}
+use Rattle.ledger.specs.declared.order.Order.{Order}
+use Rattle.ledger.specs.Derivatives.{one}
+use Rattle.ledger.specs.Positions.{Place}
+use Rattle.ledger.specs.Roster.{Roster}
+use Rattle.limits.specs.Lines.{isSet}
+use Rattle.limits.specs.Questions.{Question, allPass}
+use Rattle.book.specs.declared.LimitLine.{LimitLine}
+use Rattle.book.specs.declared.Event.the-variants.{Limit}
+use Rattle.book.specs.Market.{derivatives}
+use Rattle.book.specs.Decoding.{decode}
+use Rattle.book.specs.Books.{work}
+use Rattle.book.specs.Table.{q, entered}
+use Rattle.book.specs.Kept.{RawEvent, said, Kept, memoryAfter, keptAfter}
+use Rattle.book.specs.SetAgain.{nameOf, lineOver}
+use Rattle.book.specs.Demand3.{NotSetAgain}
+use Rattle.book.proofs.SetAgainLaws.{set-by-that-limit}
+use Rattle.book.proofs.NotSetAgainLaws.{not-set-again-iff}
+use Rattle.book.proofs.TableLaws.{positionNumbers, numbers-in-order}
+use Rattle.layout.specs.View.{rosterOf, bookOf, tradingOf}
+use Rattle.soundness.specs.Soundness.{soundDesk}
+use Rattle.opening.specs.Questions.{openingQuestions}
+use Rattle.reading.specs.Reading.{readingQuestions}
+use Rattle.desk.specs.Step.{eventQuestions, answerTo}
+use Rattle.desk.specs.Demands.{OneOf, FirstFailed, Answers, gate}
+use Rattle.desk.proofs.Demands.{demand-1 as desk-demand-1, demand-2 as desk-demand-2, demand-3 as desk-demand-3}
+use Rattle.claim.specs.Claim.{Demand1, Demand2, Demand3}
+
+-- ---- demand 1
+listed : (n : ℕ) (ns : List ℕ) → OneOf n ns → List·Memᴰ n ns
+listed n [] h = absurd h
+listed n (k ∷ ks) (inl e) = List·Memᴰ·head e
+listed n (k ∷ ks) (inr h) = List·Memᴰ·tail (listed n ks h)
+
+pub demand-1 : Demand1
+demand-1 =
+    record {
+      roster = λ m s. listed _ _ (desk-demand-1 .roster m s);
+      event = λ m e. listed _ _ (desk-demand-1 .event m e);
+      roster-refused = desk-demand-1 .roster-refused;
+      event-refused = desk-demand-1 .event-refused;
+      behind-roster = desk-demand-1 .later-opening;
+      behind-event = desk-demand-1 .later-event;
+    }
+
+-- ---- demand 2
+-- the first that fails, written out
+first-failed : (qs : List Question) (answer n : ℕ) → Answers qs answer → n ≢ 0 → (answer ≡ n) ↔ ((before : List Question) × (behind : List Question) × (qs ≡ before ++ (q n false ∷ behind)) × (allPass before ≡ true))
+first-failed qs answer n a other = (λ e. there (a .refused n other .0 e), λ x. a .refused n other .1 (back x))
+  where
+    answered-no : (x : Question) → x .passes ≡ false → x .number ≡ n → x ≡ q n false
+    answered-no x failed number = rw (← number, ← failed) refl
+
+    there : FirstFailed qs n → (before : List Question) × (behind : List Question) × (qs ≡ before ++ (q n false ∷ behind)) × (allPass before ≡ true)
+    there f = (f .before, f .behind, f .table ∙ ap (λ (x : Question). f .before ++ (x ∷ f .behind)) (answered-no (f .asked) (f .failed) (f .number)), f .passed)
+
+    back : (before : List Question) × (behind : List Question) × (qs ≡ before ++ (q n false ∷ behind)) × (allPass before ≡ true) → FirstFailed qs n
+    back x =
+        record { before = x .0; asked = q n false; behind = x .1; table = x .2; passed = x .3; failed = refl; number = refl }
+
+opening-numbers : (m s : List ℕ) → map (λ x. x .number) (openingQuestions m s) ≡ 1 ∷ 2 ∷ 3 ∷ 4 ∷ []
+unfolding openingQuestions
+opening-numbers m s = refl
+
+reading-numbers : (m : List ℕ) (items a n : ℕ) → map (λ x. x .number) (readingQuestions m items a n) ≡ 5 ∷ 7 ∷ 8 ∷ []
+unfolding readingQuestions
+reading-numbers m items a n = refl
+
+event-numbers : (m e : List ℕ) → map (λ x. x .number) (eventQuestions m e) ≡ 5 ∷ 6 ∷ 7 ∷ 8 ∷ 9 ∷ 10 ∷ 11 ∷ 12 ∷ 13 ∷ 14 ∷ 15 ∷ 16 ∷ 17 ∷ 18 ∷ 19 ∷ 20 ∷ cond (isSet (entered (bookOf m) (decode e))) (21 ∷ 22 ∷ 23 ∷ 24 ∷ []) []
+unfolding eventQuestions
+event-numbers m e =
+    rw (← at-the-end (entered (bookOf m) (decode e))) (numbers-in-order derivatives (rosterOf m) (soundDesk m) (bookOf m) (tradingOf m) (decode e))
+  where
+    at-the-end : (x : Option Order) → positionNumbers x ≡ cond (isSet x) (21 ∷ 22 ∷ 23 ∷ 24 ∷ []) []
+    at-the-end none = refl
+    at-the-end (some o) = refl
+
+pub demand-2 : Demand2
+demand-2 =
+    let d = desk-demand-2 in
+    record {
+      roster-refused = λ m s n. first-failed _ _ n (d .roster m s);
+      roster-accepted = λ m s. d .roster m s .accepted;
+      roster-numbers = opening-numbers;
+      event-refused = λ m e n. first-failed _ _ n (d .event m e);
+      event-accepted = λ m e. d .event m e .accepted;
+      event-numbers = event-numbers;
+      instrument-refused = λ m a i n. first-failed _ _ n (d .instrument m a i);
+      instrument-accepted = λ m a i. d .instrument m a i .accepted;
+      group-refused = λ m a g n. first-failed _ _ n (d .group m a g);
+      group-accepted = λ m a g. d .group m a g .accepted;
+      reading-numbers = reading-numbers;
+      instrument-reported = d .instrument-reported;
+      group-reported = d .group-reported;
+      instrument-left = d .instrument-refused;
+      group-left = d .group-refused;
+    }
+
+-- ---- demand 3
+-- no accepted LIMIT of the list is on the line that the position is under, so nothing sets the limit again
+not-set-again : (r : Roster) (m : List ℕ) (k : Kept) (a : ℕ) (p : Place) (later : List RawEvent)
+    → ((before : List RawEvent) (e : RawEvent) (behind : List RawEvent) (c : ℕ) (l : LimitLine) → later ≡ before ++ (e ∷ behind) → said e ≡ Limit c l → answerTo (memoryAfter gate m before) (e .bytes) ≡ 0 → (nameOf c l ≡ lineOver r (keptAfter gate derivatives m k before .book) a p) ⊎ (nameOf c l ≡ lineOver r (work one (keptAfter gate derivatives m k before .book) (said e)) a p) → ⊥)
+    → NotSetAgain gate derivatives r m k a p later
+unfolding derivatives
+not-set-again r m k a p later out =
+    not-set-again-iff gate derivatives r a p m k later .1
+    (λ before e behind cut zero sets.
+    let b = keptAfter gate derivatives m k before .book in
+    ⊎-elim
+    (λ h. let x = set-by-that-limit (said e) (lineOver r b a p) .0 h in out before e behind (x .0) (x .1) cut (x .2) zero (inl (sym (x .3))))
+    (λ h. let x = set-by-that-limit (said e) (lineOver r (work one b (said e)) a p) .0 h in out before e behind (x .0) (x .1) cut (x .2) zero (inr (sym (x .3))))
+    sets)
+
+pub demand-3 : Demand3
+unfolding derivatives
+demand-3 m s bytes opens events =
+    let d = desk-demand-3 m s bytes opens in (
+      λ n o enters passes.
+          let j = d .judged events n o (record { enters = enters; passes = passes }) in (
+            j .refused,
+            λ zero p w moves later out.
+                let kept = j .accepted zero p w moves later (not-set-again _ _ _ (o .account) p later out) in
+                (kept .same, kept .stands, kept .filled),
+          ),
+      d .answered events,
+      d .never-5 events,
+      d .instrument-read events,
+      d .group-read events,
+    )

@@ -1,0 +1,89 @@
+-- Instances of the three demands, over bytes, in every memory that is long enough: document 01's listing, and a longer day with puts.
+use Prim.Native.Nat.{ℕ, _≤_}
+use mathlib.Core.Path.{_≡_}
+use mathlib.Core.List.{List, [], _∷_, _++_, map}
+use lib.IntN.{ℤ, pos, negsuc}
+use lib.ListN.{length, take, drop}
+use Rattle.integers.specs.TwosComplement.{bitsOf}
+use Rattle.words.specs.Bytes.{Bytes}
+use Rattle.ledger.specs.declared.order.Order.{Order}
+use Rattle.ledger.specs.declared.order.Side.{Side}
+use Rattle.ledger.specs.declared.order.Side.the-variants.{Buy, Sell}
+use Rattle.ledger.specs.Positions.{instrument, group, long, short}
+use Rattle.book.specs.EventBytes.{bytesOf, buy, sell}
+use Rattle.book.specs.Listing.{listingEvents}
+use Rattle.book.specs.LongerDay.{morning, tooLong, tooShort, putSold, putBought, raisedTooFar, putSoldToTheLimit, putBoughtToTheLimit, raisedToTheLimit, afternoon, evening}
+use Rattle.book.specs.Written.{writtenAll}
+use Rattle.opening.specs.Questions.{openingAnswer}
+use Rattle.opening.specs.Opening.{afterOpening}
+use Rattle.reading.specs.Reading.{instrumentAnswer, groupAnswer, instrumentReport, groupReport, reported}
+use Rattle.desk.specs.Days.{answersOver}
+use Rattle.desk.specs.Listing.{listingRoster}
+use Rattle.claim.specs.Examples.{memoryAt, OrderRefused, OrderAccepted, LimitSetAgain}
+
+-- an order of account 1 of which nothing is filled
+abbrev order : (id item : ℕ) → Side → ℕ → Order
+order id item side total =
+    record { id = id; account = 1; instrument = item; side = side; total = total; filled = 0 }
+
+-- ---- document 01's listing
+pub record ListingDay (m : List ℕ) : Type 0 where
+  pub opens : openingAnswer m listingRoster ≡ 0
+  pub answers :
+      answersOver (afterOpening m listingRoster) (map (λ e. e .bytes) (writtenAll listingEvents))
+      ≡ 0 ∷ 0 ∷ 0 ∷ 0 ∷ 23 ∷ 0 ∷ 0 ∷ 0 ∷ []
+  -- event 4, buy 62 of instrument 1: accepted, and through all that follows neither position is past its limit
+  pub buy-of-instrument : OrderAccepted m listingRoster (take 3 listingEvents) (buy 1 7 62) (order 7 1 Buy 62) (instrument 1) long (pos 100) (drop 4 listingEvents)
+  pub buy-of-group : OrderAccepted m listingRoster (take 3 listingEvents) (buy 1 7 62) (order 7 1 Buy 62) (group 1) long (pos 600000) (drop 4 listingEvents)
+  -- event 5, a put sold
+  pub put-sold : OrderRefused m listingRoster (take 4 listingEvents) (sell 2 8 1) (order 8 2 Sell 1) 23
+  -- the I and G lines; `before` is what the output held
+  pub first :
+      (before : List ℤ)
+      → (let end = memoryAt m listingRoster listingEvents in
+      reported (instrumentAnswer end 1 1) (instrumentReport end 1 1) before ≡ pos 10 ∷ pos 10 ∷ negsuc 9 ∷ [])
+  pub second :
+      (before : List ℤ)
+      → (let end = memoryAt m listingRoster listingEvents in
+      reported (instrumentAnswer end 1 2) (instrumentReport end 1 2) before ≡ pos 0 ∷ pos 4 ∷ pos 0 ∷ [])
+  pub ofGroup :
+      (before : List ℤ)
+      → (let end = memoryAt m listingRoster listingEvents in
+      reported (groupAnswer end 1 1) (groupReport end 1 1) before ≡ pos 100000 ∷ negsuc 79999 ∷ [])
+
+-- ---- the longer day (crates/book/specs/LongerDay.antt)
+-- two accounts, groups and contracts; contract 1, of group 1, has instruments 1 and 2, a put, and contract 2, of group 2, has instrument 3
+unfoldable pub longerRoster : List ℕ
+longerRoster =
+    bytesOf 2 2
+    ++ (bytesOf 2 2
+    ++ (bytesOf 2 2
+    ++ (bytesOf 2 3 ++ (1 ∷ 2 ∷ 1 ∷ 1 ∷ 2 ∷ (bytesOf 4 10000 ++ (bytesOf 4 (bitsOf 32 (negsuc 4999)) ++ bytesOf 4 10000))))))
+
+pub record LongerDay (m : List ℕ) : Type 0 where
+  pub opens : openingAnswer m longerRoster ≡ 0
+  pub answers :
+      answersOver (afterOpening m longerRoster)
+      (map (λ e. e .bytes) (writtenAll (morning ++ (putSoldToTheLimit ∷ (afternoon ++ evening)))))
+      ≡ 0 ∷ 0 ∷ 0 ∷ 0 ∷ 0 ∷ 0 ∷ 0 ∷ 23 ∷ 0 ∷ 0 ∷ 10 ∷ 9 ∷ 9 ∷ 0 ∷ 0 ∷ 0 ∷ 0 ∷ 0 ∷ 0 ∷ 6 ∷ 0 ∷ 0 ∷ 0 ∷ 0 ∷ 0 ∷ []
+  -- refused by each question of a position limit
+  pub too-long : OrderRefused m longerRoster morning tooLong (order 8 1 Buy 53) 21
+  pub too-short : OrderRefused m longerRoster morning tooShort (order 8 1 Sell 99) 22
+  pub put-sold : OrderRefused m longerRoster morning putSold (order 8 2 Sell 25) 23
+  pub put-bought : OrderRefused m longerRoster morning putBought (order 8 2 Buy 77) 24
+  pub raised-too-far : OrderRefused m longerRoster morning raisedTooFar (order 7 1 Buy 63) 23
+  -- accepted: of the instrument and of the group, through the afternoon
+  pub sold-of-instrument : OrderAccepted m longerRoster morning putSoldToTheLimit (order 8 2 Sell 24) (instrument 2) short (pos 100) afternoon
+  pub sold-of-group : OrderAccepted m longerRoster morning putSoldToTheLimit (order 8 2 Sell 24) (group 1) long (pos 600000) afternoon
+  pub bought-of-instrument : OrderAccepted m longerRoster morning putBoughtToTheLimit (order 8 2 Buy 76) (instrument 2) long (pos 100) afternoon
+  pub bought-of-group : OrderAccepted m longerRoster morning putBoughtToTheLimit (order 8 2 Buy 76) (group 1) short (pos 400000) afternoon
+  pub raised-of-instrument : OrderAccepted m longerRoster morning raisedToTheLimit (order 7 1 Buy 62) (instrument 1) long (pos 100) afternoon
+  pub raised-of-group : OrderAccepted m longerRoster morning raisedToTheLimit (order 7 1 Buy 62) (group 1) long (pos 600000) afternoon
+  -- after N itself
+  pub sold-at-once : OrderAccepted m longerRoster morning putSoldToTheLimit (order 8 2 Sell 24) (group 1) long (pos 600000) []
+  -- the evening's LIMIT sets the group's limit again, and after it nothing is claimed
+  pub set-again : LimitSetAgain m longerRoster morning putSoldToTheLimit (order 8 2 Sell 24) (group 1) long (pos 600000) (afternoon ++ evening)
+
+-- in every memory that is long enough
+abbrev pub Instances : Type 0
+Instances = (m : List ℕ) → Bytes m → 65536 ≤ length m → ListingDay m × LongerDay m

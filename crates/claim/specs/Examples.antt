@@ -1,0 +1,108 @@
+-- What an instance of the claim shows, over bytes: the premises of a demand met, and its conclusion drawn. Lists are of events written out.
+use Prim.Native.Nat.{ℕ}
+use mathlib.Core.Path.{_≡_}
+use mathlib.Core.Logic.{_⊎_}
+use mathlib.Core.Bool.{true, false}
+use mathlib.Core.List.{List, [], _∷_, _++_}
+use mathlib.Core.Option.{some}
+use lib.IntN.{ℤ}
+use lib.Signed.{_≤ℤ_, _<ℤ_}
+use Rattle.ledger.specs.declared.order.Order.{Order}
+use Rattle.ledger.specs.Derivatives.{one}
+use Rattle.ledger.specs.Positions.{Place, Way, position}
+use Rattle.ledger.specs.Fillings.{Filling, after as filledAfter}
+use Rattle.ledger.specs.Moves.{Moves}
+use Rattle.limits.specs.Lines.{limit}
+use Rattle.limits.specs.Questions.{Question, allPass}
+use Rattle.book.specs.declared.LimitLine.{LimitLine}
+use Rattle.book.specs.declared.Event.the-variants.{Limit}
+use Rattle.book.specs.Market.{derivatives}
+use Rattle.book.specs.Books.{Book, work}
+use Rattle.book.specs.Table.{q, entered, questionsBefore}
+use Rattle.book.specs.Kept.{RawEvent, said, Kept, begun, memoryAfter, keptAfter}
+use Rattle.book.specs.SetAgain.{nameOf, lineOver}
+use Rattle.book.specs.Written.{asBytes, written, writtenAll}
+use Rattle.opening.specs.Questions.{rosterFrom}
+use Rattle.opening.specs.Opening.{afterOpening}
+use Rattle.desk.specs.Step.{eventQuestions, answerTo, after}
+use Rattle.desk.specs.Demands.{gate}
+
+-- the memory m, opened with roster s, and what is kept of the events, after the events
+abbrev pub memoryAt : (m s : List ℕ) → List (List ℕ) → List ℕ
+memoryAt m s events = memoryAfter gate (afterOpening m s) (writtenAll events)
+
+abbrev pub keptAt : (m s : List ℕ) → List (List ℕ) → Kept
+keptAt m s events = keptAfter gate derivatives (afterOpening m s) begun (writtenAll events)
+
+abbrev pub bookAt : (m s : List ℕ) → List (List ℕ) → Book
+bookAt m s events = keptAt m s events .book
+
+-- ---- N after events: an order o is entered, or raised to its new total, and every check before the position limits is passed
+pub record OrderAsked (m s : List ℕ) (events : List (List ℕ)) (n : List ℕ) (o : Order) : Type 0 where
+  pub bytes : asBytes n ≡ n
+  pub enters : entered (bookAt m s events) (said (written n)) ≡ some o
+  pub passes : allPass (questionsBefore derivatives (rosterFrom s) (bookAt m s events) (keptAt m s events .trading) (said (written n))) ≡ true
+
+-- some filling of the orders that are open with N puts a position past its limit on a side to which N's fills move it
+abbrev pub SomeFillingPast : (m s : List ℕ) (events : List (List ℕ)) (n : List ℕ) (o : Order) → Type 0
+SomeFillingPast m s events n o =
+    (p : Place)
+    × (w : Way)
+    × Moves (rosterFrom s) o p w
+    × ((f : Filling (work one (bookAt m s events) (said (written n)) .orders))
+    × (limit (rosterFrom s) (work one (bookAt m s events) (said (written n)) .linesOf (o .account)) p w
+    <ℤ position (rosterFrom s) (filledAfter one (o .account) (work one (bookAt m s events) (said (written n)) .balanceOf (o .account)) f) p w))
+
+-- N is refused by a position limit's question
+pub record OrderRefused (m s : List ℕ) (events : List (List ℕ)) (n : List ℕ) (o : Order) (number : ℕ) : Type 0 where
+  pub asked : OrderAsked m s events n o
+  pub answered : answerTo (memoryAt m s events) n ≡ number
+  -- demand 3, from the answer
+  pub past : SomeFillingPast m s events n o
+  -- demand 3, from a filling that is shown
+  pub refused :
+      (answerTo (memoryAt m s events) n ≡ 21)
+      ⊎ ((answerTo (memoryAt m s events) n ≡ 22)
+      ⊎ ((answerTo (memoryAt m s events) n ≡ 23) ⊎ (answerTo (memoryAt m s events) n ≡ 24)))
+  -- demand 2: every question before it is answered yes
+  pub first-failed :
+      (before : List Question)
+      × (behind : List Question)
+      × (eventQuestions (memoryAt m s events) n ≡ before ++ (q number false ∷ behind))
+      × (allPass before ≡ true)
+  -- demand 1
+  pub unchanged : after (memoryAt m s events) n ≡ memoryAt m s events
+
+-- no accepted LIMIT of the later events is on the line that the position of account a is under before it or after it
+abbrev pub NoneSetsAgain : (m s : List ℕ) (events later : List (List ℕ)) (a : ℕ) (p : Place) → Type 0
+NoneSetsAgain m s events later a p =
+    (before : List RawEvent) (e : RawEvent) (behind : List RawEvent) (c : ℕ) (l : LimitLine)
+    → writtenAll later ≡ before ++ (e ∷ behind)
+    → said e ≡ Limit c l
+    → answerTo (memoryAfter gate (memoryAt m s events) before) (e .bytes) ≡ 0
+    → (let b = keptAfter gate derivatives (memoryAt m s events) (keptAt m s events) before .book in
+    (nameOf c l ≡ lineOver (rosterFrom s) b a p) ⊎ (nameOf c l ≡ lineOver (rosterFrom s) (work one b (said e)) a p) → ⊥)
+
+-- N is accepted, and after later events the position p is not past the limit, `figure`, on side w
+pub record OrderAccepted (m s : List ℕ) (events : List (List ℕ)) (n : List ℕ) (o : Order) (p : Place) (w : Way) (figure : ℤ) (later : List (List ℕ)) : Type 0 where
+  pub asked : OrderAsked m s events n o
+  pub answered : answerTo (memoryAt m s events) n ≡ 0
+  -- demand 2: every question is answered yes
+  pub all-passed : allPass (eventQuestions (memoryAt m s events) n) ≡ true
+  pub moves : Moves (rosterFrom s) o p w
+  pub judged-by : limit (rosterFrom s) (bookAt m s events .linesOf (o .account)) p w ≡ figure
+  pub none-sets-again : NoneSetsAgain m s (events ++ (n ∷ [])) later (o .account) p
+  -- demand 3
+  pub same : limit (rosterFrom s) (bookAt m s (events ++ (n ∷ later)) .linesOf (o .account)) p w ≡ figure
+  pub stands : position (rosterFrom s) (bookAt m s (events ++ (n ∷ later)) .balanceOf (o .account)) p w ≤ℤ figure
+  pub filled :
+      (f : Filling (bookAt m s (events ++ (n ∷ later)) .orders))
+      → position (rosterFrom s) (filledAfter one (o .account) (bookAt m s (events ++ (n ∷ later)) .balanceOf (o .account)) f) p w ≤ℤ figure
+
+-- a later event sets the limit again: the premise of demand 3 fails, and a filling of what is open then does put the position past
+-- the figure that N was judged by
+pub record LimitSetAgain (m s : List ℕ) (events : List (List ℕ)) (n : List ℕ) (o : Order) (p : Place) (w : Way) (figure : ℤ) (later : List (List ℕ)) : Type 0 where
+  pub set-again : NoneSetsAgain m s (events ++ (n ∷ [])) later (o .account) p → ⊥
+  pub past :
+      (f : Filling (bookAt m s (events ++ (n ∷ later)) .orders))
+      × (figure <ℤ position (rosterFrom s) (filledAfter one (o .account) (bookAt m s (events ++ (n ∷ later)) .balanceOf (o .account)) f) p w)
