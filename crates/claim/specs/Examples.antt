@@ -17,7 +17,7 @@ use Rattle.limits.specs.Questions.{Question, allPass}
 use Rattle.book.specs.declared.LimitLine.{LimitLine}
 use Rattle.book.specs.declared.Event.the-variants.{Limit}
 use Rattle.book.specs.Market.{derivatives}
-use Rattle.book.specs.Books.{Book, work}
+use Rattle.book.specs.Books.{work}
 use Rattle.book.specs.Table.{q, entered, questionsBefore}
 use Rattle.book.specs.Kept.{RawEvent, said, Kept, begun, memoryAfter, keptAfter}
 use Rattle.book.specs.SetAgain.{nameOf, lineOver}
@@ -34,14 +34,11 @@ memoryAt m s events = memoryAfter gate (afterOpening m s) (writtenAll events)
 abbrev pub keptAt : (m s : List ℕ) → List (List ℕ) → Kept
 keptAt m s events = keptAfter gate derivatives (afterOpening m s) begun (writtenAll events)
 
-abbrev pub bookAt : (m s : List ℕ) → List (List ℕ) → Book
-bookAt m s events = keptAt m s events .book
-
 -- ---- N after events: an order o is entered, or raised to its new total, and every check before the position limits is passed
 pub record OrderAsked (m s : List ℕ) (events : List (List ℕ)) (n : List ℕ) (o : Order) : Type 0 where
   pub bytes : asBytes n ≡ n
-  pub enters : entered (bookAt m s events) (said (written n)) ≡ some o
-  pub passes : allPass (questionsBefore derivatives (rosterFrom s) (bookAt m s events) (keptAt m s events .trading) (said (written n))) ≡ true
+  pub enters : entered (keptAt m s events .book) (said (written n)) ≡ some o
+  pub passes : allPass (questionsBefore derivatives (rosterFrom s) (keptAt m s events .book) (keptAt m s events .trading) (said (written n))) ≡ true
 
 -- some filling of the orders that are open with N puts a position past its limit on a side to which N's fills move it
 abbrev pub SomeFillingPast : (m s : List ℕ) (events : List (List ℕ)) (n : List ℕ) (o : Order) → Type 0
@@ -49,9 +46,9 @@ SomeFillingPast m s events n o =
     (p : Place)
     × (w : Way)
     × Moves (rosterFrom s) o p w
-    × ((f : Filling (work one (bookAt m s events) (said (written n)) .orders))
-    × (limit (rosterFrom s) (work one (bookAt m s events) (said (written n)) .linesOf (o .account)) p w
-    <ℤ position (rosterFrom s) (filledAfter one (o .account) (work one (bookAt m s events) (said (written n)) .balanceOf (o .account)) f) p w))
+    × ((f : Filling (work one (keptAt m s events .book) (said (written n)) .orders))
+    × (limit (rosterFrom s) (work one (keptAt m s events .book) (said (written n)) .linesOf (o .account)) p w
+    <ℤ position (rosterFrom s) (filledAfter one (o .account) (work one (keptAt m s events .book) (said (written n)) .balanceOf (o .account)) f) p w))
 
 -- N is refused by a position limit's question
 pub record OrderRefused (m s : List ℕ) (events : List (List ℕ)) (n : List ℕ) (o : Order) (number : ℕ) : Type 0 where
@@ -90,19 +87,19 @@ pub record OrderAccepted (m s : List ℕ) (events : List (List ℕ)) (n : List �
   -- demand 2: every question is answered yes
   pub all-passed : allPass (eventQuestions (memoryAt m s events) n) ≡ true
   pub moves : Moves (rosterFrom s) o p w
-  pub judged-by : limit (rosterFrom s) (bookAt m s events .linesOf (o .account)) p w ≡ figure
+  pub judged-by : limit (rosterFrom s) (keptAt m s events .book .linesOf (o .account)) p w ≡ figure
   pub none-sets-again : NoneSetsAgain m s (events ++ (n ∷ [])) later (o .account) p
   -- demand 3
-  pub same : limit (rosterFrom s) (bookAt m s (events ++ (n ∷ later)) .linesOf (o .account)) p w ≡ figure
-  pub stands : position (rosterFrom s) (bookAt m s (events ++ (n ∷ later)) .balanceOf (o .account)) p w ≤ℤ figure
+  pub same : limit (rosterFrom s) (keptAt m s (events ++ (n ∷ later)) .book .linesOf (o .account)) p w ≡ figure
+  pub stands : position (rosterFrom s) (keptAt m s (events ++ (n ∷ later)) .book .balanceOf (o .account)) p w ≤ℤ figure
   pub filled :
-      (f : Filling (bookAt m s (events ++ (n ∷ later)) .orders))
-      → position (rosterFrom s) (filledAfter one (o .account) (bookAt m s (events ++ (n ∷ later)) .balanceOf (o .account)) f) p w ≤ℤ figure
+      (f : Filling (keptAt m s (events ++ (n ∷ later)) .book .orders))
+      → position (rosterFrom s) (filledAfter one (o .account) (keptAt m s (events ++ (n ∷ later)) .book .balanceOf (o .account)) f) p w ≤ℤ figure
 
 -- a later event sets the limit again: the premise of demand 3 fails, and a filling of what is open then does put the position past
 -- the figure that N was judged by
 pub record LimitSetAgain (m s : List ℕ) (events : List (List ℕ)) (n : List ℕ) (o : Order) (p : Place) (w : Way) (figure : ℤ) (later : List (List ℕ)) : Type 0 where
   pub set-again : NoneSetsAgain m s (events ++ (n ∷ [])) later (o .account) p → ⊥
   pub past :
-      (f : Filling (bookAt m s (events ++ (n ∷ later)) .orders))
-      × (figure <ℤ position (rosterFrom s) (filledAfter one (o .account) (bookAt m s (events ++ (n ∷ later)) .balanceOf (o .account)) f) p w)
+      (f : Filling (keptAt m s (events ++ (n ∷ later)) .book .orders))
+      × (figure <ℤ position (rosterFrom s) (filledAfter one (o .account) (keptAt m s (events ++ (n ∷ later)) .book .balanceOf (o .account)) f) p w)
