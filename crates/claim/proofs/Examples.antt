@@ -26,14 +26,13 @@ use Rattle.book.specs.SetAgain.{nameOf, lineOver}
 use Rattle.book.specs.Written.{asBytes, written, writtenAll}
 use Rattle.book.proofs.Days.{endOf}
 use Rattle.book.proofs.Plain.{plain}
-use Rattle.book.proofs.PlainPromise.{Passes}
 use Rattle.book.proofs.KeptLaws.{memory-of-more, kept-of-more, kept-joined}
 use Rattle.book.proofs.NotSetAgainLaws.{setsNone}
 use Rattle.opening.specs.Questions.{rosterFrom, openingAnswer}
 use Rattle.opening.specs.Opening.{afterOpening}
 use Rattle.desk.specs.Step.{answerTo, after}
 use Rattle.desk.specs.Demands.{gate}
-use Rattle.claim.specs.Examples.{memoryAt, keptAt, OrderAsked, OrderRefused, NoneSetsAgain, OrderAccepted, LimitSetAgain}
+use Rattle.claim.specs.Examples.{memoryAt, keptAt, OrderAsked, SomeFillingPast, OrderRefused, NoneSetsAgain, OrderAccepted, LimitSetAgain}
 use Rattle.claim.proofs.Demands.{demand-1, demand-2, demand-3}
 use Rattle.claim.proofs.Plainly.{saidAll, plainly, plainly-after, kept-plainly, none-sets-again}
 
@@ -73,7 +72,7 @@ module _ (m s : List ℕ) (bytes : Bytes m) (opens : openingAnswer m s ≡ 0) wh
 
     -- refused: `shown` is a filling that passes the limit
     pub refused : OrderAsked m s events n o → (number : ℕ) → plainAnswer s events n ≡ number → ForPositionLimit number
-        → Passes (rosterFrom s) (work one (plainKept s events .book) (said (written n))) o
+        → SomeFillingPast (rosterFrom s) (work one (plainKept s events .book) (said (written n))) o
         → OrderRefused m s events n o number
     refused a number computed which shown =
         let answer-is = answered (a .bytes) number computed in

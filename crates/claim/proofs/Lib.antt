@@ -1,3 +1,6 @@
 pub mod Demands
 pub mod Plainly
 pub mod Examples
+pub mod Opened
+pub mod ListingDay
+pub mod LongerDay

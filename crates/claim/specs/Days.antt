@@ -22,7 +22,7 @@ use Rattle.desk.specs.Listing.{listingRoster}
 use Rattle.claim.specs.Examples.{memoryAt, OrderRefused, OrderAccepted, LimitSetAgain}
 
 -- an order of account 1 of which nothing is filled
-abbrev order : (id item : ℕ) → Side → ℕ → Order
+abbrev pub order : (id item : ℕ) → Side → ℕ → Order
 order id item side total =
     record { id = id; account = 1; instrument = item; side = side; total = total; filled = 0 }
 
@@ -85,5 +85,5 @@ pub record LongerDay (m : List ℕ) : Type 0 where
   pub set-again : LimitSetAgain m longerRoster morning putSoldToTheLimit (order 8 2 Sell 24) (group 1) long (pos 600000) (afternoon ++ evening)
 
 -- in every memory that is long enough
-abbrev pub Instances : Type 0
-Instances = (m : List ℕ) → Bytes m → 65536 ≤ length m → ListingDay m × LongerDay m
+abbrev pub InEveryMemory : (List ℕ → Type 0) → Type 0
+InEveryMemory Holds = (m : List ℕ) → Bytes m → 65536 ≤ length m → Holds m

@@ -12,12 +12,13 @@ use Rattle.ledger.specs.Derivatives.{one}
 use Rattle.ledger.specs.Positions.{Place, Way, position}
 use Rattle.ledger.specs.Fillings.{Filling, after as filledAfter}
 use Rattle.ledger.specs.Moves.{Moves}
+use Rattle.ledger.specs.Roster.{Roster}
 use Rattle.limits.specs.Lines.{limit}
 use Rattle.limits.specs.Questions.{Question, allPass}
 use Rattle.book.specs.declared.LimitLine.{LimitLine}
 use Rattle.book.specs.declared.Event.the-variants.{Limit}
 use Rattle.book.specs.Market.{derivatives}
-use Rattle.book.specs.Books.{work}
+use Rattle.book.specs.Books.{Book, work}
 use Rattle.book.specs.Table.{q, entered, questionsBefore}
 use Rattle.book.specs.Kept.{RawEvent, said, Kept, begun, memoryAfter, keptAfter}
 use Rattle.book.specs.SetAgain.{nameOf, lineOver}
@@ -40,22 +41,21 @@ pub record OrderAsked (m s : List ℕ) (events : List (List ℕ)) (n : List ℕ)
   pub enters : entered (keptAt m s events .book) (said (written n)) ≡ some o
   pub passes : allPass (questionsBefore derivatives (rosterFrom s) (keptAt m s events .book) (keptAt m s events .trading) (said (written n))) ≡ true
 
--- some filling of the orders that are open with N puts a position past its limit on a side to which N's fills move it
-abbrev pub SomeFillingPast : (m s : List ℕ) (events : List (List ℕ)) (n : List ℕ) (o : Order) → Type 0
-SomeFillingPast m s events n o =
+-- some filling of book b's orders puts a position of o's account past its limit on a side to which o's fills move it
+abbrev pub SomeFillingPast : Roster → Book → Order → Type 0
+SomeFillingPast r b o =
     (p : Place)
     × (w : Way)
-    × Moves (rosterFrom s) o p w
-    × ((f : Filling (work one (keptAt m s events .book) (said (written n)) .orders))
-    × (limit (rosterFrom s) (work one (keptAt m s events .book) (said (written n)) .linesOf (o .account)) p w
-    <ℤ position (rosterFrom s) (filledAfter one (o .account) (work one (keptAt m s events .book) (said (written n)) .balanceOf (o .account)) f) p w))
+    × Moves r o p w
+    × ((f : Filling (b .orders))
+    × (limit r (b .linesOf (o .account)) p w <ℤ position r (filledAfter one (o .account) (b .balanceOf (o .account)) f) p w))
 
 -- N is refused by a position limit's question
 pub record OrderRefused (m s : List ℕ) (events : List (List ℕ)) (n : List ℕ) (o : Order) (number : ℕ) : Type 0 where
   pub asked : OrderAsked m s events n o
   pub answered : answerTo (memoryAt m s events) n ≡ number
   -- demand 3, from the answer
-  pub past : SomeFillingPast m s events n o
+  pub past : SomeFillingPast (rosterFrom s) (work one (keptAt m s events .book) (said (written n))) o
   -- demand 3, from a filling that is shown
   pub refused :
       (answerTo (memoryAt m s events) n ≡ 21)

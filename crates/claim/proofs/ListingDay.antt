@@ -1,0 +1,98 @@
+-- Document 01's listing as an instance of the demands: computed of the plain book, each conclusion drawn by a demand.
+use Prim.Native.Nat.{ℕ, _≤_}
+use mathlib.Core.Path.{_≡_, refl, ap, _∙_}
+use mathlib.Core.Logic.{inl, inr, _≢_}
+use mathlib.Core.Bool.{true}
+use mathlib.Core.List.{List, [], _∷_, _++_, map}
+use native.Mathlib.Omega.{arith}
+use lib.IntN.{ℤ, pos, negsuc}
+use lib.ListN.{length, take, drop}
+use borrow.Author.Tests.{le-leb}
+use Rattle.integers.specs.TwosComplement.{signedOf, bitsOf}
+use Rattle.words.specs.Bytes.{Bytes, number}
+use Rattle.words.specs.Fields.{u8At, u16At, i32At}
+use Rattle.ledger.specs.declared.order.Order.{Order}
+use Rattle.ledger.specs.declared.order.Side.the-variants.{Buy, Sell}
+use Rattle.ledger.specs.Positions.{Place, Way, instrument, group, long, short, ofInstrument, potential}
+use Rattle.ledger.specs.Fillings.{none, fill}
+use Rattle.limits.specs.Questions.{allPass}
+use Rattle.book.specs.declared.LimitLine.the-variants.{OfGroup}
+use Rattle.book.specs.EventBytes.{bytesOf, groupLine, blockBytes, buy, sell}
+use Rattle.book.specs.Market.{derivatives}
+use Rattle.book.specs.Decoding.{between}
+use Rattle.book.specs.Kept.{begun}
+use Rattle.book.specs.Listing.{listingEvents}
+use Rattle.book.specs.LongerDay.{morning, tooLong, tooShort, putSold, putBought, raisedTooFar, putSoldToTheLimit, putBoughtToTheLimit, raisedToTheLimit, afternoon, evening}
+use Rattle.book.specs.Written.{written, writtenAll}
+use Rattle.book.proofs.Computed.{computes}
+use Rattle.layout.specs.Rosters.{listed, every, sizesFit, namesFit, weightsFit, longEnough}
+use Rattle.opening.specs.Questions.{rosterFrom, rosterLength, lengthsFit, openingQuestions, openingAnswer}
+use Rattle.opening.specs.Opening.{afterOpening}
+use Rattle.reading.specs.Reading.{instrumentAnswer, groupAnswer, instrumentReport, groupReport, positionIn, reported}
+use Rattle.desk.specs.Positions.{potentialIn, instrumentIn, groupIn}
+use Rattle.desk.specs.Listing.{listingRoster}
+use Rattle.claim.specs.Examples.{memoryAt, OrderRefused, OrderAccepted, LimitSetAgain}
+use Rattle.claim.specs.Days.{order, ListingDay, longerRoster, LongerDay, InEveryMemory}
+use Rattle.claim.proofs.Demands.{demand-2, demand-3}
+use Rattle.claim.proofs.Plainly.{plainly, answers-plainly}
+use Rattle.claim.proofs.Opened.{opened, not-zero, put-not-zero}
+use Rattle.claim.proofs.Examples.{plainKept, kept-at, asked, refused, accepted, limit-set-again}
+
+-- ---- document 01's listing
+listing-opens : (m : List ℕ) → 65536 ≤ length m → openingAnswer m listingRoster ≡ 0
+unfolding opened openingQuestions allPass longEnough lengthsFit rosterLength sizesFit namesFit weightsFit every
+listing-opens m enough = demand-2 .roster-accepted m listingRoster .1 (rw (le-leb 65536 (length m) enough) refl)
+
+module _ (m : List ℕ) (bytes : Bytes m) (opens : openingAnswer m listingRoster ≡ 0) where
+  listing-buy : (OrderAccepted m listingRoster (take 3 listingEvents) (buy 1 7 62) (order 7 1 Buy 62) (instrument 1) long (pos 100) (drop 4 listingEvents))
+      × (OrderAccepted m listingRoster (take 3 listingEvents) (buy 1 7 62) (order 7 1 Buy 62) (group 1) long (pos 600000) (drop 4 listingEvents))
+  unfolding opened
+  listing-buy =
+      let s = listingRoster in
+      let events = take 3 listingEvents in
+      let n = buy 1 7 62 in
+      let o = order 7 1 Buy 62 in
+      let later = drop 4 listingEvents in
+      let a = asked m s bytes opens events n o refl refl refl in (
+        accepted m s bytes opens events n o (instrument 1) long (pos 100) later a refl (refl, refl) refl refl,
+        accepted m s bytes opens events n o (group 1) long (pos 600000) later a refl (refl, not-zero, refl) refl refl,
+      )
+
+  listing-sell : OrderRefused m listingRoster (take 4 listingEvents) (sell 2 8 1) (order 8 2 Sell 1) 23
+  unfolding opened
+  listing-sell =
+      let s = listingRoster in
+      let events = take 4 listingEvents in
+      let o = order 8 2 Sell 1 in
+      refused m s bytes opens events (sell 2 8 1) o (asked m s bytes opens events (sell 2 8 1) o refl refl refl) 23 refl (inr (inr (inl refl)))
+      (group 1, long, (refl, put-not-zero, refl), (fill {o = order 7 1 Buy 62} 62 (omega arith) (fill {o = o} 1 (omega arith) none), record { lt = tt }))
+
+  -- what is reported of an instrument, by demand 2, is what the book gives, by demand 3
+  instrument-line : (i : ℕ) → between 1 (rosterFrom listingRoster .instruments) i ≡ true → (before : List ℤ) → reported (instrumentAnswer (memoryAt m listingRoster listingEvents) 1 i) (instrumentReport (memoryAt m listingRoster listingEvents) 1 i) before ≡ instrumentIn (rosterFrom listingRoster) (plainKept listingRoster listingEvents .book) 1 i
+  unfolding opened instrumentReport positionIn potential ofInstrument derivatives
+  instrument-line i on before =
+      let read = demand-3 m listingRoster bytes opens (writtenAll listingEvents) .3 1 i refl on in
+      demand-2 .instrument-reported (memoryAt m listingRoster listingEvents) 1 i before (read .0) ∙ read .1 ∙ ap (λ k. instrumentIn (rosterFrom listingRoster) (k .book) 1 i) (kept-at m listingRoster bytes opens listingEvents)
+
+  group-line : (before : List ℤ) → reported (groupAnswer (memoryAt m listingRoster listingEvents) 1 1) (groupReport (memoryAt m listingRoster listingEvents) 1 1) before ≡ groupIn (rosterFrom listingRoster) (plainKept listingRoster listingEvents .book) 1 1
+  unfolding opened groupReport positionIn potential ofInstrument derivatives
+  group-line before =
+      let read = demand-3 m listingRoster bytes opens (writtenAll listingEvents) .4 1 1 refl refl in
+      demand-2 .group-reported (memoryAt m listingRoster listingEvents) 1 1 before (read .0) ∙ read .1 ∙ ap (λ k. groupIn (rosterFrom listingRoster) (k .book) 1 1) (kept-at m listingRoster bytes opens listingEvents)
+
+  all-of-it : ListingDay m
+  unfolding opened potentialIn instrumentIn groupIn
+  all-of-it =
+      record {
+        opens = opens;
+        answers = answers-plainly (rosterFrom listingRoster) (afterOpening m listingRoster) begun (plainly m listingRoster bytes opens) (writtenAll listingEvents);
+        buy-of-instrument = listing-buy .0;
+        buy-of-group = listing-buy .1;
+        put-sold = listing-sell;
+        first = instrument-line 1 refl;
+        second = instrument-line 2 refl;
+        ofGroup = group-line;
+      }
+
+pub listing-day : InEveryMemory ListingDay
+listing-day m bytes enough = all-of-it m bytes (listing-opens m enough)
