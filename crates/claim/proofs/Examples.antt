@@ -21,7 +21,7 @@ use Rattle.book.specs.declared.Event.the-variants.{Limit}
 use Rattle.book.specs.Market.{derivatives}
 use Rattle.book.specs.Books.{work}
 use Rattle.book.specs.Table.{entered, questionsBefore, answer}
-use Rattle.book.specs.Kept.{RawEvent, said, Kept, begun, keep, memoryAfter, keptAfter}
+use Rattle.book.specs.Kept.{RawEvent, said, Kept, begun, keep, keptAfter}
 use Rattle.book.specs.SetAgain.{nameOf, lineOver}
 use Rattle.book.specs.Written.{asBytes, written, writtenAll}
 use Rattle.book.proofs.Days.{endOf}

@@ -1,4 +1,5 @@
 pub mod Demands
+pub mod Uses
 pub mod Plainly
 pub mod Examples
 pub mod Opened

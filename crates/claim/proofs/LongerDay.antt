@@ -1,42 +1,31 @@
 -- The longer day as an instance of the demands: computed of the plain book, each conclusion drawn by a demand.
 use Prim.Native.Nat.{ℕ, _≤_}
-use mathlib.Core.Path.{_≡_, refl, ap, _∙_}
-use mathlib.Core.Logic.{inl, inr, _≢_}
-use mathlib.Core.Bool.{true}
-use mathlib.Core.List.{List, [], _∷_, _++_, map}
+use mathlib.Core.Path.{_≡_, refl}
+use mathlib.Core.Logic.{inl, inr}
+use mathlib.Core.List.{List, [], _∷_, _++_}
 use native.Mathlib.Omega.{arith}
-use lib.IntN.{ℤ, pos, negsuc}
-use lib.ListN.{length, take, drop}
+use lib.IntN.{pos}
+use lib.ListN.{length}
 use borrow.Author.Tests.{le-leb}
-use Rattle.integers.specs.TwosComplement.{signedOf, bitsOf}
-use Rattle.words.specs.Bytes.{Bytes, number}
-use Rattle.words.specs.Fields.{u8At, u16At, i32At}
-use Rattle.ledger.specs.declared.order.Order.{Order}
+use Rattle.words.specs.Bytes.{Bytes}
 use Rattle.ledger.specs.declared.order.Side.the-variants.{Buy, Sell}
-use Rattle.ledger.specs.Positions.{Place, Way, instrument, group, long, short, ofInstrument, potential}
+use Rattle.ledger.specs.Positions.{instrument, group, long, short}
 use Rattle.ledger.specs.Fillings.{none, fill}
 use Rattle.limits.specs.Questions.{allPass}
 use Rattle.book.specs.declared.LimitLine.the-variants.{OfGroup}
-use Rattle.book.specs.EventBytes.{bytesOf, groupLine, blockBytes, buy, sell}
-use Rattle.book.specs.Market.{derivatives}
-use Rattle.book.specs.Decoding.{between}
+use Rattle.book.specs.EventBytes.{groupLine, blockBytes, buy}
 use Rattle.book.specs.Kept.{begun}
-use Rattle.book.specs.Listing.{listingEvents}
 use Rattle.book.specs.LongerDay.{morning, tooLong, tooShort, putSold, putBought, raisedTooFar, putSoldToTheLimit, putBoughtToTheLimit, raisedToTheLimit, afternoon, evening}
 use Rattle.book.specs.Written.{written, writtenAll}
-use Rattle.book.proofs.Computed.{computes}
-use Rattle.layout.specs.Rosters.{listed, every, sizesFit, namesFit, weightsFit, longEnough}
+use Rattle.layout.specs.Rosters.{every, sizesFit, namesFit, weightsFit, longEnough}
 use Rattle.opening.specs.Questions.{rosterFrom, rosterLength, lengthsFit, openingQuestions, openingAnswer}
 use Rattle.opening.specs.Opening.{afterOpening}
-use Rattle.reading.specs.Reading.{instrumentAnswer, groupAnswer, instrumentReport, groupReport, positionIn, reported}
-use Rattle.desk.specs.Positions.{potentialIn, instrumentIn, groupIn}
-use Rattle.desk.specs.Listing.{listingRoster}
-use Rattle.claim.specs.Examples.{memoryAt, OrderRefused, OrderAccepted, LimitSetAgain}
-use Rattle.claim.specs.Days.{order, ListingDay, longerRoster, LongerDay, InEveryMemory}
-use Rattle.claim.proofs.Demands.{demand-2, demand-3}
+use Rattle.claim.specs.Examples.{OrderRefused, OrderAccepted, LimitSetAgain}
+use Rattle.claim.specs.Days.{order, longerRoster, LongerDay, InEveryMemory}
+use Rattle.claim.proofs.Demands.{demand-2}
 use Rattle.claim.proofs.Plainly.{plainly, answers-plainly}
 use Rattle.claim.proofs.Opened.{opened, not-zero, put-not-zero}
-use Rattle.claim.proofs.Examples.{plainKept, kept-at, asked, refused, accepted, limit-set-again}
+use Rattle.claim.proofs.Examples.{asked, refused, accepted, limit-set-again}
 
 longer-opens : (m : List ℕ) → 65536 ≤ length m → openingAnswer m longerRoster ≡ 0
 unfolding opened openingQuestions allPass longEnough lengthsFit rosterLength sizesFit namesFit weightsFit every

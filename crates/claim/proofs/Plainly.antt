@@ -1,8 +1,8 @@
 -- From a fresh desk every answer is that of the table asked of the plain book, so that a list of events written out can be computed.
 use Prim.Native.Nat.{ℕ}
-use mathlib.Core.Path.{_≡_, refl, sym, ap, _∙_}
+use mathlib.Core.Path.{_≡_, refl, sym, _∙_}
 use mathlib.Core.Logic.{_⊎_, inl, inr, ⊎-elim}
-use mathlib.Core.Bool.{true, _&&_}
+use mathlib.Core.Bool.{true}
 use mathlib.Core.List.{List, [], _∷_, _++_, map}
 use Rattle.words.specs.Bytes.{Bytes}
 use Rattle.ledger.specs.Derivatives.{one}
@@ -15,7 +15,7 @@ use Rattle.book.specs.Market.{derivatives}
 use Rattle.book.specs.Books.{work}
 use Rattle.book.specs.Table.{answer}
 use Rattle.book.specs.Kept.{RawEvent, said, Kept, begun, keep, memoryAfter, keptAfter}
-use Rattle.book.specs.SetAgain.{nameOf, lineOver, lineSet}
+use Rattle.book.specs.SetAgain.{nameOf, lineOver}
 use Rattle.book.proofs.Days.{answersTo, endOf}
 use Rattle.book.proofs.Plain.{plain}
 use Rattle.book.proofs.KeptLaws.{memory-joined, kept-joined}

@@ -1,0 +1,213 @@
+-- What follows from the demands alone.
+use Prim.Native.Nat.{ℕ, _≤_, _<_}
+use mathlib.Core.Path.{_≡_, refl, sym, ap, _∙_}
+use mathlib.Core.Logic.{_⊎_, inl, inr, ⊎-elim, _↔_, _≢_}
+use mathlib.Core.Bool.{Bool, true, false, not, _&&_, _||_, cond}
+use mathlib.Core.List.{List, [], _∷_, _++_, map, List·Memᴰ, List·Memᴰ·head, List·Memᴰ·tail}
+use native.Mathlib.Omega.{arith}
+use lib.Dec.{eqb, leb}
+use lib.ListN.{length, getD}
+use borrow.Author.Tests.{eqb-true, eqb-false, leb-true, lt-leb, not-true}
+use Rattle.limits.specs.Lines.{isSet}
+use Rattle.limits.specs.Questions.{Question, firstNo, allPass}
+use Rattle.limits.proofs.Answers.{both-true, pass-zero}
+use Rattle.book.specs.declared.Event.the-variants.{Junk}
+use Rattle.book.specs.Decoding.{between, decode}
+use Rattle.book.specs.Table.{q, isEvent, entered, questionsBefore, questions}
+use Rattle.book.specs.Kept.{RawEvent, memoryAfter}
+use Rattle.book.specs.Written.{written}
+use Rattle.layout.specs.Rosters.{longEnough}
+use Rattle.layout.specs.View.{rosterOf, bookOf}
+use Rattle.soundness.specs.Soundness.{soundDesk}
+use Rattle.opening.specs.Questions.{openingQuestions, openingAnswer}
+use Rattle.opening.specs.Opening.{afterOpening}
+use Rattle.reading.specs.Reading.{readingQuestions, instrumentAnswer, groupAnswer}
+use Rattle.desk.specs.Step.{eventQuestions, answerTo, after}
+use Rattle.desk.specs.Demands.{gate}
+use Rattle.claim.specs.Uses.{NumbersAndBytes, Determined, Refusals, Acceptances, Examples, StaysSound}
+use Rattle.claim.proofs.Demands.{demand-1, demand-2, demand-3}
+
+-- ---- demand 1
+-- a test that every number of a list passes, a listed number passes
+abbrev allOf : (ℕ → Bool) → List ℕ → Bool
+allOf test [] = true
+allOf test (k ∷ ks) = test k && allOf test ks
+
+listed-passes : (test : ℕ → Bool) (n : ℕ) (ns : List ℕ) → List·Memᴰ n ns → allOf test ns ≡ true → test n ≡ true
+listed-passes test n (k ∷ ks) (List·Memᴰ·head e) h = ap test e ∙ both-true (test k) (allOf test ks) h .0
+listed-passes test n (k ∷ ks) (List·Memᴰ·tail m) h = listed-passes test n ks m (both-true (test k) (allOf test ks) h .1)
+
+abbrev isNumber : ℕ → Bool
+isNumber n = eqb n 0 || between 5 24 n
+
+number-told : (n : ℕ) → isNumber n ≡ true → (n ≡ 0) ⊎ ((5 ≤ n) × (n ≤ 24))
+number-told n = by (eqb n 0) refl
+  where
+    by : (t : Bool) → eqb n 0 ≡ t → t || between 5 24 n ≡ true → (n ≡ 0) ⊎ ((5 ≤ n) × (n ≤ 24))
+    by true z h = inl (eqb-true n 0 z)
+    by false z h =
+        let b = both-true (leb 5 n) (leb n 24) h in
+        inr (leb-true 5 n (b .0), leb-true n 24 (b .1))
+
+behind-events : (m : List ℕ) (events : List RawEvent) (k : ℕ) → 65536 ≤ k → getD (memoryAfter gate m events) k 0 ≡ getD m k 0
+unfolding memoryAfter
+behind-events m [] k h = refl
+behind-events m (e ∷ es) k h = behind-events (after m (e .bytes)) es k h ∙ demand-1 .behind-event m (e .bytes) k h
+
+pub numbers-and-bytes : NumbersAndBytes
+numbers-and-bytes =
+    record {
+      roster = λ m s. leb-true (openingAnswer m s) 4 (listed-passes (λ n. leb n 4) _ _ (demand-1 .roster m s) refl);
+      event = λ m e. number-told (answerTo m e) (listed-passes isNumber _ _ (demand-1 .event m e) refl);
+      refused-roster = λ m s k other. ap (λ l. getD l k 0) (demand-1 .roster-refused m s other);
+      refused-event = λ m e k other. ap (λ l. getD l k 0) (demand-1 .event-refused m e other);
+      behind = λ m s events k h. behind-events (afterOpening m s) events k h ∙ demand-1 .behind-roster m s k h;
+    }
+
+-- ---- demand 2
+-- a table's answer, as demand 2 says it
+abbrev AnsweredBy : List Question → ℕ → Type 0
+AnsweredBy qs answer =
+    ((n : ℕ) → n ≢ 0 → (answer ≡ n) ↔ ((before : List Question) × (behind : List Question) × (qs ≡ before ++ (q n false ∷ behind)) × (allPass before ≡ true)))
+    × ((answer ≡ 0) ↔ (allPass qs ≡ true))
+
+-- all pass, or a first one fails
+split : (qs : List Question) → (allPass qs ≡ true) ⊎ ((n : ℕ) × (before : List Question) × (behind : List Question) × (qs ≡ before ++ (q n false ∷ behind)) × (allPass before ≡ true) × (firstNo qs ≡ n))
+unfolding allPass firstNo
+split [] = inl refl
+split (x ∷ qs) = by (x .passes) refl (split qs)
+  where
+    by : (t : Bool) → x .passes ≡ t → (allPass qs ≡ true) ⊎ ((n : ℕ) × (before : List Question) × (behind : List Question) × (qs ≡ before ++ (q n false ∷ behind)) × (allPass before ≡ true) × (firstNo qs ≡ n)) → (allPass (x ∷ qs) ≡ true) ⊎ ((n : ℕ) × (before : List Question) × (behind : List Question) × (x ∷ qs ≡ before ++ (q n false ∷ behind)) × (allPass before ≡ true) × (firstNo (x ∷ qs) ≡ n))
+    by true p (inl h) = inl (rw p h)
+    by true p (inr h) = inr (h .0, x ∷ h .1, h .2, ap (λ (l : List Question). x ∷ l) (h .3), rw p (h .4), rw p (h .5))
+    by false p rest = inr (x .number, [], qs, ap (λ t. q (x .number) t ∷ qs) p, refl, rw p refl)
+
+-- the numbers of a table, none of them 0
+abbrev Numbers : List Question → Type 0
+Numbers qs = allOf (λ n. not (eqb n 0)) (map (λ x. x .number) qs) ≡ true
+
+asked-there : (before : List Question) (x : Question) (behind : List Question) → List·Memᴰ x (before ++ (x ∷ behind))
+asked-there [] x behind = List·Memᴰ·head refl
+asked-there (y ∷ before) x behind = List·Memᴰ·tail (asked-there before x behind)
+
+number-there : (x : Question) (qs : List Question) → List·Memᴰ x qs → List·Memᴰ (x .number) (map (λ y. y .number) qs)
+number-there x (y ∷ qs) (List·Memᴰ·head e) = List·Memᴰ·head (ap (λ z. z .number) e)
+number-there x (y ∷ qs) (List·Memᴰ·tail m) = List·Memᴰ·tail (number-there x qs m)
+
+module _ (qs : List Question) (answer : ℕ) (by : AnsweredBy qs answer) where
+  determined : Numbers qs → answer ≡ firstNo qs
+  determined numbers = ⊎-elim passed failed (split qs)
+    where
+      passed : allPass qs ≡ true → answer ≡ firstNo qs
+      passed h = by .1 .1 h ∙ sym (pass-zero qs h)
+
+      failed : (n : ℕ) × (before : List Question) × (behind : List Question) × (qs ≡ before ++ (q n false ∷ behind)) × (allPass before ≡ true) × (firstNo qs ≡ n) → answer ≡ firstNo qs
+      failed h =
+          let there : List·Memᴰ (h .0) (map (λ x. x .number) qs) = number-there (q (h .0) false) qs (rw (h .3) (asked-there (h .1) (q (h .0) false) (h .2))) in
+          let other = eqb-false (h .0) 0 (not-true (eqb (h .0) 0) (listed-passes (λ n. not (eqb n 0)) (h .0) (map (λ x. x .number) qs) there numbers)) in
+          by .0 (h .0) other .1 (h .1, h .2, h .3, h .4) ∙ sym (h .5)
+
+  answered-no : answer ≢ 0 → List·Memᴰ (q answer false) qs
+  answered-no other =
+      let h = by .0 answer other .0 refl in
+      rw (h .2) (asked-there (h .0) (q answer false) (h .1))
+
+  first-yes : (x : Question) (rest : List Question) → qs ≡ x ∷ rest → answer ≡ 0 → x .passes ≡ true
+  unfolding allPass
+  first-yes x rest table zero = both-true (x .passes) (allPass rest) (rw table at (by .1 .0 zero)) .0
+
+-- ---- the four tables
+opening-by : (m s : List ℕ) → AnsweredBy (openingQuestions m s) (openingAnswer m s)
+opening-by m s = (demand-2 .roster-refused m s, demand-2 .roster-accepted m s)
+
+event-by : (m e : List ℕ) → AnsweredBy (eventQuestions m e) (answerTo m e)
+event-by m e = (demand-2 .event-refused m e, demand-2 .event-accepted m e)
+
+instrument-by : (m : List ℕ) (a i : ℕ) → AnsweredBy (readingQuestions m (rosterOf m .instruments) a i) (instrumentAnswer m a i)
+instrument-by m a i = (demand-2 .instrument-refused m a i, demand-2 .instrument-accepted m a i)
+
+group-by : (m : List ℕ) (a g : ℕ) → AnsweredBy (readingQuestions m (rosterOf m .groups) a g) (groupAnswer m a g)
+group-by m a g = (demand-2 .group-refused m a g, demand-2 .group-accepted m a g)
+
+event-numbers : (m e : List ℕ) → Numbers (eventQuestions m e)
+event-numbers m e = rw (demand-2 .event-numbers m e) (none-0 (isSet (entered (bookOf m) (decode e))))
+  where
+    none-0 : (t : Bool) → allOf (λ n. not (eqb n 0)) (5 ∷ 6 ∷ 7 ∷ 8 ∷ 9 ∷ 10 ∷ 11 ∷ 12 ∷ 13 ∷ 14 ∷ 15 ∷ 16 ∷ 17 ∷ 18 ∷ 19 ∷ 20 ∷ cond t (21 ∷ 22 ∷ 23 ∷ 24 ∷ []) []) ≡ true
+    none-0 true = refl
+    none-0 false = refl
+
+reading-numbers : (m : List ℕ) (items a n : ℕ) → Numbers (readingQuestions m items a n)
+reading-numbers m items a n = rw (demand-2 .reading-numbers m items a n) refl
+
+pub answers-determined : Determined
+answers-determined =
+    record {
+      roster = λ m s. determined _ _ (opening-by m s) (rw (demand-2 .roster-numbers m s) refl);
+      event = λ m e. determined _ _ (event-by m e) (event-numbers m e);
+      instrument = λ m a i. determined _ _ (instrument-by m a i) (reading-numbers m (rosterOf m .instruments) a i);
+      group = λ m a g. determined _ _ (group-by m a g) (reading-numbers m (rosterOf m .groups) a g);
+    }
+
+pub refusals-told : Refusals
+refusals-told =
+    record {
+      roster = λ m s. answered-no _ _ (opening-by m s);
+      event = λ m e. answered-no _ _ (event-by m e);
+      instrument = λ m a i. answered-no _ _ (instrument-by m a i);
+      group = λ m a g. answered-no _ _ (group-by m a g);
+    }
+
+pub acceptances-told : Acceptances
+unfolding openingQuestions eventQuestions questions readingQuestions
+acceptances-told =
+    record {
+      roster = λ m s. first-yes _ _ (opening-by m s) _ _ refl;
+      event = λ m e. first-yes _ _ (event-by m e) _ _ refl;
+      instrument = λ m a i. first-yes _ _ (instrument-by m a i) _ _ refl;
+      group = λ m a g. first-yes _ _ (group-by m a g) _ _ refl;
+    }
+
+-- ---- examples
+short-is-1 : (m s : List ℕ) → length m < 65536 → openingAnswer m s ≡ 1
+unfolding openingQuestions firstNo longEnough
+short-is-1 m s short = answers-determined .roster m s ∙ rw (lt-leb 65536 (length m) short) refl
+
+unsound-is-5 : (m e : List ℕ) → soundDesk m ≡ false → answerTo m e ≡ 5
+unfolding eventQuestions questions firstNo
+unsound-is-5 m e h = answers-determined .event m e ∙ rw h refl
+
+junk-is-6 : (m e : List ℕ) → soundDesk m ≡ true → decode e ≡ Junk → answerTo m e ≡ 6
+unfolding eventQuestions questions questionsBefore isEvent firstNo
+junk-is-6 m e h junk = answers-determined .event m e ∙ rw (h, junk) refl
+
+reading-is-5 : (m : List ℕ) (items a n : ℕ) → soundDesk m ≡ false → firstNo (readingQuestions m items a n) ≡ 5
+unfolding readingQuestions firstNo
+reading-is-5 m items a n h = rw h refl
+
+other : (n k : ℕ) → n ≡ k → 1 ≤ k → n ≢ 0
+other n k e some zero = omega arith
+
+pub examples : Examples
+examples =
+    record {
+      short = λ m s h. let e = short-is-1 m s h in (e, demand-1 .roster-refused m s (other _ 1 e (omega arith)));
+      unsound = λ m x h. let e = unsound-is-5 m x h in (e, demand-1 .event-refused m x (other _ 5 e (omega arith)));
+      junk = λ m x h j. let e = junk-is-6 m x h j in (e, demand-1 .event-refused m x (other _ 6 e (omega arith)));
+      instrument = λ m a i before h.
+          let e = answers-determined .instrument m a i ∙ reading-is-5 m (rosterOf m .instruments) a i h in
+          (e, demand-2 .instrument-left m a i before (other _ 5 e (omega arith)));
+      group = λ m a g before h.
+          let e = answers-determined .group m a g ∙ reading-is-5 m (rosterOf m .groups) a g h in
+          (e, demand-2 .group-left m a g before (other _ 5 e (omega arith)));
+    }
+
+-- ---- demand 3
+pub stays-sound : StaysSound
+stays-sound m s bytes opens events = by (soundDesk now) refl
+  where
+    now : List ℕ
+    now = memoryAfter gate (afterOpening m s) events
+
+    by : (t : Bool) → soundDesk (memoryAfter gate (afterOpening m s) events) ≡ t → soundDesk (memoryAfter gate (afterOpening m s) events) ≡ true
+    by true h = h
+    by false h = absurd (demand-3 m s bytes opens events .2 (written []) (unsound-is-5 (memoryAfter gate (afterOpening m s) events) (written [] .bytes) h))
