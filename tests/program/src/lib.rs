@@ -4,7 +4,7 @@ pub mod replayed;
 
 use std::io::{Read, Write};
 use std::path::{Path, PathBuf};
-use std::process::{Child, Command, Stdio};
+use std::process::{Child, Command, ExitStatus, Stdio};
 
 use days::Day;
 
@@ -42,6 +42,11 @@ pub fn expected(input: &[u8]) -> Vec<u8> {
     output
 }
 
+/// A program of Rattle has no exit status of its own: where it is not 0, the program did not end by itself.
+pub fn ended_well(status: ExitStatus) {
+    assert!(status.success(), "the program ended with {status}");
+}
+
 fn start() -> Child {
     Command::new(program())
         .stdin(Stdio::piped())
@@ -51,7 +56,7 @@ fn start() -> Child {
         .expect("the program starts")
 }
 
-/// Runs the program on an input that arrives in the given pieces, the last of which takes the rest.
+/// Runs the program on an input that arrives in the given pieces, the last of which takes the rest, to its end.
 pub fn run_in_pieces(input: &[u8], pieces: &[usize]) -> Written {
     let mut child = start();
     let mut stdin = child.stdin.take().expect("a pipe");
@@ -82,7 +87,7 @@ pub fn run_in_pieces(input: &[u8], pieces: &[usize]) -> Written {
     stderr
         .read_to_end(&mut written.errors)
         .expect("the errors are read");
-    child.wait().expect("the program ends");
+    ended_well(child.wait().expect("the program ends"));
     written
 }
 

@@ -2,7 +2,7 @@
 
 use days::kinds::kinds;
 use days::random::Random;
-use program::{expected, input, program, run, run_in_pieces};
+use program::{ended_well, expected, input, program, run, run_in_pieces};
 use std::collections::BTreeSet;
 use std::fs::File;
 use std::process::{Command, Stdio};
@@ -125,6 +125,7 @@ fn input_that_cannot_be_read_is_said_on_standard_error() {
         .stdin(folder)
         .output()
         .expect("the program runs");
+    ended_well(output.status);
     assert!(output.stdout.is_empty());
     assert!(!output.stderr.is_empty());
 }
@@ -145,5 +146,6 @@ fn output_that_cannot_be_written_is_said_on_standard_error() {
         .stdout(Stdio::from(full))
         .output()
         .expect("the program runs");
+    ended_well(output.status);
     assert!(!output.stderr.is_empty());
 }
