@@ -1,10 +1,12 @@
 -- The three demands as the claim says them, each taken from the theorem of the same name in the crate desk.
-use Prim.Native.Nat.{ℕ}
+use Prim.Native.Nat.{ℕ, suc, _≤_, _<_}
 use mathlib.Core.Path.{_≡_, refl, sym, ap, _∙_}
 use mathlib.Core.Logic.{_⊎_, inl, inr, ⊎-elim, _↔_, _≢_}
 use mathlib.Core.Bool.{true, false, cond}
 use mathlib.Core.List.{List, [], _∷_, _++_, map, List·Memᴰ, List·Memᴰ·head, List·Memᴰ·tail}
 use mathlib.Core.Option.{Option, none, some}
+use native.Mathlib.Omega.{arith}
+use lib.ListN.{length, drop, length-append, length-map}
 use Rattle.ledger.specs.declared.order.Order.{Order}
 use Rattle.ledger.specs.Derivatives.{one}
 use Rattle.ledger.specs.Positions.{Place}
@@ -27,10 +29,13 @@ use Rattle.layout.specs.View.{rosterOf, bookOf, tradingOf}
 use Rattle.soundness.specs.Soundness.{soundDesk}
 use Rattle.opening.specs.Questions.{openingQuestions}
 use Rattle.reading.specs.Reading.{readingQuestions}
-use Rattle.desk.specs.Step.{eventQuestions, answerTo}
+use Rattle.desk.specs.Step.{eventQuestions, answerTo, after}
+use Rattle.desk.specs.Days.{answersOver, memoryOver}
+use Rattle.desk.specs.Run.{Whole, eventsFor, answered, joined}
 use Rattle.desk.specs.Demands.{OneOf, FirstFailed, Answers, gate}
 use Rattle.desk.proofs.Demands.{demand-1 as desk-demand-1, demand-2 as desk-demand-2, demand-3 as desk-demand-3}
-use Rattle.claim.specs.Claim.{Demand1, Demand2, Demand3}
+use Rattle.desk.proofs.RunList.{run-is-the-list, unsound-run}
+use Rattle.claim.specs.Claim.{Demand1, Demand2, Demand3, Run}
 
 -- ---- demand 1
 listed : (n : ℕ) (ns : List ℕ) → OneOf n ns → List·Memᴰ n ns
@@ -133,3 +138,27 @@ demand-3 m s bytes opens events =
       d .instrument-read events,
       d .group-read events,
     )
+
+-- ---- the run
+one-by-one : (whole : List RawEvent) (last : RawEvent) → ((e : RawEvent) → List·Memᴰ e whole → length (e .bytes) ≡ 48) → 1 ≤ length (last .bytes) → length (last .bytes) ≤ 48 → Whole (whole ++ (last ∷ []))
+one-by-one [] last full some-bytes short = (some-bytes, short)
+one-by-one (e ∷ []) last full some-bytes short = (full e (List·Memᴰ·head refl), (some-bytes, short))
+one-by-one (e ∷ f ∷ es) last full some-bytes short =
+    (full e (List·Memᴰ·head refl), one-by-one (f ∷ es) last (λ x there. full x (List·Memᴰ·tail there)) some-bytes short)
+
+answers-count : (m : List ℕ) (es : List (List ℕ)) → length (answersOver m es) ≡ length es
+unfolding answersOver
+answers-count m [] = refl
+answers-count m (e ∷ es) = ap suc (answers-count (after m e) es)
+
+pub run : Run
+run = record { events = events; unsound = unsound-run }
+  where
+    events : (m : List ℕ) (whole : List RawEvent) (last : RawEvent) (room : List ℕ) → ((e : RawEvent) → List·Memᴰ e whole → length (e .bytes) ≡ 48) → 1 ≤ length (last .bytes) → length (last .bytes) ≤ 48 → length whole < length room → (eventsFor (joined (whole ++ (last ∷ []))) room ≡ map (λ e. e .bytes) (whole ++ (last ∷ []))) × (memoryOver m (map (λ e. e .bytes) (whole ++ (last ∷ []))) ≡ memoryAfter gate m (whole ++ (last ∷ []))) × (answered m (joined (whole ++ (last ∷ []))) room ≡ answersOver m (map (λ e. e .bytes) (whole ++ (last ∷ []))) ++ drop (length (whole ++ (last ∷ []))) room)
+    events m whole last room full some-bytes short space =
+        let es = whole ++ (last ∷ []) in
+        let worked = run-is-the-list .worked es room (one-by-one whole last full some-bytes short) (omega (arith, length-append whole (last ∷ []))) in (
+          worked,
+          run-is-the-list .memory m es,
+          rw worked (rw (answers-count m (map (λ e. e .bytes) es), length-map es (λ e. e .bytes)) refl),
+        )

@@ -3,31 +3,35 @@ use Prim.Native.Nat.{ℕ, _≤_}
 use mathlib.Core.Path.{_≡_, refl, ap, _∙_}
 use mathlib.Core.Logic.{inl, inr}
 use mathlib.Core.Bool.{true}
-use mathlib.Core.List.{List}
+use mathlib.Core.List.{List, [], _∷_, map, List·Memᴰ}
 use native.Mathlib.Omega.{arith}
 use lib.IntN.{ℤ, pos}
 use lib.ListN.{length, take, drop}
-use borrow.Author.Tests.{le-leb}
+use lib.Dec.{eqb}
+use borrow.Author.Tests.{eqb-true, le-leb}
 use Rattle.words.specs.Bytes.{Bytes}
 use Rattle.ledger.specs.declared.order.Side.the-variants.{Buy, Sell}
 use Rattle.ledger.specs.Positions.{instrument, group, long, ofInstrument, potential}
 use Rattle.ledger.specs.Fillings.{none, fill}
 use Rattle.limits.specs.Questions.{allPass}
-use Rattle.book.specs.EventBytes.{buy, sell}
+use Rattle.book.specs.EventBytes.{buy, sell, cancelBytes}
 use Rattle.book.specs.Market.{derivatives}
 use Rattle.book.specs.Decoding.{between}
-use Rattle.book.specs.Kept.{begun}
+use Rattle.book.specs.Kept.{RawEvent, begun}
 use Rattle.book.specs.Listing.{listingEvents}
-use Rattle.book.specs.Written.{writtenAll}
+use Rattle.book.specs.Written.{written, writtenAll}
 use Rattle.layout.specs.Rosters.{every, sizesFit, namesFit, weightsFit, longEnough}
 use Rattle.opening.specs.Questions.{rosterFrom, rosterLength, lengthsFit, openingQuestions, openingAnswer}
 use Rattle.opening.specs.Opening.{afterOpening}
 use Rattle.reading.specs.Reading.{instrumentAnswer, groupAnswer, instrumentReport, groupReport, positionIn, reported}
 use Rattle.desk.specs.Positions.{potentialIn, instrumentIn, groupIn}
+use Rattle.desk.specs.Days.{answersOver, memoryOver}
+use Rattle.desk.specs.Run.{eventsFor, answered, joined}
 use Rattle.desk.specs.Listing.{listingRoster}
 use Rattle.claim.specs.Examples.{memoryAt, OrderRefused, OrderAccepted}
 use Rattle.claim.specs.Days.{order, ListingDay, InEveryMemory}
-use Rattle.claim.proofs.Demands.{demand-2, demand-3}
+use Rattle.claim.proofs.Demands.{demand-2, demand-3, run}
+use Rattle.claim.proofs.Uses.{listed-passes}
 use Rattle.claim.proofs.Plainly.{plainly, answers-plainly}
 use Rattle.claim.proofs.Opened.{opened, not-zero, put-not-zero}
 use Rattle.claim.proofs.Examples.{plainKept, kept-at, asked, refused, accepted}
@@ -74,12 +78,26 @@ module _ (m : List ℕ) (bytes : Bytes m) (opens : openingAnswer m listingRoster
       let read = demand-3 m listingRoster bytes opens (writtenAll listingEvents) .4 1 1 refl refl in
       demand-2 .group-reported (memoryAt m listingRoster listingEvents) 1 1 before (read .0) ∙ read .1 ∙ ap (λ k. groupIn (rosterFrom listingRoster) (k .book) 1 1) (kept-at m listingRoster bytes opens listingEvents)
 
+  answered-so : answersOver (afterOpening m listingRoster) (map (λ e. e .bytes) (writtenAll listingEvents)) ≡ 0 ∷ 0 ∷ 0 ∷ 0 ∷ 23 ∷ 0 ∷ 0 ∷ 0 ∷ []
+  unfolding opened
+  answered-so = answers-plainly (rosterFrom listingRoster) (afterOpening m listingRoster) begun (plainly m listingRoster bytes opens) (writtenAll listingEvents)
+
+  in-one-run : (room : List ℕ) → 8 ≤ length room → (answered (afterOpening m listingRoster) (joined (writtenAll listingEvents)) room ≡ 0 ∷ 0 ∷ 0 ∷ 0 ∷ 23 ∷ 0 ∷ 0 ∷ 0 ∷ drop 8 room) × (memoryOver (afterOpening m listingRoster) (eventsFor (joined (writtenAll listingEvents)) room) ≡ memoryAt m listingRoster listingEvents)
+  unfolding opened
+  in-one-run room enough =
+      let whole = writtenAll (take 7 listingEvents) in
+      let seven : length whole ≡ 7 = refl in
+      let full : (e : RawEvent) → List·Memᴰ e whole → length (e .bytes) ≡ 48 = λ e there. eqb-true (length (e .bytes)) 48 (listed-passes (λ x. eqb (length (x .bytes)) 48) e whole there refl) in
+      let so = run .events (afterOpening m listingRoster) whole (written (cancelBytes 7)) room full (omega arith) (omega arith) (omega arith) in
+      (so .2 ∙ rw answered-so, rw (so .0) (so .1))
+
   all-of-it : ListingDay m
   unfolding opened potentialIn instrumentIn groupIn
   all-of-it =
       record {
         opens = opens;
-        answers = answers-plainly (rosterFrom listingRoster) (afterOpening m listingRoster) begun (plainly m listingRoster bytes opens) (writtenAll listingEvents);
+        answers = answered-so;
+        run = in-one-run;
         buy-of-instrument = listing-buy .0;
         buy-of-group = listing-buy .1;
         put-sold = listing-sell;

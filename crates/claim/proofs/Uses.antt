@@ -25,15 +25,15 @@ use Rattle.reading.specs.Reading.{readingQuestions, instrumentAnswer, groupAnsw
 use Rattle.desk.specs.Step.{eventQuestions, answerTo, after}
 use Rattle.desk.specs.Demands.{gate}
 use Rattle.claim.specs.Uses.{NumbersAndBytes, Determined, Refusals, Acceptances, Examples, StaysSound}
-use Rattle.claim.proofs.Demands.{demand-1, demand-2, demand-3}
+use Rattle.claim.proofs.Demands.{demand-1, demand-2, demand-3, run}
 
 -- ---- demand 1
--- a test that every number of a list passes, a listed number passes
-abbrev allOf : (ℕ → Bool) → List ℕ → Bool
+-- a test that all of a list pass, each that is listed passes
+abbrev pub allOf : {A : Type 0} → (A → Bool) → List A → Bool
 allOf test [] = true
 allOf test (k ∷ ks) = test k && allOf test ks
 
-listed-passes : (test : ℕ → Bool) (n : ℕ) (ns : List ℕ) → List·Memᴰ n ns → allOf test ns ≡ true → test n ≡ true
+pub listed-passes : {A : Type 0} (test : A → Bool) (n : A) (ns : List A) → List·Memᴰ n ns → allOf test ns ≡ true → test n ≡ true
 listed-passes test n (k ∷ ks) (List·Memᴰ·head e) h = ap test e ∙ both-true (test k) (allOf test ks) h .0
 listed-passes test n (k ∷ ks) (List·Memᴰ·tail m) h = listed-passes test n ks m (both-true (test k) (allOf test ks) h .1)
 
@@ -193,6 +193,7 @@ examples =
       short = λ m s h. let e = short-is-1 m s h in (e, demand-1 .roster-refused m s (other _ 1 e (omega arith)));
       unsound = λ m x h. let e = unsound-is-5 m x h in (e, demand-1 .event-refused m x (other _ 5 e (omega arith)));
       junk = λ m x h j. let e = junk-is-6 m x h j in (e, demand-1 .event-refused m x (other _ 6 e (omega arith)));
+      run = λ m e f h. run .unsound m (e ∷ f ∷ []) h;
       instrument = λ m a i before h.
           let e = answers-determined .instrument m a i ∙ reading-is-5 m (rosterOf m .instruments) a i h in
           (e, demand-2 .instrument-left m a i before (other _ 5 e (omega arith)));

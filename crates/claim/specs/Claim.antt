@@ -2,7 +2,7 @@
 -- those of an event: any lists of numbers, of any length. The contracts of the exported functions (include/exported.txt) say that the code
 -- computes the functions named here: openingAnswer and afterOpening (desk_open), answerTo and after (desk_event), instrumentAnswer,
 -- groupAnswer, their reports and `reported` (the readers), and answerTo and after along a list of events (desk_run).
-use Prim.Native.Nat.{ℕ, _≤_}
+use Prim.Native.Nat.{ℕ, _≤_, _<_}
 use mathlib.Core.Path.{_≡_}
 use mathlib.Core.Logic.{_⊎_, _↔_, _≢_}
 use mathlib.Core.Bool.{true, false, cond}
@@ -10,7 +10,7 @@ use mathlib.Core.List.{List, [], _∷_, _++_, map, List·Memᴰ}
 use mathlib.Core.Option.{some}
 use lib.IntN.{ℤ, negℤ, _+ℤ_}
 use lib.Signed.{_≤ℤ_, _<ℤ_}
-use lib.ListN.{getD}
+use lib.ListN.{length, getD, drop, replicate}
 use Rattle.words.specs.Bytes.{Bytes}
 use Rattle.ledger.specs.declared.order.Order.{Order}
 use Rattle.ledger.specs.declared.order.Side.the-variants.{Buy, Sell}
@@ -29,11 +29,14 @@ use Rattle.book.specs.Table.{q, entered, questionsBefore, answer}
 use Rattle.book.specs.Kept.{RawEvent, said, begun, keep, memoryAfter, keptAfter}
 use Rattle.book.specs.SetAgain.{nameOf, lineOver}
 use Rattle.layout.specs.View.{rosterOf, balancesOf, openOrders, bookOf}
+use Rattle.soundness.specs.Soundness.{soundDesk}
 use Rattle.opening.specs.Questions.{rosterFrom, openingQuestions, openingAnswer}
 use Rattle.opening.specs.Opening.{afterOpening}
 use Rattle.reading.specs.Reading.{readingQuestions, instrumentAnswer, groupAnswer, instrumentReport, groupReport, reported}
 use Rattle.desk.specs.Step.{eventQuestions, answerTo, after}
 use Rattle.desk.specs.Positions.{instrumentIn, groupIn}
+use Rattle.desk.specs.Days.{answersOver, memoryOver}
+use Rattle.desk.specs.Run.{eventsFor, answered, joined}
 use Rattle.desk.specs.Demands.{gate}
 
 -- ---- 1. "The answer to every roster and every event, sound or junk, is an acceptance or one numbered refusal, it always comes, and a
@@ -174,3 +177,20 @@ Demand3 =
     → between 1 (r .accounts) a ≡ true
     → between 1 (r .groups) g ≡ true
     → (groupAnswer now a g ≡ 0) × (groupReport now a g ≡ groupIn r book a g)))
+
+-- ---- The run: desk_run answers many events in one call, as desk_event does one after the other.
+pub record Run : Type 0 where
+  -- events of 48 bytes, of which the last may be shorter, joined; `room` is what the answers are written to, and the rest of it is left
+  pub events :
+      (m : List ℕ) (whole : List RawEvent) (last : RawEvent) (room : List ℕ)
+      → ((e : RawEvent) → List·Memᴰ e whole → length (e .bytes) ≡ 48)
+      → 1 ≤ length (last .bytes)
+      → length (last .bytes) ≤ 48
+      → length whole < length room
+      → (let events = whole ++ (last ∷ []) in
+      let each = map (λ e. e .bytes) events in
+      (eventsFor (joined events) room ≡ each)
+      × (memoryOver m each ≡ memoryAfter gate m events)
+      × (answered m (joined events) room ≡ answersOver m each ++ drop (length events) room))
+  -- question 5 is asked once: a memory that holds no sound desk answers 5 to each, and stays as it was
+  pub unsound : (m : List ℕ) (es : List (List ℕ)) → soundDesk m ≡ false → (answersOver m es ≡ replicate (length es) 5) × (memoryOver m es ≡ m)

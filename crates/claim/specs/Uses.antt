@@ -3,7 +3,7 @@ use Prim.Native.Nat.{ℕ, _≤_, _<_}
 use mathlib.Core.Path.{_≡_}
 use mathlib.Core.Logic.{_⊎_, _≢_}
 use mathlib.Core.Bool.{true, false}
-use mathlib.Core.List.{List, List·Memᴰ}
+use mathlib.Core.List.{List, [], _∷_, List·Memᴰ}
 use lib.IntN.{ℤ}
 use lib.ListN.{length, getD}
 use Rattle.words.specs.Bytes.{Bytes}
@@ -19,6 +19,7 @@ use Rattle.opening.specs.Questions.{openingQuestions, openingAnswer}
 use Rattle.opening.specs.Opening.{afterOpening}
 use Rattle.reading.specs.Reading.{readingQuestions, instrumentAnswer, groupAnswer, instrumentReport, groupReport, reported}
 use Rattle.desk.specs.Step.{eventQuestions, answerTo, after}
+use Rattle.desk.specs.Days.{answersOver, memoryOver}
 use Rattle.desk.specs.Demands.{gate}
 
 -- ---- demand 1
@@ -58,6 +59,7 @@ pub record Examples : Type 0 where
   pub short : (m s : List ℕ) → length m < 65536 → (openingAnswer m s ≡ 1) × (afterOpening m s ≡ m)
   pub unsound : (m e : List ℕ) → soundDesk m ≡ false → (answerTo m e ≡ 5) × (after m e ≡ m)
   pub junk : (m e : List ℕ) → soundDesk m ≡ true → decode e ≡ Junk → (answerTo m e ≡ 6) × (after m e ≡ m)
+  pub run : (m e f : List ℕ) → soundDesk m ≡ false → (answersOver m (e ∷ f ∷ []) ≡ 5 ∷ 5 ∷ []) × (memoryOver m (e ∷ f ∷ []) ≡ m)
   pub instrument :
       (m : List ℕ) (a i : ℕ) (before : List ℤ)
       → soundDesk m ≡ false
