@@ -27,6 +27,7 @@ pub mod Plain
 pub mod Computed
 pub mod PlainPromise
 pub mod LongerDay
+pub mod LongerDayAccepted
 pub mod Others
 pub mod Fills
 pub mod Filled
