@@ -28,6 +28,7 @@ pub mod Computed
 pub mod PlainPromise
 pub mod LongerDay
 pub mod LongerDayAccepted
+pub mod ListingDay
 pub mod Others
 pub mod Fills
 pub mod Filled

@@ -87,3 +87,9 @@ by-then : (limit longerRoster (bookAfter longerRoster morning putSoldToTheLimit 
     × (position longerRoster (after one 1 (bookAfter longerRoster morning putSoldToTheLimit (afternoon ++ evening) .balanceOf 1) f) (group 1) long ≡ pos 920000))
 unfolding computes
 by-then = (refl, (fill {o = order 9 1 Buy 70} 70 (omega arith) none, refl))
+
+-- of instrument 2 it is: no LIMIT set its line
+still-within : Within longerRoster morning putSoldToTheLimit (afternoon ++ evening) 1 (instrument 2) short (pos 100)
+unfolding computes
+still-within =
+    promised longerRoster morning putSoldToTheLimit longer-fits (order 8 2 Sell 24) (refl, refl) refl (instrument 2) short (refl, refl) (afternoon ++ evening) refl
