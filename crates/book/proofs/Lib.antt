@@ -24,6 +24,7 @@ pub mod KeptLaws
 pub mod NotSetAgainLaws
 pub mod Demand3Proof
 pub mod Plain
+pub mod Demand3InFull
 pub mod Computed
 pub mod PlainPromise
 pub mod LongerDay

@@ -13,13 +13,11 @@ use Rattle.ledger.specs.declared.order.Side.the-variants.{Buy, Sell}
 use Rattle.ledger.specs.Roster.{Roster, Numbered}
 use Rattle.ledger.specs.Positions.{instrument, group, long, short}
 use Rattle.ledger.specs.Fillings.{none, fill}
-use Rattle.book.specs.Market.{derivatives}
 use Rattle.book.specs.Sound.{RosterFits}
-use Rattle.book.specs.Kept.{Desk, Kept, begun}
+use Rattle.book.specs.Kept.{Desk, Kept, begun, memoryAfter}
 use Rattle.book.specs.Written.{written, writtenAll}
 use Rattle.book.specs.LongerDay.{morning, tooLong, tooShort, putSold, putBought, raisedTooFar, putSoldToTheLimit, putBoughtToTheLimit, raisedToTheLimit, afternoon, evening}
-use Rattle.book.proofs.Plain.{plain}
-use Rattle.book.proofs.PlainPromise.{memoryOf, Refused, Past, both-ways}
+use Rattle.book.proofs.PlainPromise.{plainDesk, Refused, Past, both-ways}
 use Rattle.book.proofs.Computed.{computes}
 
 -- contract 1, of group 1, has instruments 1, of weight 10000, and 2, a put of weight −5000; contract 2, of group 2, has instrument 3
@@ -48,8 +46,8 @@ longer-fits =
     weighs false = omega arith
 
 -- ---- the answers
-abbrev pub desk : Desk
-desk = plain derivatives longerRoster
+abbrev desk : Desk
+desk = plainDesk longerRoster
 
 abbrev answersTo : List (List ℕ) → Kept → List ℕ
 answersTo [] m = []
@@ -57,7 +55,7 @@ answersTo (e ∷ es) m = desk .answerTo m (written e) ∷ answersTo es (desk .ne
 
 -- the answers after the morning
 abbrev answersThen : List (List ℕ) → List ℕ
-answersThen es = answersTo es (memoryOf longerRoster (writtenAll morning))
+answersThen es = answersTo es (memoryAfter desk begun (writtenAll morning))
 
 answers : (answersTo morning begun ≡ 0 ∷ 0 ∷ 0 ∷ 0 ∷ [])
     × (answersThen (tooLong ∷ tooShort ∷ putSold ∷ putBought ∷ raisedTooFar ∷ []) ≡ 21 ∷ 22 ∷ 23 ∷ 24 ∷ 23 ∷ [])

@@ -14,14 +14,18 @@ use Rattle.ledger.specs.Fillings.{Filling, none, fill, after}
 use Rattle.ledger.specs.Moves.{Moves}
 use Rattle.limits.specs.Lines.{limit}
 use Rattle.book.specs.Market.{derivatives}
+use Rattle.book.specs.Kept.{Desk, begun}
 use Rattle.book.specs.Demand3.{NotSetAgain}
 use Rattle.book.specs.EventBytes.{blockBytes, groupLine, buy}
 use Rattle.book.specs.Written.{written, writtenAll}
 use Rattle.book.specs.LongerDay.{morning, putSoldToTheLimit, putBoughtToTheLimit, raisedToTheLimit, afternoon, evening}
-use Rattle.book.proofs.NotSetAgainLaws.{not-set-again-iff}
-use Rattle.book.proofs.PlainPromise.{keptOf, answerAfter, Meets, bookAfter, Within, memoryWith, keptWith, noneAgain, promised}
-use Rattle.book.proofs.LongerDay.{longerRoster, longer-fits, desk, order, weighs-more, weighs-less}
+use Rattle.book.proofs.Demand3InFull.{memoryWith, keptWith, none-later}
+use Rattle.book.proofs.PlainPromise.{plainDesk, keptOf, Meets, answerTo, bookAfter, Within, noneAgain, promised}
+use Rattle.book.proofs.LongerDay.{longerRoster, longer-fits, order, weighs-more, weighs-less}
 use Rattle.book.proofs.Computed.{computes}
+
+abbrev desk : Desk
+desk = plainDesk longerRoster
 
 -- account 1's position right after N, and after the afternoon
 abbrev Stays : List ℕ → Place → Way → ℤ → Type 0
@@ -29,7 +33,7 @@ Stays n p w figure =
     Within longerRoster morning n [] 1 p w figure × Within longerRoster morning n afternoon 1 p w figure
 
 module _ (n : List ℕ) (i id : ℕ) (s : Side) (total : ℕ) (p : Place) (w : Way) where
-  both : Meets longerRoster morning n (order id i s total) → answerAfter longerRoster (writtenAll morning) (written n) ≡ 0 → Moves longerRoster (order id i s total) p w → noneAgain longerRoster morning n 1 p afternoon ≡ true → Stays n p w (limit longerRoster (keptOf longerRoster (writtenAll morning) .book .linesOf 1) p w)
+  both : Meets longerRoster morning n (order id i s total) → answerTo longerRoster morning n ≡ 0 → Moves longerRoster (order id i s total) p w → noneAgain longerRoster morning n 1 p afternoon ≡ true → Stays n p w (limit longerRoster (keptOf longerRoster (writtenAll morning) .book .linesOf 1) p w)
   both j zero moves test = (
     promised longerRoster morning n longer-fits (order id i s total) j zero p w moves [] refl,
     promised longerRoster morning n longer-fits (order id i s total) j zero p w moves afternoon test,
@@ -75,10 +79,10 @@ unfolding computes
 positions = (refl, refl, refl)
 
 -- ---- the evening's LIMIT sets the group's limit again, so that nothing is claimed from there on
-set-again : NotSetAgain desk derivatives longerRoster (memoryWith longerRoster morning putSoldToTheLimit) (keptWith longerRoster morning putSoldToTheLimit) 1 (group 1) (writtenAll (afternoon ++ evening)) → ⊥
+set-again : NotSetAgain desk derivatives longerRoster (memoryWith desk derivatives longerRoster begun begun (writtenAll morning) (written putSoldToTheLimit)) (keptWith desk derivatives longerRoster begun begun (writtenAll morning) (written putSoldToTheLimit)) 1 (group 1) (writtenAll (afternoon ++ evening)) → ⊥
 unfolding computes
 set-again out =
-    not-set-again-iff desk derivatives longerRoster 1 (group 1) (memoryWith longerRoster morning putSoldToTheLimit) (keptWith longerRoster morning putSoldToTheLimit) (writtenAll (afternoon ++ evening)) .0 out
+    none-later desk derivatives longerRoster begun begun (writtenAll morning) (written putSoldToTheLimit) 1 (group 1) (writtenAll (afternoon ++ evening)) .0 out
     (writtenAll (afternoon ++ (blockBytes 1 1 0 0 ∷ []))) (written (groupLine 100 100)) (written (buy 1 9 70) ∷ []) refl refl (inl refl)
 
 -- and by then the limit is another, and order 9 may fill past the one that N was judged by: to 920,000

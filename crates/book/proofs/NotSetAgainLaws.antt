@@ -90,13 +90,10 @@ setsNone D mk r m k a p (e ∷ es) =
     leavesLimit mk r (k .book) a p (said e) (D .answerTo m e)
     && setsNone D mk r (D .next m e) (keep mk k (said e) (D .answerTo m e)) a p es
 
-sets-none : (D : Desk) (mk : Market) (r : Roster) (m : D .Memory) (k : Kept) (a : ℕ) (p : Place) (es : List RawEvent) → setsNone D mk r m k a p es ≡ true → NotSetAgain D mk r m k a p es
+pub sets-none : (D : Desk) (mk : Market) (r : Roster) (m : D .Memory) (k : Kept) (a : ℕ) (p : Place) (es : List RawEvent) → setsNone D mk r m k a p es ≡ true → NotSetAgain D mk r m k a p es
 sets-none D mk r m k a p [] test = tt
 sets-none D mk r m k a p (e ∷ es) test =
     let m′ = D .next m e in
     let k′ = keep mk k (said e) (D .answerTo m e) in
     let each = both-true (leavesLimit mk r (k .book) a p (said e) (D .answerTo m e)) (setsNone D mk r m′ k′ a p es) test in
     (leaves-limit mk r (k .book) a p (said e) (D .answerTo m e) (each .0), sets-none D mk r m′ k′ a p es (each .1))
-
-pub none-sets : (D : Desk) (mk : Market) (r : Roster) (m : D .Memory) (k : Kept) (a : ℕ) (p : Place) (es : List RawEvent) → setsNone D mk r m k a p es ≡ true → NoneSetsAgain D mk r a p m k es
-none-sets D mk r m k a p es test = not-set-again-iff D mk r a p m k es .0 (sets-none D mk r m k a p es test)
