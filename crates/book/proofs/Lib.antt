@@ -25,6 +25,7 @@ pub mod NotSetAgainLaws
 pub mod Demand3Proof
 pub mod Plain
 pub mod Demand3InFull
+pub mod SoundLaws
 pub mod Computed
 pub mod PlainPromise
 pub mod LongerDay

@@ -6,6 +6,7 @@ use mathlib.Core.Bool.{Bool, true, false, cond}
 use mathlib.Core.List.{List, [], _∷_, _++_}
 use native.Mathlib.Omega.{arith}
 use lib.Dec.{eqb}
+use lib.ListN.{length}
 use lib.IntN.{pos, negsuc, natAbs}
 use Rattle.ledger.specs.declared.order.Order.{Order}
 use Rattle.ledger.specs.declared.order.Side.{Side}
@@ -13,11 +14,13 @@ use Rattle.ledger.specs.declared.order.Side.the-variants.{Buy, Sell}
 use Rattle.ledger.specs.Roster.{Roster, Numbered}
 use Rattle.ledger.specs.Positions.{instrument, group, long, short}
 use Rattle.ledger.specs.Fillings.{none, fill}
-use Rattle.book.specs.Sound.{RosterFits}
+use Rattle.book.specs.Market.{derivatives}
+use Rattle.book.specs.Sound.{RosterFits, Sound}
 use Rattle.book.specs.Kept.{Desk, Kept, begun, memoryAfter}
 use Rattle.book.specs.Written.{written, writtenAll}
 use Rattle.book.specs.LongerDay.{morning, tooLong, tooShort, putSold, putBought, raisedTooFar, putSoldToTheLimit, putBoughtToTheLimit, raisedToTheLimit, afternoon, evening}
-use Rattle.book.proofs.PlainPromise.{plainDesk, Refused, Past, both-ways}
+use Rattle.book.proofs.Plain.{derivatives-unit, plain-sound}
+use Rattle.book.proofs.PlainPromise.{plainDesk, keptOf, Refused, Past, both-ways}
 use Rattle.book.proofs.Computed.{computes}
 
 -- contract 1, of group 1, has instruments 1, of weight 10000, and 2, a put of weight −5000; contract 2, of group 2, has instrument 3
@@ -64,6 +67,12 @@ answers : (answersTo morning begun ≡ 0 ∷ 0 ∷ 0 ∷ 0 ∷ [])
     × (answersThen (raisedToTheLimit ∷ (afternoon ++ evening)) ≡ 0 ∷ 0 ∷ 11 ∷ 23 ∷ 0 ∷ 0 ∷ 10 ∷ 9 ∷ 9 ∷ 0 ∷ 0 ∷ 0 ∷ 0 ∷ 0 ∷ 0 ∷ 6 ∷ 11 ∷ 0 ∷ 0 ∷ 0 ∷ 0 ∷ [])
 unfolding computes
 answers = (refl, refl, refl, refl, refl)
+
+-- the book after the morning and a put sold is sound, with two orders open
+sound : (length (keptOf longerRoster (writtenAll (morning ++ (putSoldToTheLimit ∷ []))) .book .orders) ≡ 2)
+    × Sound derivatives longerRoster (keptOf longerRoster (writtenAll (morning ++ (putSoldToTheLimit ∷ []))) .book) (keptOf longerRoster (writtenAll (morning ++ (putSoldToTheLimit ∷ []))) .trading)
+unfolding computes
+sound = (refl, plain-sound derivatives longerRoster derivatives-unit longer-fits (writtenAll (morning ++ (putSoldToTheLimit ∷ []))))
 
 -- ---- the orders, of account 1, and the positions that they move
 abbrev pub order : ℕ → ℕ → Side → ℕ → Order
