@@ -19,7 +19,7 @@ use Rattle.book.specs.Sound.{Sound}
 use Rattle.book.proofs.Cuts.{standing, standing-member}
 use Rattle.book.proofs.Tables.{at-here}
 
-none-enters : {P : Type 0} (o : Order) → _≡_ {A = Option Order} none (some o) → P
+pub none-enters : {P : Type 0} (o : Order) → _≡_ {A = Option Order} none (some o) → P
 none-enters o e = absurd (let z : _≡_ {A = ℕ} 0 1 = cc in omega arith)
 
 pub enters-lines : (unit : Order → ℕ) (b : Book) (e : Event) (o : Order) → entered b e ≡ some o → work unit b e .linesOf ≡ b .linesOf

@@ -53,6 +53,11 @@ module _ (D : Desk) where
   memory-joined m [] ys = refl
   memory-joined m (x ∷ xs) ys = memory-joined (D .next m x) xs ys
 
+  -- a list cut at one of its events
+  pub memory-past : (m : D .Memory) (xs : List RawEvent) (n : RawEvent) (ys : List RawEvent) → memoryAfter D m (xs ++ (n ∷ ys)) ≡ memoryAfter D (D .next (memoryAfter D m xs) n) ys
+  unfolding memoryAfter
+  memory-past m xs n ys = memory-joined m xs (n ∷ ys)
+
   module _ (mk : Market) where
     pub kept-of-none : (m : D .Memory) (k : Kept) → keptAfter D mk m k [] ≡ k
     unfolding keptAfter
@@ -68,3 +73,7 @@ module _ (D : Desk) where
     unfolding keptAfter memoryAfter
     kept-joined m k [] ys = refl
     kept-joined m k (x ∷ xs) ys = kept-joined (D .next m x) (keep mk k (said x) (D .answerTo m x)) xs ys
+
+    pub kept-past : (m : D .Memory) (k : Kept) (xs : List RawEvent) (n : RawEvent) (ys : List RawEvent) → keptAfter D mk m k (xs ++ (n ∷ ys)) ≡ keptAfter D mk (D .next (memoryAfter D m xs) n) (keep mk (keptAfter D mk m k xs) (said n) (D .answerTo (memoryAfter D m xs) n)) ys
+    unfolding keptAfter
+    kept-past m k xs n ys = kept-joined m k xs (n ∷ ys)

@@ -24,9 +24,13 @@ pub mod KeptLaws
 pub mod NotSetAgainLaws
 pub mod Demand3Proof
 pub mod Plain
+pub mod Demand3InFull
+pub mod SoundLaws
 pub mod Computed
 pub mod PlainPromise
 pub mod LongerDay
+pub mod LongerDayAccepted
+pub mod ListingDay
 pub mod Others
 pub mod Fills
 pub mod Filled

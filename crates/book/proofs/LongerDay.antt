@@ -1,47 +1,29 @@
--- The longer day, in bytes, at the plain desk: its answers, and each of its orders judged by demand 3.
+-- The longer day, in bytes, at the plain desk: its answers, and its orders judged by demand 3.
 use Prim.Native.Nat.{ℕ, _≤_}
 use mathlib.Core.Path.{_≡_, refl}
+use mathlib.Core.Logic.{_≢_, inl, inr}
 use mathlib.Core.Bool.{Bool, true, false, cond}
 use mathlib.Core.List.{List, [], _∷_, _++_}
-use mathlib.Core.Option.{some}
 use native.Mathlib.Omega.{arith}
 use lib.Dec.{eqb}
-use lib.IntN.{ℤ, pos, negsuc, natAbs}
-use lib.Signed.{_≤ℤ_, _<ℤ_}
-use Rattle.words.specs.Bytes.{number}
-use Rattle.words.specs.Fields.{u8At, u16At, u64At, i64At}
-use Rattle.integers.specs.TwosComplement.{signedOf, bitsOf}
-use Rattle.integers.specs.Sum.{sumOver, below}
+use lib.ListN.{length}
+use lib.IntN.{pos, negsuc, natAbs}
 use Rattle.ledger.specs.declared.order.Order.{Order}
 use Rattle.ledger.specs.declared.order.Side.{Side}
 use Rattle.ledger.specs.declared.order.Side.the-variants.{Buy, Sell}
-use Rattle.ledger.specs.Derivatives.{one}
-use Rattle.ledger.specs.Orders.{remaining, filledBy, replacedTotal, closes}
-use Rattle.ledger.specs.Roster.{Roster, Numbered, groupOfInstrument}
-use Rattle.ledger.specs.Records.{sideOf}
-use Rattle.ledger.specs.Positions.{Place, Way, instrument, group, long, short, standsIn, openOn, ofInstrument, groupPart, sumGroup, potential, position}
-use Rattle.ledger.specs.Fillings.{Filling, none, fill, fillMoves, after}
-use Rattle.ledger.specs.Moves.{Moves}
-use Rattle.limits.specs.Lines.{lineInForce, limit}
-use Rattle.limits.specs.Questions.{firstNo, allPass}
-use Rattle.limits.specs.Asked.{limitsSet, sizeFits, movesInstrument, movesGroup, within, positionQuestions}
+use Rattle.ledger.specs.Roster.{Roster, Numbered}
+use Rattle.ledger.specs.Positions.{instrument, group, long, short}
+use Rattle.ledger.specs.Fillings.{none, fill}
 use Rattle.book.specs.Market.{derivatives}
-use Rattle.book.specs.Decoding.{named, wellFormed, eventOf, decode}
-use Rattle.book.specs.OpenOrders.{find, insert, change, kept}
-use Rattle.book.specs.Books.{Book, emptyBook, unsets, lineOf, groupLineOf, setLine, setBlock, newOrder, work, mark}
-use Rattle.book.specs.Table.{isEvent, accountKnown, itemKnown, figuresFit, notYetTrading, idOpen, quantityFits, entered, idFree, placeFree, questionsBefore, limitQuestions, answer}
-use Rattle.book.specs.Sound.{RosterFits}
-use Rattle.book.specs.Kept.{RawEvent, said, Desk, Kept, begun, keep, memoryAfter, keptAfter}
-use Rattle.book.specs.SetAgain.{lineSet, lineOver}
-use Rattle.book.specs.Demand3.{Judged, NotSetAgain, Demand3At}
-use Rattle.book.specs.EventBytes.{bytesOf, figure, eventBytes}
-use Rattle.book.specs.Written.{asBytes, written, writtenAll}
+use Rattle.book.specs.Sound.{RosterFits, Sound}
+use Rattle.book.specs.Kept.{Desk, Kept, begun, memoryAfter}
+use Rattle.book.specs.Written.{written, writtenAll}
 use Rattle.book.specs.LongerDay.{morning, tooLong, tooShort, putSold, putBought, raisedTooFar, putSoldToTheLimit, putBoughtToTheLimit, raisedToTheLimit, afternoon, evening}
-use Rattle.book.proofs.Plain.{derivatives-unit, plain, plain-demand3}
-use Rattle.book.proofs.NotSetAgainLaws.{setsNone, sets-none}
+use Rattle.book.proofs.Plain.{derivatives-unit, plain-sound}
+use Rattle.book.proofs.PlainPromise.{plainDesk, keptOf, Refused, Past, both-ways}
+use Rattle.book.proofs.Computed.{computes}
 
--- two accounts, groups and contracts; contract 1, of group 1, has instruments 1, of weight 10000, and 2, a put of weight −5000; contract
--- 2, of group 2, has instrument 3, of weight 10000
+-- contract 1, of group 1, has instruments 1, of weight 10000, and 2, a put of weight −5000; contract 2, of group 2, has instrument 3
 abbrev pub longerRoster : Roster
 longerRoster =
     record { accounts = 2; groups = 2; contracts = 2; instruments = 3; groupOf = λ c. c; contractOf = λ i. cond (eqb i 3) 2 1; weight = λ i. cond (eqb i 2) (negsuc 4999) (pos 10000) }
@@ -55,7 +37,7 @@ longer-fits =
       instruments = omega arith;
       groupOf = λ c on. on;
       contractOf = λ i on. of-contract (eqb i 3);
-      weight = λ i on. omega (arith, weighs (eqb i 2));
+      weight = λ i on. weighs (eqb i 2);
     }
   where
     of-contract : (t : Bool) → Numbered 2 (cond t 2 1)
@@ -66,19 +48,77 @@ longer-fits =
     weighs true = omega arith
     weighs false = omega arith
 
+-- ---- the answers
 abbrev desk : Desk
-desk = plain derivatives longerRoster
+desk = plainDesk longerRoster
 
--- all that a day of bytes computes with
-computes : Unit {0}
-unfolding number u8At u16At u64At i64At signedOf sumOver below remaining filledBy replacedTotal closes groupOfInstrument sideOf standsIn openOn ofInstrument groupPart sumGroup potential position fillMoves after lineInForce limit firstNo allPass limitsSet sizeFits movesInstrument movesGroup within positionQuestions derivatives one named wellFormed eventOf decode find insert change kept emptyBook unsets lineOf groupLineOf setLine setBlock newOrder work mark isEvent accountKnown itemKnown figuresFit notYetTrading idOpen quantityFits entered idFree placeFree questionsBefore limitQuestions answer begun keep memoryAfter keptAfter lineSet lineOver asBytes bytesOf figure eventBytes bitsOf morning afternoon evening
-computes = tt
+abbrev answersTo : List (List ℕ) → Kept → List ℕ
+answersTo [] m = []
+answersTo (e ∷ es) m = desk .answerTo m (written e) ∷ answersTo es (desk .next m (written e))
 
-abbrev answersOf : Kept → List RawEvent → List ℕ
-answersOf m [] = []
-answersOf m (e ∷ es) = desk .answerTo m e ∷ answersOf (desk .next m e) es
+-- the answers after the morning
+abbrev answersThen : List (List ℕ) → List ℕ
+answersThen es = answersTo es (memoryAfter desk begun (writtenAll morning))
 
-answers : (answersOf begun (writtenAll morning) ≡ 0 ∷ 0 ∷ 0 ∷ 0 ∷ [])
-    × (answersOf begun (writtenAll (morning ++ (putSoldToTheLimit ∷ afternoon ++ evening))) ≡ 0 ∷ 0 ∷ 0 ∷ 0 ∷ 0 ∷ 0 ∷ 0 ∷ 23 ∷ 0 ∷ 0 ∷ 10 ∷ 9 ∷ 9 ∷ 0 ∷ 0 ∷ 0 ∷ 0 ∷ 0 ∷ 0 ∷ 6 ∷ 0 ∷ 0 ∷ 0 ∷ 0 ∷ 0 ∷ [])
+answers : (answersTo morning begun ≡ 0 ∷ 0 ∷ 0 ∷ 0 ∷ [])
+    × (answersThen (tooLong ∷ tooShort ∷ putSold ∷ putBought ∷ raisedTooFar ∷ []) ≡ 21 ∷ 22 ∷ 23 ∷ 24 ∷ 23 ∷ [])
+    × (answersThen (putSoldToTheLimit ∷ (afternoon ++ evening)) ≡ 0 ∷ 0 ∷ 0 ∷ 23 ∷ 0 ∷ 0 ∷ 10 ∷ 9 ∷ 9 ∷ 0 ∷ 0 ∷ 0 ∷ 0 ∷ 0 ∷ 0 ∷ 6 ∷ 0 ∷ 0 ∷ 0 ∷ 0 ∷ 0 ∷ [])
+    × (answersThen (putBoughtToTheLimit ∷ (afternoon ++ evening)) ≡ 0 ∷ 0 ∷ 0 ∷ 23 ∷ 0 ∷ 0 ∷ 10 ∷ 9 ∷ 9 ∷ 0 ∷ 0 ∷ 0 ∷ 0 ∷ 0 ∷ 0 ∷ 6 ∷ 0 ∷ 0 ∷ 0 ∷ 0 ∷ 0 ∷ [])
+    × (answersThen (raisedToTheLimit ∷ (afternoon ++ evening)) ≡ 0 ∷ 0 ∷ 11 ∷ 23 ∷ 0 ∷ 0 ∷ 10 ∷ 9 ∷ 9 ∷ 0 ∷ 0 ∷ 0 ∷ 0 ∷ 0 ∷ 0 ∷ 6 ∷ 11 ∷ 0 ∷ 0 ∷ 0 ∷ 0 ∷ [])
 unfolding computes
-answers = (refl, refl)
+answers = (refl, refl, refl, refl, refl)
+
+-- the book after the morning and a put sold is sound, with two orders open
+sound : (length (keptOf longerRoster (writtenAll (morning ++ (putSoldToTheLimit ∷ []))) .book .orders) ≡ 2)
+    × Sound derivatives longerRoster (keptOf longerRoster (writtenAll (morning ++ (putSoldToTheLimit ∷ []))) .book) (keptOf longerRoster (writtenAll (morning ++ (putSoldToTheLimit ∷ []))) .trading)
+unfolding computes
+sound = (refl, plain-sound derivatives longerRoster derivatives-unit longer-fits (writtenAll (morning ++ (putSoldToTheLimit ∷ []))))
+
+-- ---- the orders, of account 1, and the positions that they move
+abbrev pub order : ℕ → ℕ → Side → ℕ → Order
+order id i s n = record { id = id; account = 1; instrument = i; side = s; total = n; filled = 0 }
+
+pub weighs-more : pos 10000 ≢ pos 0
+weighs-more e = let z : _≡_ {A = ℕ} 10000 0 = cc in omega arith
+
+pub weighs-less : negsuc 4999 ≢ pos 0
+weighs-less e = let z : _≡_ {A = ℕ} 0 1 = cc in omega arith
+
+-- ---- refused, each both ways: from the answer a filling past a limit, and from such a filling the answer
+abbrev Exactly : List ℕ → Order → Type 0
+Exactly n o = Past longerRoster morning n o × Refused longerRoster morning n
+
+-- 21: all 50 of order 7 and the 53 of N put instrument 1 at 101, past 100
+too-long : Exactly tooLong (order 8 1 Buy 53)
+unfolding computes
+too-long =
+    both-ways longerRoster morning tooLong longer-fits (order 8 1 Buy 53) (refl, refl) (inl refl)
+    (instrument 1, long, (refl, refl), (fill {o = order 7 1 Buy 50} 50 (omega arith) (fill {o = order 8 1 Buy 53} 53 (omega arith) none), record { lt = tt }))
+
+-- 22: nothing of order 7 and the 99 of N put it at −101
+too-short : Exactly tooShort (order 8 1 Sell 99)
+unfolding computes
+too-short =
+    both-ways longerRoster morning tooShort longer-fits (order 8 1 Sell 99) (refl, refl) (inr (inl refl))
+    (instrument 1, short, (refl, refl), (fill {o = order 7 1 Buy 50} 0 (omega arith) (fill {o = order 8 1 Sell 99} 99 (omega arith) none), record { lt = tt }))
+
+-- 23: all of both put group 1 at 605,000 ten-thousandths, past 600,000
+put-sold : Exactly putSold (order 8 2 Sell 25)
+unfolding computes
+put-sold =
+    both-ways longerRoster morning putSold longer-fits (order 8 2 Sell 25) (refl, refl) (inr (inr (inl refl)))
+    (group 1, long, (refl, weighs-less, refl), (fill {o = order 7 1 Buy 50} 50 (omega arith) (fill {o = order 8 2 Sell 25} 25 (omega arith) none), record { lt = tt }))
+
+-- 24: nothing of order 7 and the 77 of N put it at −405,000, past 400,000 short
+put-bought : Exactly putBought (order 8 2 Buy 77)
+unfolding computes
+put-bought =
+    both-ways longerRoster morning putBought longer-fits (order 8 2 Buy 77) (refl, refl) (inr (inr (inr refl)))
+    (group 1, short, (refl, weighs-less, refl), (fill {o = order 7 1 Buy 50} 0 (omega arith) (fill {o = order 8 2 Buy 77} 77 (omega arith) none), record { lt = tt }))
+
+-- 23: order 7 raised, once: all 63 of it put the group at 610,000
+raised-too-far : Exactly raisedTooFar (order 7 1 Buy 63)
+unfolding computes
+raised-too-far =
+    both-ways longerRoster morning raisedTooFar longer-fits (order 7 1 Buy 63) (refl, refl) (inr (inr (inl refl)))
+    (group 1, long, (refl, weighs-more, refl), (fill {o = order 7 1 Buy 63} 63 (omega arith) none, record { lt = tt }))

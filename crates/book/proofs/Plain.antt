@@ -1,16 +1,17 @@
 -- The contract can be met: a desk whose memory is the plain book itself. And the derivatives desk's unit is kept.
 use Prim.Native.Nat.{ℕ}
 use mathlib.Core.Path.{_≡_, refl, _∙_, ap}
+use mathlib.Core.List.{List}
 use Rattle.ledger.specs.Derivatives.{one}
 use Rattle.ledger.specs.Roster.{Roster}
 use Rattle.book.specs.Market.{Market, UnitKept, derivatives}
 use Rattle.book.specs.Table.{answer}
 use Rattle.book.specs.Sound.{RosterFits, Sound}
-use Rattle.book.specs.Kept.{RawEvent, said, Desk, Kept, begun, keep}
+use Rattle.book.specs.Kept.{RawEvent, said, Desk, Kept, begun, keep, keptAfter}
 use Rattle.book.specs.Contract.{withWorked, Contract}
 use Rattle.book.specs.Demand3.{Demand3At}
 use Rattle.book.proofs.SoundSteps.{sound-empty}
-use Rattle.book.proofs.Runs.{keep-accepted, keep-refused}
+use Rattle.book.proofs.Runs.{keep-accepted, keep-refused, holds-after}
 use Rattle.book.proofs.Demand3Proof.{demand3}
 
 pub derivatives-unit : UnitKept derivatives
@@ -41,3 +42,8 @@ module _ (mk : Market) (r : Roster) where
   pub plain-demand3 : UnitKept mk → RosterFits r → Demand3At plain mk r begun begun
   unfolding plain-meets
   plain-demand3 keeps fits = demand3 keeps plain-meets begun begun refl (sound-begun mk r fits)
+
+  -- and after every list of events its book is sound
+  pub plain-sound : UnitKept mk → RosterFits r → (es : List RawEvent) → Sound mk r (keptAfter plain mk begun begun es .book) (keptAfter plain mk begun begun es .trading)
+  unfolding plain-meets
+  plain-sound keeps fits es = holds-after keeps plain-meets begun begun es (record { shown = refl; sound = sound-begun mk r fits }) .sound

@@ -1,22 +1,24 @@
 -- "Set again" is document 01's sentence, line by line.
 use Prim.Native.Nat.{ℕ}
 use mathlib.Core.Path.{_≡_, refl, sym, _∙_, ap}
-use mathlib.Core.Logic.{_↔_, _⊎_, inl, inr, ⊎-elim}
+use mathlib.Core.Logic.{_↔_, Iff·trans, _⊎_, inl, inr, ⊎-elim}
 use mathlib.Core.Bool.{true, false}
 use mathlib.Core.Option.{Option, none, some}
 use native.Mathlib.Omega.{arith}
+use lib.IntN.{ℤ}
 use Rattle.ledger.specs.declared.order.Order.{Order}
 use Rattle.ledger.specs.Roster.{Roster}
-use Rattle.ledger.specs.Positions.{instrument}
+use Rattle.ledger.specs.Positions.{instrument, group}
 use Rattle.limits.specs.Lines.{isSet}
+use Rattle.book.specs.declared.Figures.{Figures}
 use Rattle.book.specs.declared.LimitLine.{LimitLine}
 use Rattle.book.specs.declared.LimitLine.the-variants.{Own, Default, OfGroup}
 use Rattle.book.specs.declared.Event.{Event}
 use Rattle.book.specs.declared.Event.the-variants.{Limit, Balance, Block, New, Replace, Cancel, Fill, Junk}
 use Rattle.book.specs.Books.{Book, setLine, work}
-use Rattle.book.specs.SetAgain.{LineName, nameOf, ownLine, defaultLine, lineSet, lineOver, SetsAgain}
+use Rattle.book.specs.SetAgain.{LineName, nameOf, ownLine, defaultLine, groupLine, lineSet, lineOver, SetsAgain}
 use Rattle.book.proofs.Tables.{at-each}
-use Rattle.book.proofs.LimitsStay.{test, under-own, under-default}
+use Rattle.book.proofs.LimitsStay.{test, under-own, under-default, group-set-again}
 
 -- ---- "by an accepted LIMIT": no other event sets a line, and a LIMIT sets the one that it names
 pub set-by-that-limit : (e : Event) (n : LineName) → (lineSet e ≡ some n) ↔ ((a : ℕ) × (l : LimitLine) × (e ≡ Limit a l) × (n ≡ nameOf a l))
@@ -38,6 +40,34 @@ set-by-that-limit e n = (there e, λ h. rw (h .2, h .3) (sets-its-line (h .0) (h
     there (Cancel id) h = nothing h
     there (Fill id q) h = nothing h
     there Junk h = nothing h
+
+-- an instrument's own line, a contract's default line, a group's line: each by a LIMIT of the account on it
+pub own-line-set : (e : Event) (a i : ℕ) → (lineSet e ≡ some (ownLine a i)) ↔ ((f : Figures) × (e ≡ Limit a (Own i f)))
+unfolding lineSet
+own-line-set e a i = (λ h. let that = set-by-that-limit e (ownLine a i) .0 h in by (that .0) (that .1) (that .3) (that .2), λ h. rw (h .1))
+  where
+    by : (c : ℕ) (l : LimitLine) → ownLine a i ≡ nameOf c l → e ≡ Limit c l → (f : Figures) × (e ≡ Limit a (Own i f))
+    by c (Own j f) n h = (f, cc)
+    by c (Default d f) n h = absurd (let z : _≡_ {A = ℕ} 0 1 = cc in omega arith)
+    by c (OfGroup g x y) n h = absurd (let z : _≡_ {A = ℕ} 0 1 = cc in omega arith)
+
+pub default-line-set : (e : Event) (a c : ℕ) → (lineSet e ≡ some (defaultLine a c)) ↔ ((f : Figures) × (e ≡ Limit a (Default c f)))
+unfolding lineSet
+default-line-set e a c = (λ h. let that = set-by-that-limit e (defaultLine a c) .0 h in by (that .0) (that .1) (that .3) (that .2), λ h. rw (h .1))
+  where
+    by : (d : ℕ) (l : LimitLine) → defaultLine a c ≡ nameOf d l → e ≡ Limit d l → (f : Figures) × (e ≡ Limit a (Default c f))
+    by d (Own j f) n h = absurd (let z : _≡_ {A = ℕ} 0 1 = cc in omega arith)
+    by d (Default k f) n h = (f, cc)
+    by d (OfGroup g x y) n h = absurd (let z : _≡_ {A = ℕ} 0 1 = cc in omega arith)
+
+pub group-line-set : (e : Event) (a g : ℕ) → (lineSet e ≡ some (groupLine a g)) ↔ ((x : ℤ) × (y : ℤ) × (e ≡ Limit a (OfGroup g x y)))
+unfolding lineSet
+group-line-set e a g = (λ h. let that = set-by-that-limit e (groupLine a g) .0 h in by (that .0) (that .1) (that .3) (that .2), λ h. rw (h .2))
+  where
+    by : (c : ℕ) (l : LimitLine) → groupLine a g ≡ nameOf c l → e ≡ Limit c l → (x : ℤ) × (y : ℤ) × (e ≡ Limit a (OfGroup g x y))
+    by c (Own j f) n h = absurd (let z : _≡_ {A = ℕ} 0 1 = cc in omega arith)
+    by c (Default d f) n h = absurd (let z : _≡_ {A = ℕ} 0 1 = cc in omega arith)
+    by c (OfGroup k x y) n h = (x, y, cc)
 
 -- an event that sets a default line leaves every own line
 default-keeps-own : (unit : Order → ℕ) (b : Book) (e : Event) (a c i : ℕ) → lineSet e ≡ some (defaultLine a c) → work unit b e .linesOf a .ownOf i ≡ b .linesOf a .ownOf i
@@ -82,3 +112,16 @@ module _ (unit : Order → ℕ) (r : Roster) (b : Book) (e : Event) (a : ℕ) wh
 
       default-back : (lineSet e ≡ some (defaultLine a (r .contractOf i))) × (isSet (b .linesOf a .ownOf i) ≡ false) → SetsAgain unit r b e a (instrument i)
       default-back h = inl (h .0 ∙ ap some (sym (under-default r b a i (h .1))))
+
+  -- ---- the same with the events written out
+  pub group-again : (g : ℕ) → SetsAgain unit r b e a (group g) ↔ ((x : ℤ) × (y : ℤ) × (e ≡ Limit a (OfGroup g x y)))
+  group-again g = Iff·trans (group-set-again unit r b e a g) (group-line-set e a g)
+
+  pub instrument-again : (i : ℕ) → SetsAgain unit r b e a (instrument i) ↔ ((((f : Figures) × (e ≡ Limit a (Own i f))) × ((isSet (b .linesOf a .ownOf i) ≡ true) ⊎ (isSet (work unit b e .linesOf a .ownOf i) ≡ true))) ⊎ (((f : Figures) × (e ≡ Limit a (Default (r .contractOf i) f))) × (isSet (b .linesOf a .ownOf i) ≡ false)))
+  instrument-again i =
+      let own = own-line-set e a i in
+      let default = default-line-set e a (r .contractOf i) in
+      let law = instrument-set-again i in (
+        λ h. ⊎-elim (λ x. inl (own .0 (x .0), x .1)) (λ x. inr (default .0 (x .0), x .1)) (law .0 h),
+        λ h. law .1 (⊎-elim (λ x. inl (own .1 (x .0), x .1)) (λ x. inr (default .1 (x .0), x .1)) h),
+      )

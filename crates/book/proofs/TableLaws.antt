@@ -1,17 +1,25 @@
--- The table of an event: its numbers, in document 01's order.
-use Prim.Native.Nat.{ℕ}
-use mathlib.Core.Path.{_≡_, refl}
-use mathlib.Core.Bool.{Bool}
+-- The table of an event: its numbers in document 01's order, and the order that its later questions are asked of.
+use Prim.Native.Nat.{ℕ, _<_}
+use mathlib.Core.Path.{_≡_, refl, sym}
+use mathlib.Core.Logic.{_↔_, _⊎_, inl, inr, ⊎-elim}
+use mathlib.Core.Bool.{Bool, true, false, cond}
 use mathlib.Core.List.{List, [], _∷_, _++_, map}
 use mathlib.Core.Option.{Option, none, some}
+use lib.Dec.{ltb}
+use lib.IntN.{ℤ, natAbs}
+use borrow.Author.Tests.{ltb-true, lt-ltb}
 use Rattle.ledger.specs.declared.order.Order.{Order}
+use Rattle.ledger.specs.Orders.{replacedTotal}
 use Rattle.ledger.specs.Roster.{Roster}
 use Rattle.limits.specs.Questions.{Question}
 use Rattle.limits.specs.Asked.{positionQuestions}
 use Rattle.book.specs.declared.Event.{Event}
+use Rattle.book.specs.declared.Event.the-variants.{Limit, Balance, Block, New, Replace, Cancel, Fill, Junk}
 use Rattle.book.specs.Market.{Market}
-use Rattle.book.specs.Books.{Book, work}
-use Rattle.book.specs.Table.{entered, questionsBefore, positionsAfter, limitQuestions, questions}
+use Rattle.book.specs.OpenOrders.{find}
+use Rattle.book.specs.Books.{Book, newOrder, work}
+use Rattle.book.specs.Table.{raised, entered, questionsBefore, positionsAfter, limitQuestions, questions}
+use Rattle.book.proofs.Entering.{none-enters, raised-found}
 
 abbrev pub numbersOf : List Question → List ℕ
 numbersOf qs = map (λ q. q .number) qs
@@ -29,3 +37,51 @@ numbers-in-order mk r sound b trading e = rw (at-the-end (entered b e))
     at-the-end : (x : Option Order) → numbersOf (positionsAfter mk r (work (mk .unit) b e) x) ≡ positionNumbers x
     at-the-end none = refl
     at-the-end (some o) = refl
+
+-- ---- "The rest is for NEW, and for a REPLACE whose total rises": the order that such an event enters or raises to, and no other event
+-- does either
+-- a NEW: "an order joins, with id, account, instrument, side, total, filled 0"
+abbrev pub IsNew : Event → Order → Type 0
+IsNew e o = (n : ℤ) × (e ≡ New (o .side) (o .account) (o .instrument) (o .id) n) × (o .total ≡ natAbs n) × (o .filled ≡ 0)
+
+-- a REPLACE of an order x that is open, to a total above its own: "the order with that id gets the new total"
+abbrev pub Raises : Book → Event → Order → Type 0
+Raises b e o =
+    (id : ℕ)
+    × (n : ℤ)
+    × (x : Order)
+    × (e ≡ Replace id n)
+    × (find id (b .orders) ≡ some x)
+    × (x .total < natAbs n)
+    × (o ≡ record { id = x .id; account = x .account; instrument = x .instrument; side = x .side; total = natAbs n; filled = x .filled })
+
+pub entered-iff : (b : Book) (e : Event) (o : Order) → (entered b e ≡ some o) ↔ (IsNew e o ⊎ Raises b e o)
+unfolding entered newOrder replacedTotal
+entered-iff b e o = (there e, ⊎-elim by-new by-replace)
+  where
+    rises : (n : ℕ) (x : Order) → raised n (some x) ≡ some o → x .total < n
+    rises n x h = by (ltb (x .total) n) refl h
+      where
+        by : (t : Bool) → ltb (x .total) n ≡ t → cond t (some (replacedTotal x n)) none ≡ some o → x .total < n
+        by true test h = ltb-true (x .total) n test
+        by false test h = none-enters o h
+
+    there : (e : Event) → entered b e ≡ some o → IsNew e o ⊎ Raises b e o
+    there (Limit a l) h = none-enters o h
+    there (Balance a i z) h = none-enters o h
+    there (Block what z) h = none-enters o h
+    there (New s a i id n) h = inl (n, cc, cc, cc)
+    there (Replace id n) h =
+        let found = raised-found (natAbs n) (find id (b .orders)) o h in
+        inr (id, n, found .0, refl, found .1, rises (natAbs n) (found .0) (rw (found .1) at h), found .2)
+    there (Cancel id) h = none-enters o h
+    there (Fill id n) h = none-enters o h
+    there Junk h = none-enters o h
+
+    by-new : IsNew e o → entered b e ≡ some o
+    by-new h =
+        rw (h .1)
+        (λ i. some (record { id = o .id; account = o .account; instrument = o .instrument; side = o .side; total = sym (h .2) i; filled = sym (h .3) i }))
+
+    by-replace : Raises b e o → entered b e ≡ some o
+    by-replace h = rw (h .3, h .4, lt-ltb (h .2 .total) (natAbs (h .1)) (h .5), h .6)

@@ -10,6 +10,7 @@ pub mod Places
 pub mod Upper
 pub mod Reached
 pub mod Movement
+pub mod InWords
 pub mod Changes
 pub mod Formulas
 pub mod Examples
