@@ -1,11 +1,16 @@
 /* The limit gate: a desk in lent memory.
  *
  * The caller owns every buffer; the functions keep no pointer and no state outside the lent memory, so calls on different
- * desks are independent, and two calls on one desk must not run at the same time. Buffers passed to one call must not overlap.
- * Every function answers every input: there is nothing that the caller must ensure first. A refusal leaves the lent memory as
- * it was, every byte. Bytes of the lent memory from 65,536 on are never touched.
+ * desks are independent, and two calls on one desk must not run at the same time. Every function answers every input: no
+ * contents of a buffer and no length is wrong. A refusal leaves the lent memory as it was, every byte. Bytes of the lent
+ * memory from 65,536 on are never touched.
  *
- * Link with libdesk.a (rt staticlib desk). It needs no other library. */
+ * What the caller owes: no pointer is NULL, and each is valid for its length, a report for its figures; buffers passed to one
+ * call do not overlap; nothing else writes them during the call; and the stack has room: desk_instrument_position takes
+ * 25 KB, the others at most 9 KB.
+ *
+ * Link with libdesk.a (rt staticlib desk), for x86-64. It calls memcpy, memmove and memset, and no other function. The
+ * prototypes below are compared with the proved functions by .ci/exported. */
 #ifndef DESK_H
 #define DESK_H
 
