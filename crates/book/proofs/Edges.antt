@@ -5,27 +5,19 @@ use mathlib.Core.Bool.{true, cond}
 use mathlib.Core.List.{List, [], _∷_}
 use lib.Dec.{eqb}
 use lib.IntN.{ℤ, pos, negsuc, negℤ}
-use Rattle.integers.specs.Sum.{sumOver, below}
 use Rattle.ledger.specs.declared.order.Order.{Order}
 use Rattle.ledger.specs.declared.order.Side.the-variants.{Buy, Sell}
-use Rattle.ledger.specs.Derivatives.{one}
-use Rattle.ledger.specs.Orders.{remaining, filledBy, replacedTotal, closes}
-use Rattle.ledger.specs.Roster.{Roster, groupOfInstrument}
-use Rattle.ledger.specs.Positions.{standsIn, openOn, ofInstrument, groupPart, sumGroup, potential}
-use Rattle.ledger.specs.Fillings.{fillMoves}
-use Rattle.limits.specs.Lines.{lineInForce, limit}
-use Rattle.limits.specs.Questions.{firstNo}
-use Rattle.limits.specs.Asked.{limitsSet, sizeFits, movesInstrument, movesGroup, within, positionQuestions}
+use Rattle.ledger.specs.Roster.{Roster}
 use Rattle.book.specs.declared.LimitLine.the-variants.{Own, Default, OfGroup}
 use Rattle.book.specs.declared.Blocked.the-variants.{Account, Instrument, GroupFor}
 use Rattle.book.specs.declared.Event.{Event}
 use Rattle.book.specs.declared.Event.the-variants.{Limit, Balance, Block, New, Replace, Cancel, Fill}
 use Rattle.book.specs.Market.{derivatives}
-use Rattle.book.specs.OpenOrders.{find, insert, change, kept}
-use Rattle.book.specs.Books.{Book, emptyBook, withOrders, unsets, lineOf, groupLineOf, setLine, setBlock, newOrder, work, mark}
-use Rattle.book.specs.Table.{isEvent, accountKnown, itemKnown, figuresFit, notYetTrading, idOpen, quantityFits, entered, idFree, placeFree, questionsBefore, limitQuestions, answer}
-use Rattle.book.specs.Kept.{begun, keep}
+use Rattle.book.specs.Books.{Book, withOrders, newOrder, work}
+use Rattle.book.specs.Table.{answer}
+use Rattle.book.specs.Kept.{begun}
 use Rattle.book.proofs.Days.{answersTo, endOf, instrumentLine}
+use Rattle.book.proofs.Computed.{computes}
 
 -- one account, group and contract; instruments 1, 2 and 3 of weight 10000, −5000 and 0
 abbrev roster : Roster
@@ -81,7 +73,7 @@ pub edges : (judged (table-5 2500 21000) (sell 1 3 10000) ≡ 20)
     × (judged (at-balance (minus 2) 0) (buy 1 1 3) ≡ 21)
     × (judged (wide ∷ ofGroup 0 1000000 ∷ []) (sell 2 1 1) ≡ 23)
     × (judged (wide ∷ ofGroup 0 0 ∷ []) (sell 3 1 1) ≡ 0)
-unfolding sumOver below remaining filledBy replacedTotal closes groupOfInstrument standsIn openOn ofInstrument groupPart sumGroup potential fillMoves lineInForce limit firstNo limitsSet sizeFits movesInstrument movesGroup within positionQuestions derivatives one find insert change kept emptyBook unsets lineOf groupLineOf setLine setBlock newOrder work mark isEvent accountKnown itemKnown figuresFit notYetTrading idOpen quantityFits entered idFree placeFree questionsBefore limitQuestions answer begun keep
+unfolding computes
 edges = (refl, refl, refl, refl, refl, refl, refl, refl, refl)
 
 -- ---- a replace is counted once, at its new total; one that does not raise passes whatever is blocked or past its limit
@@ -96,7 +88,7 @@ pub replaces : (judged small (Replace 7 (pos 10)) ≡ 0)
     × (judged (wide ∷ ofGroup 10 10 ∷ buy 1 7 6 ∷ Block (Account 1) (pos 1) ∷ []) (Replace 7 (pos 7)) ≡ 14)
     × (judged (wide ∷ ofGroup 10 10 ∷ buy 1 7 6 ∷ Fill 7 (pos 2) ∷ []) (Replace 7 (pos 2)) ≡ 12)
     × (judged (wide ∷ ofGroup 10 10 ∷ buy 1 7 6 ∷ Fill 7 (pos 2) ∷ []) (Replace 7 (pos 3)) ≡ 0)
-unfolding sumOver below remaining filledBy replacedTotal closes groupOfInstrument standsIn openOn ofInstrument groupPart sumGroup potential fillMoves lineInForce limit firstNo limitsSet sizeFits movesInstrument movesGroup within positionQuestions derivatives one find insert change kept emptyBook unsets lineOf groupLineOf setLine setBlock newOrder work mark isEvent accountKnown itemKnown figuresFit notYetTrading idOpen quantityFits entered idFree placeFree questionsBefore limitQuestions answer begun keep
+unfolding computes
 replaces = (refl, refl, refl, refl, refl, refl, refl, refl)
 
 -- ---- an order that is filled or cancelled closes: its id is not open, and may be used again
@@ -105,7 +97,7 @@ pub closing : (judged (wide ∷ ofGroup 10 10 ∷ buy 1 7 6 ∷ Fill 7 (pos 6) �
     × (judged (wide ∷ ofGroup 10 10 ∷ buy 1 7 6 ∷ Fill 7 (pos 5) ∷ []) (buy 1 7 1) ≡ 13)
     × (judged (wide ∷ ofGroup 10 10 ∷ buy 1 7 6 ∷ Cancel 7 ∷ []) (Cancel 7) ≡ 11)
     × (judged (wide ∷ ofGroup 10 10 ∷ buy 1 7 6 ∷ []) (Fill 7 (pos 7)) ≡ 12)
-unfolding sumOver below remaining filledBy replacedTotal closes groupOfInstrument standsIn openOn ofInstrument groupPart sumGroup potential fillMoves lineInForce limit firstNo limitsSet sizeFits movesInstrument movesGroup within positionQuestions derivatives one find insert change kept emptyBook unsets lineOf groupLineOf setLine setBlock newOrder work mark isEvent accountKnown itemKnown figuresFit notYetTrading idOpen quantityFits entered idFree placeFree questionsBefore limitQuestions answer begun keep
+unfolding computes
 closing = (refl, refl, refl, refl, refl)
 
 -- ---- a balance is set until the account's first NEW is accepted, and not after; no other kind marks the account
@@ -113,7 +105,7 @@ pub trading-marks : (judged (wide ∷ ofGroup 10 10 ∷ Balance 1 1 (pos 3) ∷ 
     × (judged (wide ∷ ofGroup 10 10 ∷ buy 1 7 6 ∷ Cancel 7 ∷ []) (Balance 1 2 (pos 4)) ≡ 10)
     × (judged [] (Balance 1 1 (pos 1000000000)) ≡ 0)
     × (judged [] (Balance 1 1 (minus 1000000001)) ≡ 9)
-unfolding sumOver below remaining filledBy replacedTotal closes groupOfInstrument standsIn openOn ofInstrument groupPart sumGroup potential fillMoves lineInForce limit firstNo limitsSet sizeFits movesInstrument movesGroup within positionQuestions derivatives one find insert change kept emptyBook unsets lineOf groupLineOf setLine setBlock newOrder work mark isEvent accountKnown itemKnown figuresFit notYetTrading idOpen quantityFits entered idFree placeFree questionsBefore limitQuestions answer begun keep
+unfolding computes
 trading-marks = (refl, refl, refl, refl)
 
 -- ---- blocks: of an account, of an instrument for all, of a group for an account; lifted they are gone
@@ -123,7 +115,7 @@ pub blocks : (judged (wide ∷ ofGroup 10 10 ∷ Block (Account 1) (pos 1) ∷ [
     × (judged (wide ∷ ofGroup 10 10 ∷ Block (GroupFor 1 1) (pos 1) ∷ []) (buy 2 1 1) ≡ 16)
     × (judged (wide ∷ ofGroup 10 10 ∷ Block (GroupFor 1 1) (pos 1) ∷ Block (GroupFor 1 1) (pos 0) ∷ []) (buy 2 1 1) ≡ 0)
     × (judged [] (Block (Account 1) (pos 2)) ≡ 9)
-unfolding sumOver below remaining filledBy replacedTotal closes groupOfInstrument standsIn openOn ofInstrument groupPart sumGroup potential fillMoves lineInForce limit firstNo limitsSet sizeFits movesInstrument movesGroup within positionQuestions derivatives one find insert change kept emptyBook unsets lineOf groupLineOf setLine setBlock newOrder work mark isEvent accountKnown itemKnown figuresFit notYetTrading idOpen quantityFits entered idFree placeFree questionsBefore limitQuestions answer begun keep
+unfolding computes
 blocks = (refl, refl, refl, refl, refl, refl)
 
 -- ---- limits run to the largest balance and no further; zeros are a line, −1 throughout is none, a mixture neither
@@ -136,7 +128,7 @@ pub limit-figures : (judged [] (line 0 0 0 1000000000) ≡ 0)
     × (judged (wide ∷ []) (buy 1 1 1) ≡ 17)
     × (judged (wide ∷ Limit 1 (Own 1 (record { tci = pos 9; tvi = pos 9; lci = pos 0; lvi = pos 9 })) ∷ ofGroup 10 10 ∷ []) (buy 1 1 1) ≡ 21)
     × (judged (wide ∷ ofGroup 10 10 ∷ own 0 ∷ Limit 1 (Own 1 (record { tci = minus 1; tvi = minus 1; lci = minus 1; lvi = minus 1 })) ∷ []) (buy 1 1 5) ≡ 0)
-unfolding sumOver below remaining filledBy replacedTotal closes groupOfInstrument standsIn openOn ofInstrument groupPart sumGroup potential fillMoves lineInForce limit firstNo limitsSet sizeFits movesInstrument movesGroup within positionQuestions derivatives one find insert change kept emptyBook unsets lineOf groupLineOf setLine setBlock newOrder work mark isEvent accountKnown itemKnown figuresFit notYetTrading idOpen quantityFits entered idFree placeFree questionsBefore limitQuestions answer begun keep
+unfolding computes
 limit-figures = (refl, refl, refl, refl, refl, refl, refl, refl, refl)
 
 -- ---- the open orders ascend by id; 256 at the most
@@ -156,5 +148,5 @@ pub open-orders : (ids (endOf roster begun (wide ∷ ofGroup 10 10 ∷ buy 1 8 1
     × (answer derivatives roster (crowded 255) (λ a. true) (buy 3 300 1) ≡ 0)
     × (answer derivatives roster (crowded 256) (λ a. true) (buy 3 300 1) ≡ 18)
     × (answer derivatives roster (work (λ o. 1) (crowded 256) (Cancel 200)) (λ a. true) (buy 3 300 1) ≡ 0)
-unfolding sumOver below remaining filledBy replacedTotal closes groupOfInstrument standsIn openOn ofInstrument groupPart sumGroup potential fillMoves lineInForce limit firstNo limitsSet sizeFits movesInstrument movesGroup within positionQuestions derivatives one find insert change kept emptyBook unsets lineOf groupLineOf setLine setBlock newOrder work mark isEvent accountKnown itemKnown figuresFit notYetTrading idOpen quantityFits entered idFree placeFree questionsBefore limitQuestions answer begun keep
+unfolding computes
 open-orders = (refl, refl, refl, refl)

@@ -7,33 +7,22 @@ use lib.ListN.{take, getD, set}
 use mathlib.Core.List.{List, [], _∷_, _++_}
 use lib.Dec.{eqb}
 use lib.IntN.{pos, negsuc}
-use Rattle.words.specs.Bytes.{number}
-use Rattle.words.specs.Fields.{u8At, u16At, u64At, i64At}
-use Rattle.integers.specs.TwosComplement.{signedOf, bitsOf}
-use Rattle.integers.specs.Sum.{sumOver, below}
-use Rattle.ledger.specs.Derivatives.{one}
-use Rattle.ledger.specs.Orders.{remaining, filledBy, replacedTotal, closes}
-use Rattle.ledger.specs.Roster.{Roster, groupOfInstrument}
-use Rattle.ledger.specs.Records.{sideOf}
-use Rattle.ledger.specs.Positions.{instrument, group, long, standsIn, openOn, ofInstrument, groupPart, sumGroup, potential, position}
-use Rattle.ledger.specs.Fillings.{none, fill, fillMoves, after}
+use Rattle.ledger.specs.Roster.{Roster}
+use Rattle.ledger.specs.Positions.{instrument, group, long, potential}
+use Rattle.ledger.specs.Fillings.{none, fill}
 use Rattle.ledger.specs.declared.order.Order.{Order}
 use Rattle.ledger.specs.declared.order.Side.the-variants.{Buy, Sell}
 use Rattle.book.specs.declared.Event.{Event}
 use Rattle.book.specs.declared.Event.the-variants.{New, Junk}
-use Rattle.limits.specs.Lines.{lineInForce, limit}
-use Rattle.limits.specs.Questions.{firstNo}
-use Rattle.limits.specs.Asked.{limitsSet, sizeFits, movesInstrument, movesGroup, within, positionQuestions}
+use Rattle.limits.specs.Lines.{limit}
 use Rattle.book.specs.Market.{derivatives}
-use Rattle.book.specs.Decoding.{named, wellFormed, eventOf, decode}
-use Rattle.book.specs.OpenOrders.{find, insert, change, kept}
-use Rattle.book.specs.Books.{Book, emptyBook, unsets, lineOf, groupLineOf, setLine, setBlock, newOrder, work, mark}
-use Rattle.book.specs.Table.{isEvent, accountKnown, itemKnown, figuresFit, notYetTrading, idOpen, quantityFits, entered, idFree, placeFree, questionsBefore, limitQuestions, answer}
-use Rattle.book.specs.Kept.{begun, keep}
-use Rattle.book.specs.EventBytes.{bytesOf, figure, eventBytes}
+use Rattle.book.specs.Decoding.{decode}
+use Rattle.book.specs.Books.{Book, work}
+use Rattle.book.specs.Kept.{begun}
 use Rattle.book.specs.Listing.{listingEvents}
 use Rattle.book.specs.Demand3.{SomeFillingPasses}
 use Rattle.book.proofs.Days.{answersTo, endOf, instrumentLine, groupLineAt}
+use Rattle.book.proofs.Computed.{computes}
 
 -- one account, group and contract, two instruments of weight 10000 and −5000
 unfoldable pub listingRoster : Roster
@@ -50,7 +39,7 @@ pub listing : (answersTo listingRoster begun (said listingEvents) ≡ 0 ∷ 0 �
     × (instrumentLine listingRoster (endOf listingRoster begun (said listingEvents)) 1 1 ≡ pos 10 ∷ pos 10 ∷ negsuc 9 ∷ [])
     × (instrumentLine listingRoster (endOf listingRoster begun (said listingEvents)) 1 2 ≡ pos 0 ∷ pos 4 ∷ pos 0 ∷ [])
     × (groupLineAt listingRoster (endOf listingRoster begun (said listingEvents)) 1 1 ≡ pos 100000 ∷ negsuc 79999 ∷ [])
-unfolding number u8At u16At u64At i64At signedOf sumOver below remaining filledBy replacedTotal closes groupOfInstrument sideOf standsIn openOn ofInstrument groupPart sumGroup potential fillMoves lineInForce limit firstNo limitsSet sizeFits movesInstrument movesGroup within positionQuestions derivatives one named wellFormed eventOf decode find insert change kept emptyBook unsets lineOf groupLineOf setLine setBlock newOrder work mark isEvent accountKnown itemKnown figuresFit notYetTrading idOpen quantityFits entered idFree placeFree questionsBefore limitQuestions answer begun keep listingRoster listingEvents bytesOf figure eventBytes bitsOf
+unfolding computes listingRoster
 listing = (refl, refl, refl, refl)
 
 -- ---- the fifth event, N, is refused by 23, and a filling shows why: all 62 of order 7 and the 1 of N put the group's
@@ -69,12 +58,12 @@ abbrev sell-8 : Order
 sell-8 = record { id = 8; account = 1; instrument = 2; side = Sell; total = 1; filled = 0 }
 
 shown : SomeFillingPasses derivatives listingRoster withSell 1 (group 1) long
-unfolding position after number u8At u16At u64At i64At signedOf sumOver below remaining filledBy replacedTotal closes groupOfInstrument sideOf standsIn openOn ofInstrument groupPart sumGroup potential fillMoves lineInForce limit firstNo limitsSet sizeFits movesInstrument movesGroup within positionQuestions derivatives one named wellFormed eventOf decode find insert change kept emptyBook unsets lineOf groupLineOf setLine setBlock newOrder work mark isEvent accountKnown itemKnown figuresFit notYetTrading idOpen quantityFits entered idFree placeFree questionsBefore limitQuestions answer begun keep listingRoster listingEvents bytesOf figure eventBytes bitsOf
+unfolding computes listingRoster
 shown = (fill {o = buy-7} 62 (omega arith) (fill {o = sell-8} 1 (omega arith) none), record { lt = tt })
 
 -- without N no filling passes it: the potential position reaches the limit
 reached : potential (λ o. 1) listingRoster (endOf listingRoster begun before .book .orders) 1 (endOf listingRoster begun before .book .balanceOf 1) (group 1) long ≡ limit listingRoster (endOf listingRoster begun before .book .linesOf 1) (group 1) long
-unfolding number u8At u16At u64At i64At signedOf sumOver below remaining filledBy replacedTotal closes groupOfInstrument sideOf standsIn openOn ofInstrument groupPart sumGroup potential fillMoves lineInForce limit firstNo limitsSet sizeFits movesInstrument movesGroup within positionQuestions derivatives one named wellFormed eventOf decode find insert change kept emptyBook unsets lineOf groupLineOf setLine setBlock newOrder work mark isEvent accountKnown itemKnown figuresFit notYetTrading idOpen quantityFits entered idFree placeFree questionsBefore limitQuestions answer begun keep listingRoster listingEvents bytesOf figure eventBytes bitsOf
+unfolding computes listingRoster
 reached = refl
 
 -- ---- what is no event: one byte less or more, an id that is 0, a field that the kind does not name
@@ -87,5 +76,5 @@ junk : (decode (take 47 fourth) ≡ Junk)
     × (decode (set fourth 6 1) ≡ Junk)
     × (decode (set fourth 1 3) ≡ Junk)
     × (decode fourth ≡ New Buy 1 1 7 (pos 62))
-unfolding number u8At u16At u64At i64At signedOf sideOf named wellFormed eventOf decode listingEvents bytesOf figure eventBytes bitsOf
+unfolding computes
 junk = (refl, refl, refl, refl, refl, refl)

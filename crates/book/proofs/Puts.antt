@@ -5,26 +5,15 @@ use mathlib.Core.Path.{_≡_, refl}
 use mathlib.Core.List.{List, [], _∷_}
 use lib.ListN.{getD}
 use lib.IntN.{ℤ, pos, negℤ}
-use Rattle.integers.specs.Sum.{sumOver, below}
 use Rattle.ledger.specs.declared.order.Side.the-variants.{Buy, Sell}
-use Rattle.ledger.specs.Derivatives.{one}
-use Rattle.ledger.specs.Orders.{remaining, filledBy, replacedTotal, closes}
-use Rattle.ledger.specs.Roster.{Roster, groupOfInstrument}
-use Rattle.ledger.specs.Positions.{standsIn, openOn, ofInstrument, groupPart, sumGroup, potential}
-use Rattle.ledger.specs.Fillings.{fillMoves}
-use Rattle.limits.specs.Lines.{lineInForce, limit}
-use Rattle.limits.specs.Questions.{firstNo}
-use Rattle.limits.specs.Asked.{limitsSet, sizeFits, movesInstrument, movesGroup, within, positionQuestions}
+use Rattle.ledger.specs.Roster.{Roster}
 use Rattle.book.specs.declared.Figures.{Figures}
 use Rattle.book.specs.declared.LimitLine.the-variants.{Default, OfGroup}
 use Rattle.book.specs.declared.Event.{Event}
 use Rattle.book.specs.declared.Event.the-variants.{Limit, Balance, New}
-use Rattle.book.specs.Market.{derivatives}
-use Rattle.book.specs.OpenOrders.{find, insert, change, kept}
-use Rattle.book.specs.Books.{emptyBook, unsets, lineOf, groupLineOf, setLine, setBlock, newOrder, work, mark}
-use Rattle.book.specs.Table.{isEvent, accountKnown, itemKnown, figuresFit, notYetTrading, idOpen, quantityFits, entered, idFree, placeFree, questionsBefore, limitQuestions, answer}
-use Rattle.book.specs.Kept.{begun, keep}
+use Rattle.book.specs.Kept.{begun}
 use Rattle.book.proofs.Days.{answersTo, endOf, groupLineAt}
+use Rattle.book.proofs.Computed.{computes}
 
 abbrev minus : ℕ → ℤ
 minus n = negℤ (pos n)
@@ -61,11 +50,11 @@ morning =
     ∷ []
 
 morning-accepted : (answersTo roster begun morning ≡ 0 ∷ 0 ∷ 0 ∷ 0 ∷ 0 ∷ 0 ∷ 0 ∷ 0 ∷ 0 ∷ 0 ∷ []) × (groupLineAt roster (endOf roster begun morning) 1 1 ≡ minus 16200000 ∷ pos 43200000 ∷ [])
-unfolding sumOver below remaining filledBy replacedTotal closes groupOfInstrument standsIn openOn ofInstrument groupPart sumGroup potential fillMoves lineInForce limit firstNo limitsSet sizeFits movesInstrument movesGroup within positionQuestions derivatives one find insert change kept emptyBook unsets lineOf groupLineOf setLine setBlock newOrder work mark isEvent accountKnown itemKnown figuresFit notYetTrading idOpen quantityFits entered idFree placeFree questionsBefore limitQuestions answer begun keep
+unfolding computes
 morning-accepted = (refl, refl)
 
 -- tables 12 to 14: a buy of 1,000 K8D5, a put, fails the group's short limit; a sell of 1,000 K888 its own; a buy of 1,000
 -- K885 passes
 tables : (answersTo roster (endOf roster begun morning) (New Buy 1 3 5 (pos 1000) ∷ New Sell 1 13 6 (pos 1000) ∷ New Buy 1 10 7 (pos 1000) ∷ []) ≡ 24 ∷ 22 ∷ 0 ∷ []) × (groupLineAt roster (endOf roster (endOf roster begun morning) (New Buy 1 10 7 (pos 1000) ∷ [])) 1 1 ≡ minus 13800000 ∷ pos 43200000 ∷ [])
-unfolding sumOver below remaining filledBy replacedTotal closes groupOfInstrument standsIn openOn ofInstrument groupPart sumGroup potential fillMoves lineInForce limit firstNo limitsSet sizeFits movesInstrument movesGroup within positionQuestions derivatives one find insert change kept emptyBook unsets lineOf groupLineOf setLine setBlock newOrder work mark isEvent accountKnown itemKnown figuresFit notYetTrading idOpen quantityFits entered idFree placeFree questionsBefore limitQuestions answer begun keep
+unfolding computes
 tables = (refl, refl)

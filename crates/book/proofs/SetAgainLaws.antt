@@ -85,8 +85,8 @@ default-keeps-own unit b (Fill id n) a c i e = refl
 default-keeps-own unit b Junk a c i e = refl
 
 module _ (unit : Order → ℕ) (r : Roster) (b : Book) (e : Event) (a : ℕ) where
-  -- an instrument's limit is set again by a LIMIT on its own line where that is set before or after it, or on its contract's default line where its
-  -- own is not set
+  -- an instrument's limit is set again by a LIMIT on its own line where that is set before or after it, or on its contract's default
+  -- line where its own is not set
   pub instrument-set-again : (i : ℕ) → SetsAgain unit r b e a (instrument i) ↔ (((lineSet e ≡ some (ownLine a i)) × ((isSet (b .linesOf a .ownOf i) ≡ true) ⊎ (isSet (work unit b e .linesOf a .ownOf i) ≡ true))) ⊎ ((lineSet e ≡ some (defaultLine a (r .contractOf i))) × (isSet (b .linesOf a .ownOf i) ≡ false)))
   instrument-set-again i = (⊎-elim before after, ⊎-elim own-back default-back)
     where

@@ -15,7 +15,7 @@ use Rattle.ledger.specs.Positions.{Way, ofInstrument}
 use Rattle.limits.specs.Lines.{Line, GroupLine, Lines}
 use Rattle.book.specs.Market.{Market}
 use Rattle.book.specs.Books.{Book}
-use Rattle.book.specs.Sound.{RosterFits, LineFits, GroupLineFits, LinesFit, OrderFits, Ascending, nothing, next, Sound}
+use Rattle.book.specs.Sound.{RosterFits, LineFits, LinesFit, OrderFits, Ascending, nothing, next, Sound}
 
 -- "its roster would be accepted": questions 2, 3 and 4
 pub roster-fits-iff : (r : Roster) → RosterFits r ↔ (Numbered 16 (r .accounts)
