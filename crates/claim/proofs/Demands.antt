@@ -108,20 +108,6 @@ demand-2 =
     }
 
 -- ---- demand 3
--- no accepted LIMIT of the list is on the line that the position is under, so nothing sets the limit again
-not-set-again : (r : Roster) (m : List ℕ) (k : Kept) (a : ℕ) (p : Place) (later : List RawEvent)
-    → ((before : List RawEvent) (e : RawEvent) (behind : List RawEvent) (c : ℕ) (l : LimitLine) → later ≡ before ++ (e ∷ behind) → said e ≡ Limit c l → answerTo (memoryAfter gate m before) (e .bytes) ≡ 0 → (nameOf c l ≡ lineOver r (keptAfter gate derivatives m k before .book) a p) ⊎ (nameOf c l ≡ lineOver r (work one (keptAfter gate derivatives m k before .book) (said e)) a p) → ⊥)
-    → NotSetAgain gate derivatives r m k a p later
-unfolding derivatives
-not-set-again r m k a p later out =
-    not-set-again-iff gate derivatives r a p m k later .1
-    (λ before e behind cut zero sets.
-    let b = keptAfter gate derivatives m k before .book in
-    ⊎-elim
-    (λ h. let x = set-by-that-limit (said e) (lineOver r b a p) .0 h in out before e behind (x .0) (x .1) cut (x .2) zero (inl (sym (x .3))))
-    (λ h. let x = set-by-that-limit (said e) (lineOver r (work one b (said e)) a p) .0 h in out before e behind (x .0) (x .1) cut (x .2) zero (inr (sym (x .3))))
-    sets)
-
 pub demand-3 : Demand3
 unfolding derivatives
 demand-3 m s bytes opens events =
@@ -152,13 +138,14 @@ answers-count m [] = refl
 answers-count m (e ∷ es) = ap suc (answers-count (after m e) es)
 
 pub run : Run
-run = record { events = events; unsound = unsound-run }
-  where
-    events : (m : List ℕ) (whole : List RawEvent) (last : RawEvent) (room : List ℕ) → ((e : RawEvent) → List·Memᴰ e whole → length (e .bytes) ≡ 48) → 1 ≤ length (last .bytes) → length (last .bytes) ≤ 48 → length whole < length room → (eventsFor (joined (whole ++ (last ∷ []))) room ≡ map (λ e. e .bytes) (whole ++ (last ∷ []))) × (memoryOver m (map (λ e. e .bytes) (whole ++ (last ∷ []))) ≡ memoryAfter gate m (whole ++ (last ∷ []))) × (answered m (joined (whole ++ (last ∷ []))) room ≡ answersOver m (map (λ e. e .bytes) (whole ++ (last ∷ []))) ++ drop (length (whole ++ (last ∷ []))) room)
-    events m whole last room full some-bytes short space =
-        let es = whole ++ (last ∷ []) in
-        let worked = run-is-the-list .worked es room (one-by-one whole last full some-bytes short) (omega (arith, length-append whole (last ∷ []))) in (
-          worked,
-          run-is-the-list .memory m es,
-          rw worked (rw (answers-count m (map (λ e. e .bytes) es), length-map es (λ e. e .bytes)) refl),
-        )
+run =
+    record {
+      events = λ m whole last room full some-bytes short space.
+          let es = whole ++ (last ∷ []) in
+          let worked = run-is-the-list .worked es room (one-by-one whole last full some-bytes short) (omega (arith, length-append whole (last ∷ []))) in (
+            worked,
+            run-is-the-list .memory m es,
+            rw worked (rw (answers-count m (map (λ e. e .bytes) es), length-map es (λ e. e .bytes)) refl),
+          );
+      unsound = unsound-run;
+    }

@@ -62,7 +62,10 @@ pub record Demand2 : Type 0 where
       (m s : List ℕ) (n : ℕ)
       → n ≢ 0
       → (openingAnswer m s ≡ n)
-      ↔ ((before : List Question) × (behind : List Question) × (openingQuestions m s ≡ before ++ (q n false ∷ behind)) × (allPass before ≡ true))
+      ↔ ((before : List Question)
+      × (behind : List Question)
+      × (openingQuestions m s ≡ before ++ (q n false ∷ behind))
+      × (allPass before ≡ true))
   pub roster-accepted : (m s : List ℕ) → (openingAnswer m s ≡ 0) ↔ (allPass (openingQuestions m s) ≡ true)
   pub roster-numbers : (m s : List ℕ) → map (λ x. x .number) (openingQuestions m s) ≡ 1 ∷ 2 ∷ 3 ∷ 4 ∷ []
   -- an event likewise; 21 to 24 are asked of an order that is entered, or raised
@@ -70,7 +73,10 @@ pub record Demand2 : Type 0 where
       (m e : List ℕ) (n : ℕ)
       → n ≢ 0
       → (answerTo m e ≡ n)
-      ↔ ((before : List Question) × (behind : List Question) × (eventQuestions m e ≡ before ++ (q n false ∷ behind)) × (allPass before ≡ true))
+      ↔ ((before : List Question)
+      × (behind : List Question)
+      × (eventQuestions m e ≡ before ++ (q n false ∷ behind))
+      × (allPass before ≡ true))
   pub event-accepted : (m e : List ℕ) → (answerTo m e ≡ 0) ↔ (allPass (eventQuestions m e) ≡ true)
   pub event-numbers :
       (m e : List ℕ)
@@ -82,14 +88,24 @@ pub record Demand2 : Type 0 where
       (m : List ℕ) (a i n : ℕ)
       → n ≢ 0
       → (instrumentAnswer m a i ≡ n)
-      ↔ ((before : List Question) × (behind : List Question) × (readingQuestions m (rosterOf m .instruments) a i ≡ before ++ (q n false ∷ behind)) × (allPass before ≡ true))
-  pub instrument-accepted : (m : List ℕ) (a i : ℕ) → (instrumentAnswer m a i ≡ 0) ↔ (allPass (readingQuestions m (rosterOf m .instruments) a i) ≡ true)
+      ↔ ((before : List Question)
+      × (behind : List Question)
+      × (readingQuestions m (rosterOf m .instruments) a i ≡ before ++ (q n false ∷ behind))
+      × (allPass before ≡ true))
+  pub instrument-accepted :
+      (m : List ℕ) (a i : ℕ)
+      → (instrumentAnswer m a i ≡ 0) ↔ (allPass (readingQuestions m (rosterOf m .instruments) a i) ≡ true)
   pub group-refused :
       (m : List ℕ) (a g n : ℕ)
       → n ≢ 0
       → (groupAnswer m a g ≡ n)
-      ↔ ((before : List Question) × (behind : List Question) × (readingQuestions m (rosterOf m .groups) a g ≡ before ++ (q n false ∷ behind)) × (allPass before ≡ true))
-  pub group-accepted : (m : List ℕ) (a g : ℕ) → (groupAnswer m a g ≡ 0) ↔ (allPass (readingQuestions m (rosterOf m .groups) a g) ≡ true)
+      ↔ ((before : List Question)
+      × (behind : List Question)
+      × (readingQuestions m (rosterOf m .groups) a g ≡ before ++ (q n false ∷ behind))
+      × (allPass before ≡ true))
+  pub group-accepted :
+      (m : List ℕ) (a g : ℕ)
+      → (groupAnswer m a g ≡ 0) ↔ (allPass (readingQuestions m (rosterOf m .groups) a g) ≡ true)
   pub reading-numbers : (m : List ℕ) (items a n : ℕ) → map (λ x. x .number) (readingQuestions m items a n) ≡ 5 ∷ 7 ∷ 8 ∷ []
   -- what is reported: S, PCI = S + B and PVI = −S + V; PCC and PVC. `before` is what the output held, and a refusal leaves it
   pub instrument-reported :
@@ -193,4 +209,7 @@ pub record Run : Type 0 where
       × (memoryOver m each ≡ memoryAfter gate m events)
       × (answered m (joined events) room ≡ answersOver m each ++ drop (length events) room))
   -- question 5 is asked once: a memory that holds no sound desk answers 5 to each, and stays as it was
-  pub unsound : (m : List ℕ) (es : List (List ℕ)) → soundDesk m ≡ false → (answersOver m es ≡ replicate (length es) 5) × (memoryOver m es ≡ m)
+  pub unsound :
+      (m : List ℕ) (es : List (List ℕ))
+      → soundDesk m ≡ false
+      → (answersOver m es ≡ replicate (length es) 5) × (memoryOver m es ≡ m)
