@@ -1,37 +1,29 @@
 -- The three demands as the claim says them, each taken from the theorem of the same name in the crate desk.
-use Prim.Native.Nat.{ℕ, suc, _≤_, _<_}
+use Prim.Native.Nat.{ℕ, suc, _≤_}
 use mathlib.Core.Path.{_≡_, refl, sym, ap, _∙_}
 use mathlib.Core.Logic.{_⊎_, inl, inr, ⊎-elim, _↔_, _≢_}
 use mathlib.Core.Bool.{true, false, cond}
 use mathlib.Core.List.{List, [], _∷_, _++_, map, List·Memᴰ, List·Memᴰ·head, List·Memᴰ·tail}
 use mathlib.Core.Option.{Option, none, some}
 use native.Mathlib.Omega.{arith}
-use lib.ListN.{length, drop, length-append, length-map}
+use lib.ListN.{length, length-append, length-map}
 use Rattle.ledger.specs.declared.order.Order.{Order}
-use Rattle.ledger.specs.Derivatives.{one}
-use Rattle.ledger.specs.Positions.{Place}
-use Rattle.ledger.specs.Roster.{Roster}
 use Rattle.limits.specs.Lines.{isSet}
 use Rattle.limits.specs.Questions.{Question, allPass}
-use Rattle.book.specs.declared.LimitLine.{LimitLine}
-use Rattle.book.specs.declared.Event.the-variants.{Limit}
 use Rattle.book.specs.Market.{derivatives}
 use Rattle.book.specs.Decoding.{decode}
-use Rattle.book.specs.Books.{work}
 use Rattle.book.specs.Table.{q, entered}
-use Rattle.book.specs.Kept.{RawEvent, said, Kept, memoryAfter, keptAfter}
-use Rattle.book.specs.SetAgain.{nameOf, lineOver}
-use Rattle.book.specs.Demand3.{NotSetAgain}
+use Rattle.book.specs.Kept.{RawEvent, said}
 use Rattle.book.proofs.SetAgainLaws.{set-by-that-limit}
 use Rattle.book.proofs.NotSetAgainLaws.{not-set-again-iff}
 use Rattle.book.proofs.TableLaws.{positionNumbers, numbers-in-order}
 use Rattle.layout.specs.View.{rosterOf, bookOf, tradingOf}
 use Rattle.soundness.specs.Soundness.{soundDesk}
-use Rattle.opening.specs.Questions.{openingQuestions}
+use Rattle.opening.specs.Questions.{rosterFrom, openingQuestions}
 use Rattle.reading.specs.Reading.{readingQuestions}
-use Rattle.desk.specs.Step.{eventQuestions, answerTo, after}
-use Rattle.desk.specs.Days.{answersOver, memoryOver}
-use Rattle.desk.specs.Run.{Whole, eventsFor, answered, joined}
+use Rattle.desk.specs.Step.{eventQuestions, after}
+use Rattle.desk.specs.Days.{answersOver}
+use Rattle.desk.specs.Run.{Whole, answered}
 use Rattle.desk.specs.Demands.{OneOf, FirstFailed, Answers, gate}
 use Rattle.desk.proofs.Demands.{demand-1 as desk-demand-1, demand-2 as desk-demand-2, demand-3 as desk-demand-3}
 use Rattle.desk.proofs.RunList.{run-is-the-list, unsound-run}
@@ -116,7 +108,13 @@ demand-3 m s bytes opens events =
           let j = d .judged events n o (record { enters = enters; passes = passes }) in (
             j .refused,
             λ zero p w moves later out.
-                let kept = j .accepted zero p w moves later (not-set-again _ _ _ (o .account) p later out) in
+                -- what sets a line is a LIMIT, and none is on the line that the position is under
+                let kept = j .accepted zero p w moves later
+                (not-set-again-iff gate derivatives (rosterFrom s) (o .account) p _ _ later .1
+                (λ before e behind cut accepted.
+                ⊎-elim
+                (λ h. let x = set-by-that-limit (said e) _ .0 h in out before e behind (x .0) (x .1) cut (x .2) accepted (inl (sym (x .3))))
+                (λ h. let x = set-by-that-limit (said e) _ .0 h in out before e behind (x .0) (x .1) cut (x .2) accepted (inr (sym (x .3)))))) in
                 (kept .same, kept .stands, kept .filled),
           ),
       d .answered events,
