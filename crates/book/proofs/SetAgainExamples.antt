@@ -88,3 +88,12 @@ own-goes = inl refl
 group-unset : Again (Limit 1 (OfGroup 1 (negsuc 0) (negsuc 0))) (group 1)
 unfolding lineSet lineOver work setLine groupLineOf
 group-unset = inl refl
+
+-- the own line of another instrument, and of another account
+another-own-line : ¬ Again (Limit 1 (Own 1 (figures (pos 5)))) (instrument 2)
+unfolding lineSet lineOver work setLine lineOf unsets
+another-own-line = ⊎-elim (λ e. let z : _≡_ {A = ℕ} 1 2 = cc in omega arith) (λ e. let z : _≡_ {A = ℕ} 1 2 = cc in omega arith)
+
+own-line-of-another : ¬ Again (Limit 2 (Own 2 (figures (pos 5)))) (instrument 2)
+unfolding lineSet lineOver work setLine lineOf unsets
+own-line-of-another = ⊎-elim (λ e. let z : _≡_ {A = ℕ} 1 2 = cc in omega arith) (λ e. let z : _≡_ {A = ℕ} 1 2 = cc in omega arith)

@@ -2,8 +2,9 @@
 -- accepted at its limit, and what may come after it. Two accounts, groups and contracts. Contract 1, of group 1, has instruments 1, of
 -- weight 10000, and 2, a put of weight −5000; contract 2, of group 2, has instrument 3, of weight 10000.
 use Prim.Native.Nat.{ℕ}
-use mathlib.Core.List.{List, [], _∷_}
+use mathlib.Core.List.{List, [], _∷_, _++_}
 use lib.IntN.{pos, negsuc, negℤ}
+use lib.ListN.{take}
 use Rattle.book.specs.EventBytes.{limitBytes, line, groupLine, balanceBytes, balance, blockBytes, buy, sell, replaceBytes, cancelBytes, fillBytes}
 
 -- account 1's lines of contract 1 and group 1; two contracts of instrument 1 short; buy 50 of it, id 7, so that PCI is 48 and PCC 48
@@ -78,3 +79,29 @@ afternoon =
 -- ---- a LIMIT that sets the group's limit again, and what it lets through: buy 70 of instrument 1
 unfoldable pub evening : List (List ℕ)
 evening = blockBytes 1 1 0 0 ∷ groupLine 100 100 ∷ buy 1 9 70 ∷ []
+
+-- ---- N after other lists
+-- order 7 filled in part, junk, and a FILL of an order that is not open
+abbrev pub noon : List (List ℕ)
+noon = morning ++ (fillBytes 7 12 ∷ (255 ∷ []) ∷ fillBytes 99 1 ∷ [])
+
+-- all of the day but its last order
+abbrev pub late : List (List ℕ)
+late = morning ++ (putSoldToTheLimit ∷ (afternoon ++ take 2 evening))
+
+-- instrument 1 has a line of its own; and LIMITs on the own line of instrument 2, on the default line under it, and on the own line of
+-- instrument 1 for account 2
+abbrev pub ownLineSet : List (List ℕ)
+ownLineSet = limitBytes 1 1 1 (pos 100) (pos 100) (pos 100) (pos 100) ∷ groupLine 60 40 ∷ []
+
+abbrev pub elsewhere : List (List ℕ)
+elsewhere =
+    limitBytes 1 1 2 (pos 0) (pos 0) (pos 0) (pos 0)
+    ∷ limitBytes 2 1 1 (pos 0) (pos 0) (pos 0) (pos 0)
+    ∷ limitBytes 1 2 1 (pos 0) (pos 0) (pos 0) (pos 0)
+    ∷ []
+
+-- account 2's lines of contract 2 and group 2
+abbrev pub secondAccount : List (List ℕ)
+secondAccount =
+    limitBytes 2 2 2 (pos 30) (pos 30) (pos 30) (pos 30) ∷ limitBytes 3 2 2 (pos 25) (pos 25) (pos 0) (pos 0) ∷ []

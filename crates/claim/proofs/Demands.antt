@@ -145,5 +145,6 @@ run =
             run-is-the-list .memory m es,
             rw worked (rw (answers-count m (map (λ e. e .bytes) es), length-map es (λ e. e .bytes)) refl),
           );
+      next = run-is-the-list .next;
       unsound = unsound-run;
     }

@@ -1,7 +1,10 @@
 pub mod Demands
+pub mod Back
 pub mod Uses
 pub mod Plainly
 pub mod Examples
 pub mod Opened
 pub mod ListingDay
+pub mod LaterOrders
 pub mod LongerDay
+pub mod Drawn

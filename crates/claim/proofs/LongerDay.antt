@@ -24,6 +24,7 @@ use Rattle.claim.specs.Examples.{OrderRefused, OrderAccepted, LimitSetAg
 use Rattle.claim.specs.Days.{order, longerRoster, LongerDay, InEveryMemory}
 use Rattle.claim.proofs.Demands.{demand-2}
 use Rattle.claim.proofs.Plainly.{plainly, answers-plainly}
+use Rattle.claim.proofs.LaterOrders.{too-long-in-part, filled-and-raised-too-far, filled-and-raised, in-the-evening, under-own-line, second-sells, second-buys}
 use Rattle.claim.proofs.Opened.{opened, not-zero, put-not-zero}
 use Rattle.claim.proofs.Examples.{asked, refused, accepted, limit-set-again}
 
@@ -126,6 +127,13 @@ module _ (m : List ℕ) (bytes : Bytes m) (opens : openingAnswer m longerRoster 
         raised-of-instrument = raised .0;
         raised-of-group = raised .1;
         sold-at-once = sold-at-once;
+        too-long-in-part = too-long-in-part m bytes opens;
+        filled-and-raised-too-far = filled-and-raised-too-far m bytes opens;
+        filled-and-raised = filled-and-raised m bytes opens;
+        in-the-evening = in-the-evening m bytes opens;
+        under-own-line = under-own-line m bytes opens;
+        second-sells = second-sells m bytes opens;
+        second-buys = second-buys m bytes opens;
         set-again = set-again;
       }
 

@@ -208,6 +208,11 @@ pub record Run : Type 0 where
       (eventsFor (joined events) room ≡ each)
       × (memoryOver m each ≡ memoryAfter gate m events)
       × (answered m (joined events) room ≡ answersOver m each ++ drop (length events) room))
+  -- one event more: its answer stands behind the others, and is that at the memory which they leave
+  pub next :
+      (m : List ℕ) (es : List RawEvent) (n : RawEvent)
+      → answersOver m (map (λ e. e .bytes) (es ++ (n ∷ [])))
+      ≡ answersOver m (map (λ e. e .bytes) es) ++ (answerTo (memoryAfter gate m es) (n .bytes) ∷ [])
   -- question 5 is asked once: a memory that holds no sound desk answers 5 to each, and stays as it was
   pub unsound :
       (m : List ℕ) (es : List (List ℕ))

@@ -3,16 +3,16 @@ use Prim.Native.Nat.{ℕ, _≤_}
 use mathlib.Core.Path.{_≡_}
 use mathlib.Core.List.{List, [], _∷_, _++_, map}
 use lib.IntN.{ℤ, pos, negsuc}
-use lib.ListN.{length, take, drop}
+use lib.ListN.{length, take, drop, replicate}
 use Rattle.integers.specs.TwosComplement.{bitsOf}
 use Rattle.words.specs.Bytes.{Bytes}
 use Rattle.ledger.specs.declared.order.Order.{Order}
 use Rattle.ledger.specs.declared.order.Side.{Side}
 use Rattle.ledger.specs.declared.order.Side.the-variants.{Buy, Sell}
 use Rattle.ledger.specs.Positions.{instrument, group, long, short}
-use Rattle.book.specs.EventBytes.{bytesOf, buy, sell}
+use Rattle.book.specs.EventBytes.{bytesOf, newBytes, buy, sell}
 use Rattle.book.specs.Listing.{listingEvents}
-use Rattle.book.specs.LongerDay.{morning, tooLong, tooShort, putSold, putBought, raisedTooFar, putSoldToTheLimit, putBoughtToTheLimit, raisedToTheLimit, afternoon, evening}
+use Rattle.book.specs.LongerDay.{morning, tooLong, tooShort, putSold, putBought, raisedTooFar, putSoldToTheLimit, putBoughtToTheLimit, raisedToTheLimit, afternoon, evening, noon, late, ownLineSet, elsewhere, secondAccount}
 use Rattle.book.specs.Written.{writtenAll}
 use Rattle.opening.specs.Questions.{openingAnswer}
 use Rattle.opening.specs.Opening.{afterOpening}
@@ -22,10 +22,13 @@ use Rattle.desk.specs.Run.{eventsFor, answered, joined}
 use Rattle.desk.specs.Listing.{listingRoster}
 use Rattle.claim.specs.Examples.{memoryAt, OrderRefused, OrderAccepted, LimitSetAgain}
 
+abbrev pub orderOf : (account id item : ℕ) → Side → (total filled : ℕ) → Order
+orderOf account id item side total filled =
+    record { id = id; account = account; instrument = item; side = side; total = total; filled = filled }
+
 -- an order of account 1 of which nothing is filled
 abbrev pub order : (id item : ℕ) → Side → ℕ → Order
-order id item side total =
-    record { id = id; account = 1; instrument = item; side = side; total = total; filled = 0 }
+order id item side total = orderOf 1 id item side total 0
 
 -- ---- document 01's listing
 pub record ListingDay (m : List ℕ) : Type 0 where
@@ -88,9 +91,28 @@ pub record LongerDay (m : List ℕ) : Type 0 where
   pub raised-of-group : OrderAccepted m longerRoster morning raisedToTheLimit (order 7 1 Buy 62) (group 1) long (pos 600000) afternoon
   -- after N itself
   pub sold-at-once : OrderAccepted m longerRoster morning putSoldToTheLimit (order 8 2 Sell 24) (group 1) long (pos 600000) []
+  -- filled by a part, an order passes a limit too
+  pub too-long-in-part : OrderRefused m longerRoster morning (buy 1 8 60) (order 8 1 Buy 60) 21
+  -- after a fill, junk and a refused event: an order filled in part, raised
+  pub filled-and-raised-too-far : OrderRefused m longerRoster noon raisedTooFar (orderOf 1 7 1 Buy 63 12) 23
+  pub filled-and-raised : OrderAccepted m longerRoster noon raisedToTheLimit (orderOf 1 7 1 Buy 62 12) (group 1) long (pos 600000) afternoon
+  -- after all of the day
+  pub in-the-evening : OrderAccepted m longerRoster late (buy 1 9 70) (order 9 1 Buy 70) (group 1) long (pos 1000000) []
+  -- under a line of its own
+  pub under-own-line : OrderAccepted m longerRoster ownLineSet (buy 1 7 50) (order 7 1 Buy 50) (instrument 1) long (pos 100) elsewhere
+  -- another account, in another group
+  pub second-sells : OrderRefused m longerRoster secondAccount (newBytes 2 2 3 11 26) (orderOf 2 11 3 Sell 26 0) 24
+  pub second-buys : OrderAccepted m longerRoster secondAccount (newBytes 1 2 3 11 25) (orderOf 2 11 3 Buy 25 0) (group 2) long (pos 250000) afternoon
   -- the evening's LIMIT sets the group's limit again, and after it nothing is claimed
   pub set-again : LimitSetAgain m longerRoster morning putSoldToTheLimit (order 8 2 Sell 24) (group 1) long (pos 600000) (afternoon ++ evening)
 
 -- in every memory that is long enough
 abbrev pub InEveryMemory : (List ℕ → Type 0) → Type 0
 InEveryMemory Holds = (m : List ℕ) → Bytes m → 65536 ≤ length m → Holds m
+
+-- in one memory: with nothing left to assume
+unfoldable pub zeros : List ℕ
+zeros = replicate 65536 0
+
+abbrev pub Drawn : Type 0
+Drawn = ListingDay zeros × LongerDay zeros

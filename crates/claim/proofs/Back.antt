@@ -1,0 +1,119 @@
+-- The way back: each demand as the claim says it gives the demand as the crate desk says it, so neither can be weakened alone.
+use Prim.Native.Nat.{ℕ, _≤_, _<_}
+use mathlib.Core.Path.{_≡_, refl, sym, ap, _∙_}
+use mathlib.Core.Logic.{_⊎_, inl, inr, ⊎-elim, _↔_, _≢_}
+use mathlib.Core.Bool.{true, false}
+use mathlib.Core.List.{List, [], _∷_, _++_, List·Memᴰ, List·Memᴰ·head, List·Memᴰ·tail}
+use lib.ListN.{length}
+use Rattle.ledger.specs.Derivatives.{one}
+use Rattle.ledger.specs.Positions.{Place}
+use Rattle.ledger.specs.Roster.{Roster}
+use Rattle.limits.specs.Questions.{Question, allPass}
+use Rattle.book.specs.declared.LimitLine.{LimitLine}
+use Rattle.book.specs.declared.Event.the-variants.{Limit}
+use Rattle.book.specs.Market.{derivatives}
+use Rattle.book.specs.Books.{work}
+use Rattle.book.specs.Table.{q}
+use Rattle.book.specs.Kept.{RawEvent, said, Kept, memoryAfter, keptAfter}
+use Rattle.book.specs.SetAgain.{nameOf, lineOver}
+use Rattle.book.specs.Demand3.{NotSetAgain}
+use Rattle.book.proofs.SetAgainLaws.{set-by-that-limit}
+use Rattle.book.proofs.NotSetAgainLaws.{not-set-again-iff}
+use Rattle.desk.specs.Step.{answerTo}
+use Rattle.desk.specs.Days.{memoryOver}
+use Rattle.desk.specs.Run.{Whole, eventsFor, bytesOfEach, joined}
+use Rattle.desk.specs.Demands.{OneOf, FirstFailed, Answers, gate, Demand1 as DeskDemand1, Demand2 as DeskDemand2, Demand3 as DeskDemand3}
+use Rattle.claim.specs.Claim.{Demand1, Demand2, Demand3, Run}
+
+-- ---- demand 1
+one-of : (n : ℕ) (ns : List ℕ) → List·Memᴰ n ns → OneOf n ns
+one-of n (k ∷ ks) (List·Memᴰ·head e) = inl e
+one-of n (k ∷ ks) (List·Memᴰ·tail m) = inr (one-of n ks m)
+
+pub back-1 : Demand1 → DeskDemand1
+back-1 d =
+    record {
+      roster = λ m s. one-of _ _ (d .roster m s);
+      roster-refused = d .roster-refused;
+      event = λ m e. one-of _ _ (d .event m e);
+      event-refused = d .event-refused;
+      later-opening = d .behind-roster;
+      later-event = d .behind-event;
+    }
+
+-- ---- demand 2
+answers-back : (qs : List Question) (answer : ℕ) → ((n : ℕ) → n ≢ 0 → (answer ≡ n) ↔ ((before : List Question) × (behind : List Question) × (qs ≡ before ++ (q n false ∷ behind)) × (allPass before ≡ true))) → ((answer ≡ 0) ↔ (allPass qs ≡ true)) → Answers qs answer
+answers-back qs answer refused accepted =
+    record {
+      refused = λ n other. (λ e. there n (refused n other .0 e), λ f. refused n other .1 (back n f));
+      accepted = accepted;
+    }
+  where
+    there : (n : ℕ) → (before : List Question) × (behind : List Question) × (qs ≡ before ++ (q n false ∷ behind)) × (allPass before ≡ true) → FirstFailed qs n
+    there n x = record { before = x .0; asked = q n false; behind = x .1; table = x .2; passed = x .3; failed = refl; number = refl }
+
+    asked-no : (n : ℕ) (x : Question) → x .passes ≡ false → x .number ≡ n → x ≡ q n false
+    asked-no n x failed number = rw (← number, ← failed) refl
+
+    back : (n : ℕ) → FirstFailed qs n → (before : List Question) × (behind : List Question) × (qs ≡ before ++ (q n false ∷ behind)) × (allPass before ≡ true)
+    back n f = (f .before, f .behind, f .table ∙ ap (λ (x : Question). f .before ++ (x ∷ f .behind)) (asked-no n (f .asked) (f .failed) (f .number)), f .passed)
+
+pub back-2 : Demand2 → DeskDemand2
+back-2 d =
+    record {
+      roster = λ m s. answers-back _ _ (d .roster-refused m s) (d .roster-accepted m s);
+      event = λ m e. answers-back _ _ (d .event-refused m e) (d .event-accepted m e);
+      instrument = λ m a i. answers-back _ _ (d .instrument-refused m a i) (d .instrument-accepted m a i);
+      group = λ m a g. answers-back _ _ (d .group-refused m a g) (d .group-accepted m a g);
+      instrument-reported = d .instrument-reported;
+      group-reported = d .group-reported;
+      instrument-refused = d .instrument-left;
+      group-refused = d .group-left;
+    }
+
+-- ---- demand 3
+none-on-the-line : (r : Roster) (m : List ℕ) (k : Kept) (a : ℕ) (p : Place) (later : List RawEvent)
+    → NotSetAgain gate derivatives r m k a p later
+    → (before : List RawEvent) (e : RawEvent) (behind : List RawEvent) (c : ℕ) (l : LimitLine) → later ≡ before ++ (e ∷ behind) → said e ≡ Limit c l → answerTo (memoryAfter gate m before) (e .bytes) ≡ 0 → (nameOf c l ≡ lineOver r (keptAfter gate derivatives m k before .book) a p) ⊎ (nameOf c l ≡ lineOver r (work one (keptAfter gate derivatives m k before .book) (said e)) a p) → ⊥
+unfolding derivatives
+none-on-the-line r m k a p later out before e behind c l cut limits zero under =
+    not-set-again-iff gate derivatives r a p m k later .0 out before e behind cut zero
+    (⊎-elim
+    (λ x. inl (set-by-that-limit (said e) _ .1 (c, l, limits, sym x)))
+    (λ x. inr (set-by-that-limit (said e) _ .1 (c, l, limits, sym x)))
+    under)
+
+pub back-3 : Demand3 → DeskDemand3
+unfolding derivatives
+back-3 d m s bytes opens =
+    record {
+      judged = λ events n o j.
+          let so = d m s bytes opens events .0 n o (j .enters) (j .passes) in
+          record {
+            refused = so .0;
+            accepted = λ zero p w moves later out.
+                let h = so .1 zero p w moves later (none-on-the-line _ _ _ (o .account) p later out) in
+                record { same = h .0; stands = h .1; filled = h .2 };
+          };
+      instrument-read = λ events. d m s bytes opens events .3;
+      group-read = λ events. d m s bytes opens events .4;
+      answered = λ events. d m s bytes opens events .1;
+      never-5 = λ events. d m s bytes opens events .2;
+    }
+
+-- ---- the run
+full-before : (es : List RawEvent) (n : RawEvent) → Whole (es ++ (n ∷ [])) → (e : RawEvent) → List·Memᴰ e es → length (e .bytes) ≡ 48
+full-before (x ∷ []) n w e (List·Memᴰ·head h) = ap (λ (z : RawEvent). length (z .bytes)) h ∙ w .0
+full-before (x ∷ y ∷ es) n w e (List·Memᴰ·head h) = ap (λ (z : RawEvent). length (z .bytes)) h ∙ w .0
+full-before (x ∷ y ∷ es) n w e (List·Memᴰ·tail h) = full-before (y ∷ es) n (w .1) e h
+
+last-of : (es : List RawEvent) (n : RawEvent) → Whole (es ++ (n ∷ [])) → (1 ≤ length (n .bytes)) × (length (n .bytes) ≤ 48)
+last-of [] n w = w
+last-of (x ∷ []) n w = w .1
+last-of (x ∷ y ∷ es) n w = last-of (y ∷ es) n (w .1)
+
+pub run-back : Run → (m : List ℕ) (es : List RawEvent) (n : RawEvent) (room : List ℕ) → Whole (es ++ (n ∷ [])) → length es < length room → (eventsFor (joined (es ++ (n ∷ []))) room ≡ bytesOfEach (es ++ (n ∷ []))) × (memoryOver m (bytesOfEach (es ++ (n ∷ []))) ≡ memoryAfter gate m (es ++ (n ∷ [])))
+run-back r m es n room w space =
+    let last = last-of es n w in
+    let so = r .events m es n room (full-before es n w) (last .0) (last .1) space in
+    (so .0, so .1)
