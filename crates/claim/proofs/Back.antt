@@ -20,7 +20,7 @@ use Rattle.book.specs.Demand3.{NotSetAgain}
 use Rattle.book.proofs.SetAgainLaws.{set-by-that-limit}
 use Rattle.book.proofs.NotSetAgainLaws.{not-set-again-iff}
 use Rattle.desk.specs.Step.{answerTo}
-use Rattle.desk.specs.Days.{memoryOver}
+use Rattle.desk.specs.Days.{answersOver, memoryOver}
 use Rattle.desk.specs.Run.{Whole, eventsFor, bytesOfEach, joined}
 use Rattle.desk.specs.Demands.{OneOf, FirstFailed, Answers, gate, Demand1 as DeskDemand1, Demand2 as DeskDemand2, Demand3 as DeskDemand3}
 use Rattle.claim.specs.Claim.{Demand1, Demand2, Demand3, Run}
@@ -117,3 +117,6 @@ run-back r m es n room w space =
     let last = last-of es n w in
     let so = r .events m es n room (full-before es n w) (last .0) (last .1) space in
     (so .0, so .1)
+
+pub next-back : Run → (m : List ℕ) (es : List RawEvent) (n : RawEvent) → answersOver m (bytesOfEach (es ++ (n ∷ []))) ≡ answersOver m (bytesOfEach es) ++ (answerTo (memoryAfter gate m es) (n .bytes) ∷ [])
+next-back r = r .next

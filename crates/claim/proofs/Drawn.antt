@@ -1,10 +1,12 @@
--- The days in one memory, 65,536 zeros: nothing is left to assume.
+-- The days and the starred edges in one memory, 65,536 zeros: nothing is left to assume.
 use Prim.Native.Nat.{ℕ, zero, suc, _≤_, _<_}
 use mathlib.Core.Path.{_≡_, refl, sym, ap, subst}
 use mathlib.Core.List.{List}
 use native.Mathlib.Omega.{arith}
 use lib.ListN.{length, getD, replicate}
 use Rattle.words.specs.Bytes.{Bytes}
+use Rattle.desk.specs.Edges.{starredEdges}
+use Rattle.desk.proofs.Edges.{starred-edges}
 use Rattle.claim.specs.Days.{zeros, Drawn}
 use Rattle.claim.proofs.ListingDay.{listing-day}
 use Rattle.claim.proofs.LongerDay.{longer-day}
@@ -30,4 +32,10 @@ unfolding zeros
 long-enough = subst (λ n. 65536 ≤ n) (sym (as-long 65536)) (omega arith)
 
 pub drawn : Drawn
-drawn = (listing-day zeros are-bytes long-enough, longer-day zeros are-bytes long-enough)
+unfolding starredEdges
+drawn = (
+  listing-day zeros are-bytes long-enough,
+  longer-day zeros are-bytes long-enough,
+  starred-edges zeros are-bytes long-enough,
+  refl,
+)

@@ -20,6 +20,7 @@ use Rattle.reading.specs.Reading.{instrumentAnswer, groupAnswer, instrumentRepo
 use Rattle.desk.specs.Days.{answersOver, memoryOver}
 use Rattle.desk.specs.Run.{eventsFor, answered, joined}
 use Rattle.desk.specs.Listing.{listingRoster}
+use Rattle.desk.specs.Edges.{AllHold, edgeRoster, starredEdges}
 use Rattle.claim.specs.Examples.{memoryAt, OrderRefused, OrderAccepted, LimitSetAgain}
 
 abbrev pub orderOf : (account id item : ℕ) → Side → (total filled : ℕ) → Order
@@ -114,5 +115,10 @@ InEveryMemory Holds = (m : List ℕ) → Bytes m → 65536 ≤ length m → Hold
 unfoldable pub zeros : List ℕ
 zeros = replicate 65536 0
 
+-- both days, and document 01's starred edges (crates/desk/specs/Edges.antt), nine of them, with these answers
 abbrev pub Drawn : Type 0
-Drawn = ListingDay zeros × LongerDay zeros
+Drawn =
+    ListingDay zeros
+    × LongerDay zeros
+    × AllHold zeros edgeRoster starredEdges
+    × (map (λ c. c .answer) starredEdges ≡ 20 ∷ 22 ∷ 0 ∷ 0 ∷ 0 ∷ 0 ∷ 21 ∷ 23 ∷ 0 ∷ [])
