@@ -44,8 +44,12 @@ pub record ListingDay (m : List ℕ) : Type 0 where
       → (answered (afterOpening m listingRoster) (joined (writtenAll listingEvents)) room ≡ 0 ∷ 0 ∷ 0 ∷ 0 ∷ 23 ∷ 0 ∷ 0 ∷ 0 ∷ drop 8 room)
       × (memoryOver (afterOpening m listingRoster) (eventsFor (joined (writtenAll listingEvents)) room) ≡ memoryAt m listingRoster listingEvents)
   -- event 4, buy 62 of instrument 1: accepted, and through all that follows neither position is past its limit
-  pub buy-of-instrument : OrderAccepted m listingRoster (take 3 listingEvents) (buy 1 7 62) (order 7 1 Buy 62) (instrument 1) long (pos 100) (drop 4 listingEvents)
-  pub buy-of-group : OrderAccepted m listingRoster (take 3 listingEvents) (buy 1 7 62) (order 7 1 Buy 62) (group 1) long (pos 600000) (drop 4 listingEvents)
+  pub buy-of-instrument :
+      OrderAccepted m listingRoster (take 3 listingEvents) (buy 1 7 62) (order 7 1 Buy 62) (instrument 1) long (pos 100)
+      (drop 4 listingEvents)
+  pub buy-of-group :
+      OrderAccepted m listingRoster (take 3 listingEvents) (buy 1 7 62) (order 7 1 Buy 62) (group 1) long (pos 600000)
+      (drop 4 listingEvents)
   -- event 5, a put sold
   pub put-sold : OrderRefused m listingRoster (take 4 listingEvents) (sell 2 8 1) (order 8 2 Sell 1) 23
   -- the I and G lines; `before` is what the output held
@@ -84,11 +88,14 @@ pub record LongerDay (m : List ℕ) : Type 0 where
   pub put-bought : OrderRefused m longerRoster morning putBought (order 8 2 Buy 77) 24
   pub raised-too-far : OrderRefused m longerRoster morning raisedTooFar (order 7 1 Buy 63) 23
   -- accepted: of the instrument and of the group, through the afternoon
-  pub sold-of-instrument : OrderAccepted m longerRoster morning putSoldToTheLimit (order 8 2 Sell 24) (instrument 2) short (pos 100) afternoon
+  pub sold-of-instrument :
+      OrderAccepted m longerRoster morning putSoldToTheLimit (order 8 2 Sell 24) (instrument 2) short (pos 100) afternoon
   pub sold-of-group : OrderAccepted m longerRoster morning putSoldToTheLimit (order 8 2 Sell 24) (group 1) long (pos 600000) afternoon
-  pub bought-of-instrument : OrderAccepted m longerRoster morning putBoughtToTheLimit (order 8 2 Buy 76) (instrument 2) long (pos 100) afternoon
+  pub bought-of-instrument :
+      OrderAccepted m longerRoster morning putBoughtToTheLimit (order 8 2 Buy 76) (instrument 2) long (pos 100) afternoon
   pub bought-of-group : OrderAccepted m longerRoster morning putBoughtToTheLimit (order 8 2 Buy 76) (group 1) short (pos 400000) afternoon
-  pub raised-of-instrument : OrderAccepted m longerRoster morning raisedToTheLimit (order 7 1 Buy 62) (instrument 1) long (pos 100) afternoon
+  pub raised-of-instrument :
+      OrderAccepted m longerRoster morning raisedToTheLimit (order 7 1 Buy 62) (instrument 1) long (pos 100) afternoon
   pub raised-of-group : OrderAccepted m longerRoster morning raisedToTheLimit (order 7 1 Buy 62) (group 1) long (pos 600000) afternoon
   -- after N itself
   pub sold-at-once : OrderAccepted m longerRoster morning putSoldToTheLimit (order 8 2 Sell 24) (group 1) long (pos 600000) []
@@ -103,9 +110,11 @@ pub record LongerDay (m : List ℕ) : Type 0 where
   pub under-own-line : OrderAccepted m longerRoster ownLineSet (buy 1 7 50) (order 7 1 Buy 50) (instrument 1) long (pos 100) elsewhere
   -- another account, in another group
   pub second-sells : OrderRefused m longerRoster secondAccount (newBytes 2 2 3 11 26) (orderOf 2 11 3 Sell 26 0) 24
-  pub second-buys : OrderAccepted m longerRoster secondAccount (newBytes 1 2 3 11 25) (orderOf 2 11 3 Buy 25 0) (group 2) long (pos 250000) afternoon
+  pub second-buys :
+      OrderAccepted m longerRoster secondAccount (newBytes 1 2 3 11 25) (orderOf 2 11 3 Buy 25 0) (group 2) long (pos 250000) afternoon
   -- the evening's LIMIT sets the group's limit again, and after it nothing is claimed
-  pub set-again : LimitSetAgain m longerRoster morning putSoldToTheLimit (order 8 2 Sell 24) (group 1) long (pos 600000) (afternoon ++ evening)
+  pub set-again :
+      LimitSetAgain m longerRoster morning putSoldToTheLimit (order 8 2 Sell 24) (group 1) long (pos 600000) (afternoon ++ evening)
 
 -- in every memory that is long enough
 abbrev pub InEveryMemory : (List ℕ → Type 0) → Type 0

@@ -39,7 +39,8 @@ keptAt m s events = keptAfter gate derivatives (afterOpening m s) begun (written
 pub record OrderAsked (m s : List ℕ) (events : List (List ℕ)) (n : List ℕ) (o : Order) : Type 0 where
   pub bytes : asBytes n ≡ n
   pub enters : entered (keptAt m s events .book) (said (written n)) ≡ some o
-  pub passes : allPass (questionsBefore derivatives (rosterFrom s) (keptAt m s events .book) (keptAt m s events .trading) (said (written n))) ≡ true
+  pub passes :
+      allPass (questionsBefore derivatives (rosterFrom s) (keptAt m s events .book) (keptAt m s events .trading) (said (written n))) ≡ true
 
 -- some filling of book b's orders puts a position of o's account past its limit on a side to which o's fills move it
 abbrev pub SomeFillingPast : Roster → Book → Order → Type 0

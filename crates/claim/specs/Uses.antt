@@ -30,7 +30,10 @@ pub record NumbersAndBytes : Type 0 where
   -- every byte, after any roster and any events
   pub refused-roster : (m s : List ℕ) (k : ℕ) → openingAnswer m s ≢ 0 → getD (afterOpening m s) k 0 ≡ getD m k 0
   pub refused-event : (m e : List ℕ) (k : ℕ) → answerTo m e ≢ 0 → getD (after m e) k 0 ≡ getD m k 0
-  pub behind : (m s : List ℕ) (events : List RawEvent) (k : ℕ) → 65536 ≤ k → getD (memoryAfter gate (afterOpening m s) events) k 0 ≡ getD m k 0
+  pub behind :
+      (m s : List ℕ) (events : List RawEvent) (k : ℕ)
+      → 65536 ≤ k
+      → getD (memoryAfter gate (afterOpening m s) events) k 0 ≡ getD m k 0
 
 -- ---- demand 2
 -- the answers are determined: each is its table's first question that is answered no, or 0
@@ -44,8 +47,14 @@ pub record Determined : Type 0 where
 pub record Refusals : Type 0 where
   pub roster : (m s : List ℕ) → openingAnswer m s ≢ 0 → List·Memᴰ (q (openingAnswer m s) false) (openingQuestions m s)
   pub event : (m e : List ℕ) → answerTo m e ≢ 0 → List·Memᴰ (q (answerTo m e) false) (eventQuestions m e)
-  pub instrument : (m : List ℕ) (a i : ℕ) → instrumentAnswer m a i ≢ 0 → List·Memᴰ (q (instrumentAnswer m a i) false) (readingQuestions m (rosterOf m .instruments) a i)
-  pub group : (m : List ℕ) (a g : ℕ) → groupAnswer m a g ≢ 0 → List·Memᴰ (q (groupAnswer m a g) false) (readingQuestions m (rosterOf m .groups) a g)
+  pub instrument :
+      (m : List ℕ) (a i : ℕ)
+      → instrumentAnswer m a i ≢ 0
+      → List·Memᴰ (q (instrumentAnswer m a i) false) (readingQuestions m (rosterOf m .instruments) a i)
+  pub group :
+      (m : List ℕ) (a g : ℕ)
+      → groupAnswer m a g ≢ 0
+      → List·Memᴰ (q (groupAnswer m a g) false) (readingQuestions m (rosterOf m .groups) a g)
 
 -- what an acceptance tells: the first question is answered yes
 pub record Acceptances : Type 0 where
