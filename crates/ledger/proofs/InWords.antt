@@ -19,7 +19,7 @@ use Rattle.ledger.specs.Moves.{Moves}
 -- one order more, filled by any such number, beside any filling of the others
 pub any-number : {orders : List Order} (o : Order) (n : ℕ) → n ≤ remaining o → (f : Filling orders) → (g : Filling (o ∷ orders)) × ((unit : Order → ℕ) (a : ℕ) (S : ℕ → ℤ) (i : ℕ) → after unit a S g i ≡ after unit a S f i +ℤ fillMoves unit a i o n)
 unfolding after
-any-number o n most f = (fill n most f, λ unit a S i. refl)
+any-number o n most f = (fill {o = o} n most f, λ unit a S i. refl)
 
 -- every filling of one order more is such a one
 pub no-other-number : {o : Order} {orders : List Order} (g : Filling (o ∷ orders)) → (n : ℕ) × (n ≤ remaining o) × (f : Filling orders) × ((unit : Order → ℕ) (a : ℕ) (S : ℕ → ℤ) (i : ℕ) → after unit a S g i ≡ after unit a S f i +ℤ fillMoves unit a i o n)
