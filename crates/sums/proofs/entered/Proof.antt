@@ -1,3 +1,4 @@
+-- The order is the NEW's with nothing filled, and 0 becomes its quantity; not below 0, the quantity as 64 bits is its magnitude.
 use mathlib.Core.Path.{refl}
 use mir.Syntax.{w64}
 use mir.ValLaws.{toZ-ofZ}
