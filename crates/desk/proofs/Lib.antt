@@ -1,3 +1,4 @@
+-- The desk over bytes: a step, a run, what is read, and the three demands of every memory and every list of events.
 pub mod Checks
 pub mod Opened
 pub mod Gate
