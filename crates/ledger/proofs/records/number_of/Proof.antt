@@ -1,3 +1,4 @@
+-- Each arm returns the number that the definition gives to its side: 1 for a buy, 2 for a sell.
 use borrow.Author.Needs.{needs}
 use Rattle.ledger.specs.Records.{numberOf}
 use Rattle.ledger.proofs.records.number_of.Statement.{statement}
