@@ -1,3 +1,4 @@
+-- Laws of the plain book: sound books stay sound, positions stay within limits, demand 3 of any desk; and days that are computed.
 pub mod Days
 pub mod Edges
 pub mod Listing

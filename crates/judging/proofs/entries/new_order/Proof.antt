@@ -1,3 +1,4 @@
+-- A NEW with an open id is a 13; else 14 to 17 refuse or pass, and where they pass the first no is that of 18 to 24.
 use mathlib.Core.Path.{_≡_, sym, _∙_}
 use mathlib.Core.Option.{none}
 use borrow.Author.Needs.{needs}

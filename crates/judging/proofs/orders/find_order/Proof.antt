@@ -1,3 +1,4 @@
+-- The place found is that of the book's search: `place` tells the rank of the id, which is where `found_before` begins.
 use borrow.Author.Needs.{needs}
 use Rattle.soundness.proofs.SoundDesk.{held-records}
 use Rattle.judging.proofs.Places.{held-ids}

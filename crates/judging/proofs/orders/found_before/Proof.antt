@@ -1,3 +1,4 @@
+-- The loop ends in its first turn: no id before the rank is larger, so the record before it is the order, or, ids ascending, none is.
 use Prim.Native.Nat.{_-_}
 use mathlib.Core.Path.{_≡_, refl, _∙_, sym}
 use native.Mathlib.Omega.{arith}

@@ -1,3 +1,5 @@
+-- The blocks counted are the first ones, all before the rank; where not all are, the rank is in the next block. Ids ascend, so a
+-- block whose last id is not larger lies before the rank (`at-other`), and one whose last id is larger does not (`at-larger`).
 use Prim.Native.Nat.{ℕ, _+_, _*_, _-_, _≤_, _<_}
 use native.Mathlib.Decide.{decLe}
 use native.Mathlib.Omega.{arith}

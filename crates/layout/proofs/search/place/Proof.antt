@@ -1,3 +1,4 @@
+-- The blocks of sixteen before the rank are counted, then the records of the next one: the rank is inside it, so the sum is the rank.
 use mathlib.Core.Logic.{⊎-elim}
 use native.Mathlib.Omega.{arith}
 use borrow.Author.Needs.{needs}

@@ -1,3 +1,4 @@
+-- Up to the rank each record counts one, from there on none: `at-other` and `at-larger` turn the compared id into a side of the rank.
 use Prim.Native.Nat.{ℕ, _+_, _-_, _≤_, _<_}
 use mathlib.Core.Path.{_≡_}
 use native.Mathlib.Omega.{arith}

@@ -1,3 +1,4 @@
+-- The first place from record p on is the first of all, since no record before p has the id (`seek-on`): it is p, or there is none.
 use Prim.Native.Nat.{_-_, _≤_}
 use mathlib.Core.Path.{_≡_, refl, _∙_, sym}
 use native.Mathlib.Omega.{arith}
