@@ -313,8 +313,19 @@ fn minus_two(trial: &mut Trial) {
     }
 }
 
+/// How many rows of the day the page has: their first cell is a capital and a number.
+fn rows_on_page() -> usize {
+    let first_cell = |line: &'static str| line.strip_prefix("| ")?.split(' ').next();
+    let is_row = |name: &&str| {
+        let number = name.strip_prefix(|letter: char| letter.is_ascii_uppercase());
+        number.is_some_and(|number| number.parse::<u32>().is_ok())
+    };
+    PAGE.lines().filter_map(first_cell).filter(is_row).count()
+}
+
 #[test]
 fn the_day_of_the_signs_page() {
+    assert_eq!(rows_on_page(), 75);
     let mut trial = Trial::open(&roster());
     orders(&mut trial);
     at_the_limits(&mut trial);
