@@ -1,5 +1,5 @@
 -- By how much an event moves a group's potential positions: the magnitude of the weight times what it moves those of the instrument.
-use Prim.Native.Nat.{ℕ, zero, suc, _*_, _≤_, _<_}
+use Prim.Native.Nat.{ℕ, zero, suc, _*_, _-_, _≤_, _<_}
 use mathlib.Core.Path.{_≡_, refl, sym, ap, _∙_}
 use mathlib.Core.Logic.{_≢_}
 use mathlib.Core.Bool.{cond}
@@ -8,7 +8,7 @@ use mathlib.Core.Option.{some}
 use native.Mathlib.Omega.{arith}
 use lib.Dec.{eqb}
 use lib.IntN.{ℤ, pos, negsuc, negℤ, natAbs, _+ℤ_, _-ℤ_, _*ℤ_, +ℤ-idr}
-use Rattle.integers.specs.Parts.{signed, sum-parts, difference-parts, scaled-parts}
+use Rattle.integers.specs.Parts.{signed, sum-parts, difference-parts, negation-parts, scaled-parts}
 use Rattle.integers.specs.Ring.{*ℤ-+ℤ, *ℤ-negℤ}
 use Rattle.integers.specs.Sum.{sumTo, sumTo-change}
 use Rattle.ledger.specs.declared.order.Order.{Order}
@@ -20,12 +20,12 @@ use Rattle.ledger.specs.Moves.{Moves}
 use Rattle.ledger.proofs.Ways.{by-number}
 use Rattle.ledger.proofs.Groups.{groupTerm, group-sum}
 use Rattle.ledger.proofs.Places.{weight-way, wayTo, figure, potential-figure, potential-same}
-use Rattle.ledger.proofs.Changes.{fill-level}
-use Rattle.book.specs.declared.Event.the-variants.{New, Fill}
+use Rattle.ledger.proofs.Changes.{Shifted, shift-own, shift-unmoved, fill-level}
+use Rattle.book.specs.declared.Event.the-variants.{New, Replace, Cancel, Fill}
 use Rattle.book.specs.Market.{Market, UnitKept}
 use Rattle.book.specs.OpenOrders.{find}
-use Rattle.book.specs.Books.{Book, newOrder, work}
-use Rattle.book.proofs.Shifts.{fill-shift, fill-balances}
+use Rattle.book.specs.Books.{Book, withOrders, newOrder, work}
+use Rattle.book.proofs.Shifts.{replace-shift, cancel-shift, fill-shift, fill-balances}
 use Rattle.book.proofs.Potentials.{potentialOf, new-unmoved, new-own, fill-own, fill-other-side}
 
 -- ---- a sum over a group, where one instrument's term moves by d
@@ -92,7 +92,7 @@ against-way (negsuc k) w v e = sym (opposite-twice v) ∙ ap opposite e
     opposite-twice long = refl
     opposite-twice short = refl
 
--- ---- NEW and FILL, at the group of the order's instrument
+-- ---- NEW, REPLACE, CANCEL and FILL, at the group of the order's instrument
 module _ (mk : Market) (r : Roster) (b : Book) where
   -- the side to which the order's fills move its group rises by |K| times the quantity
   pub new-group : (s : Side) (a i id : ℕ) (n : ℤ) (w : Way)
@@ -109,6 +109,59 @@ module _ (mk : Market) (r : Roster) (b : Book) where
       (λ j apart v. sym (new-unmoved mk r b a (instrument j) v s a i id n (λ m. apart (sym (m .0)))))
       (pos (mk .unit (newOrder s a i id n) * natAbs n))
       (rw way (new-own mk r b s a i id n))
+
+  -- a REPLACE moves that side by |K| times what comes to remain less what remained, a CANCEL lowers it by |K| times what remained
+  module _ (keeps : UnitKept mk) (id : ℕ) (o : Order) (found : find id (b .orders) ≡ some o) (w : Way) where
+    abbrev ownSide : Book → ℤ
+    ownSide book = potentialOf mk r book (o .account) (group (groupOfInstrument r (o .instrument))) w
+
+    abbrev counts : ℕ → ℤ
+    counts m = pos (mk .unit o * m)
+
+    shifted-group : {m m′ : ℕ} {orders : List Order} → Shifted (mk .unit) o m m′ (b .orders) orders
+        → Numbered (r .instruments) (o .instrument)
+        → Moves r o (group (groupOfInstrument r (o .instrument))) w
+        → ownSide (withOrders b orders) ≡ ownSide b +ℤ pos (natAbs (r .weight (o .instrument))) *ℤ (counts m′ -ℤ counts m)
+    unfolding potential
+    shifted-group {m} {m′} {orders} shift numbered moves =
+        let a = o .account in
+        let S = b .balanceOf a in
+        let K = r .weight (o .instrument) in
+        let x = ofInstrument (mk .unit) (b .orders) a S (o .instrument) (wayOf (o .side)) in
+        let y = ofInstrument (mk .unit) orders a S (o .instrument) (wayOf (o .side)) in
+        let way : wayBy K w ≡ wayOf (o .side) = ap (wayBy K) (sym (moves .2)) ∙ weight-way K (wayOf (o .side)) in
+        let moved : y ≡ x +ℤ (counts m′ -ℤ counts m) =
+        omega (
+          signed,
+          shift-own shift a S refl (wayOf (o .side)) refl,
+          sum-parts y (counts m),
+          sum-parts x (counts m′),
+          difference-parts (counts m′) (counts m),
+          sum-parts x (counts m′ -ℤ counts m),
+        ) in
+        group-moved (mk .unit) r a (b .orders) orders S S w (o .instrument) numbered
+        (λ j apart v. sym (shift-unmoved shift a S r (instrument j) v (λ h. apart (sym (h .0)))))
+        (counts m′ -ℤ counts m)
+        (rw way moved)
+
+    pub replace-group : (n : ℤ) → Numbered (r .instruments) (o .instrument)
+        → Moves r o (group (groupOfInstrument r (o .instrument))) w
+        → ownSide (work (mk .unit) b (Replace id n))
+        ≡ ownSide b +ℤ pos (natAbs (r .weight (o .instrument))) *ℤ (counts (natAbs n - o .filled) -ℤ counts (o .total - o .filled))
+    unfolding work
+    replace-group n = shifted-group (replace-shift mk b keeps id o found n)
+
+    pub cancel-group : Numbered (r .instruments) (o .instrument)
+        → Moves r o (group (groupOfInstrument r (o .instrument))) w
+        → ownSide (work (mk .unit) b (Cancel id))
+        ≡ ownSide b -ℤ pos (natAbs (r .weight (o .instrument))) *ℤ counts (remaining o)
+    unfolding work
+    cancel-group numbered moves =
+        let k = natAbs (r .weight (o .instrument)) in
+        let y = counts (remaining o) in
+        let less : counts 0 -ℤ y ≡ negℤ y = omega (signed, difference-parts (counts 0) y, negation-parts y) in
+        shifted-group (cancel-shift mk b keeps id o found) numbered moves
+        ∙ ap (λ (z : ℤ). ownSide b +ℤ z) (ap (λ (z : ℤ). pos k *ℤ z) less ∙ *ℤ-negℤ (pos k) y)
 
   module _ (keeps : UnitKept mk) (id : ℕ) (o : Order) (found : find id (b .orders) ≡ some o) (n : ℤ) (most : natAbs n ≤ remaining o) where
     abbrev filled : Book
