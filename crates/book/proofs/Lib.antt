@@ -12,6 +12,7 @@ pub mod TableLaws
 pub mod Marks
 pub mod Shifts
 pub mod Potentials
+pub mod GroupPotentials
 pub mod Decoded
 pub mod Within
 pub mod SoundLines
