@@ -31,19 +31,10 @@ words-moved l m q (suc n) r h =
     ∙ rw (from, to) (words-moved next m (q + 1) n (r + 1) (omega arith))
     ∙ ap (λ vs. putOrders (putWords l j vs) (r + 1) (recordsIn m (q + 1) n)) (sym (fields-in m q (omega arith)))
 
-pub copied-down : (m after : List ℕ) (q r n : ℕ) → q + n ≤ 512 → after ≡ putWords m (recordWord r) (wordsAt m (recordWord q) (n * 2)) → after ≡ putOrders m r (recordsIn m q n)
-copied-down m after q r n inside copied = copied ∙ words-moved m m q n r inside
-
-module _ (m after : List ℕ) (r n : ℕ) (inside : r + n < 512) where
-  pub moved-up : after ≡ putWords m (recordWord r + 2) (wordsAt m (recordWord r) (n * 2)) → after ≡ putOrders m (r + 1) (recordsIn m r n)
-  moved-up moved =
-      let e : recordWord r + 2 ≡ recordWord (r + 1) = omega arith in
-      moved ∙ rw e (words-moved m m r n (r + 1) (omega arith))
-
-  pub moved-down : after ≡ putWords m (recordWord r) (wordsAt m (recordWord r + 2) (n * 2)) → after ≡ putOrders m r (recordsIn m (r + 1) n)
-  moved-down moved =
-      let e : recordWord r + 2 ≡ recordWord (r + 1) = omega arith in
-      moved ∙ rw e (words-moved m m (r + 1) n r (omega arith))
+-- the same of a memory after the move, by the words j and k at which it was made
+pub moved : (m after : List ℕ) (q r n : ℕ) {j k : ℕ} → q + n ≤ 512 → j ≡ recordWord r → k ≡ recordWord q → after ≡ putWords m j (wordsAt m k (n * 2))
+    → after ≡ putOrders m r (recordsIn m q n)
+moved m after q r n inside to from is = is ∙ rw (to, from) (words-moved m m q n r inside)
 
 -- ---- records stored in two pieces
 pub puts-both : (xs ys : List Order) (m : List ℕ) (r : ℕ) → putOrders m r (xs ++ ys) ≡ putOrders (putOrders m r xs) (r + length xs) ys

@@ -3,6 +3,7 @@ ghost use mathlib.Core.Path.{_≡_};
 ghost use mathlib.Core.Option.{none, some};
 ghost use Prim.Native.Nat.{_+_, _*_, _≤_};
 ghost use lib.ListN.{length};
+ghost use Rattle.words.specs.Words.{putWord};
 ghost use Rattle.layout.specs.Layout.{memoryBytes, ownSetRow, defaultSetRow, ownRow, defaultRow};
 ghost use Rattle.layout.specs.FieldStores.{bit, storeBalance, storeMark, blockAccount, blockInstrument, blockGroup};
 ghost use Rattle.layout.specs.FieldStores.{storeLine, storeOfGroup, lineWith, groupLineWith};
@@ -44,12 +45,20 @@ fn bit_of(on: bool) -> u64
     if on { 1 } else { 0 }
 }
 
+// Word `k` says yes or no.
+fn set_bit(m: &mut [u8], k: usize, on: bool)
+    requires { ⌜ k * 8 + 8 ≤ length (now m) ⌝ }
+    ensures { λ r. ⌜ now (m .exit) ≡ putWord (now (m .entry)) k (bit on) ⌝ }
+{
+    set_word(m, k, bit_of(on));
+}
+
 // Blocks an account, or lifts its block.
 pub fn block_account(m: &mut [u8], a: usize, on: bool)
     requires { ⌜ (memoryBytes ≤ length (now m)) × (a ≤ 16) ⌝ }
     ensures { λ r. ⌜ now (m .exit) ≡ blockAccount (now (m .entry)) a on ⌝ }
 {
-    set_word(m, ACCOUNT_BLOCKS + a, bit_of(on));
+    set_bit(m, ACCOUNT_BLOCKS + a, on);
 }
 
 // Blocks an instrument for all, or lifts its block.
@@ -57,7 +66,7 @@ pub fn block_instrument(m: &mut [u8], i: usize, on: bool)
     requires { ⌜ (memoryBytes ≤ length (now m)) × (i ≤ 32) ⌝ }
     ensures { λ r. ⌜ now (m .exit) ≡ blockInstrument (now (m .entry)) i on ⌝ }
 {
-    set_word(m, INSTRUMENT_BLOCKS + i, bit_of(on));
+    set_bit(m, INSTRUMENT_BLOCKS + i, on);
 }
 
 // Blocks a group for an account, or lifts its block.
@@ -65,7 +74,7 @@ pub fn block_group(m: &mut [u8], a: usize, g: usize, on: bool)
     requires { ⌜ (memoryBytes ≤ length (now m)) × (a ≤ 16) × (g ≤ 4) ⌝ }
     ensures { λ r. ⌜ now (m .exit) ≡ blockGroup (now (m .entry)) a g on ⌝ }
 {
-    set_word(m, GROUP_BLOCKS + a * 4 + g, bit_of(on));
+    set_bit(m, GROUP_BLOCKS + a * 4 + g, on);
 }
 
 // Where a line stands: the word that says whether it is set, and the first of the two words of its figures.

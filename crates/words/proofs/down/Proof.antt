@@ -15,8 +15,8 @@ abbrev μ-loop : tie.MeasureT-loop
 loop-again : tie.Need-loop-again Inv-loop μ-loop
 loop-again c =
     let put = c .before .before in
-    falls-turn _ _ _ _ _ _ (put .before .before .before .before .before .loop .inv) (omega arith) (omega arith) (omega arith) (omega arith) (put .before .word .ensures)
-    (put .set-word .ensures) (put .set-word .kept .0)
+    falls-turn _ _ _ _ _ _ (put .before .before .before .before .before .loop .inv) (omega arith) (omega arith) (omega arith) (omega arith)
+    (put .before .word .ensures) (put .set-word .ensures) (put .set-word .kept .0)
 
 pub down-spec : {M : Type 1} → statement M
 down-spec =
