@@ -17,7 +17,8 @@ use Rattle.layout.specs.Layout.{accountBlockWord, instrumentBlockWord, g
 use Rattle.layout.specs.View.{rosterOf, flag, blocksOf, bookOf, tradingOf, view}
 use Rattle.layout.specs.FieldStores.{bit, blockAccount, blockInstrument, blockGroup}
 use Rattle.layout.proofs.GuardedTables.{tableOf, table-at, rowOf, row-at, same-blocks, same-view}
-use Rattle.layout.proofs.SameFields.{Held, groupBlockAt, blocksBy, same-flag, balances-same, marks-same, account-blocks-same, instrument-blocks-same, group-blocks-same, blocks-are}
+use Rattle.layout.proofs.SameFields.{Held, groupBlockAt, blocksBy, same-flag}
+use Rattle.layout.proofs.SameFields.{balances-same, marks-same, account-blocks-same, instrument-blocks-same, group-blocks-same, blocks-are}
 use Rattle.layout.proofs.StoreWords.{Except, except-put, except-same, flag-bit}
 use Rattle.layout.proofs.ViewStores.{one-roster, one-lines, one-orders}
 
@@ -33,17 +34,26 @@ module _ (m : List ℕ) (held : Held m) (j v : ℕ) (from : 144 ≤ j) (below : 
   block-roster = one-roster put m held j others (omega arith) (omega arith)
 
   -- the rows and the table that the word is not in are as they were
-  accounts-kept : 160 ≤ j → rowOf (rosterOf m .accounts) (λ a. flag put (accountBlockWord a)) ≡ rowOf (rosterOf m .accounts) (λ a. flag m (accountBlockWord a))
+  accounts-kept : 160 ≤ j → rowOf (rosterOf m .accounts) (λ a. flag put (accountBlockWord a))
+      ≡ rowOf (rosterOf m .accounts) (λ a. flag m (accountBlockWord a))
   accounts-kept behind = account-blocks-same put m held block-roster (except-same put m j 144 160 others (λ low high. omega arith))
 
-  instruments-kept : (160 ≤ j → j < 192 → ⊥) → rowOf (rosterOf m .instruments) (λ i. flag put (instrumentBlockWord i)) ≡ rowOf (rosterOf m .instruments) (λ i. flag m (instrumentBlockWord i))
+  instruments-kept : (160 ≤ j → j < 192 → ⊥)
+      → rowOf (rosterOf m .instruments) (λ i. flag put (instrumentBlockWord i))
+      ≡ rowOf (rosterOf m .instruments) (λ i. flag m (instrumentBlockWord i))
   instruments-kept outside = instrument-blocks-same put m held block-roster (except-same put m j 160 192 others outside)
 
-  groups-kept : j < 192 → tableOf (rosterOf m .accounts) (rosterOf m .groups) false (groupBlockAt put) ≡ tableOf (rosterOf m .accounts) (rosterOf m .groups) false (groupBlockAt m)
+  groups-kept : j < 192 → tableOf (rosterOf m .accounts) (rosterOf m .groups) false (groupBlockAt put)
+      ≡ tableOf (rosterOf m .accounts) (rosterOf m .groups) false (groupBlockAt m)
   groups-kept before = group-blocks-same put m held block-roster (except-same put m j 192 256 others (λ low high. omega arith))
 
   -- the view, from what the rows and the table say
-  block-view : (unit : Order → ℕ) (what : Blocked) (z : ℤ) {accounts instruments : ℕ → Bool} {groups : ℕ → ℕ → Bool} → rowOf (rosterOf m .accounts) (λ a. flag put (accountBlockWord a)) ≡ accounts → rowOf (rosterOf m .instruments) (λ i. flag put (instrumentBlockWord i)) ≡ instruments → tableOf (rosterOf m .accounts) (rosterOf m .groups) false (groupBlockAt put) ≡ groups → blocksBy accounts instruments groups ≡ setBlock what (not (isZero z)) (blocksOf m) → view put ≡ record { book = work unit (bookOf m) (Block what z); trading = tradingOf m }
+  block-view : (unit : Order → ℕ) (what : Blocked) (z : ℤ) {accounts instruments : ℕ → Bool} {groups : ℕ → ℕ → Bool}
+      → rowOf (rosterOf m .accounts) (λ a. flag put (accountBlockWord a)) ≡ accounts
+      → rowOf (rosterOf m .instruments) (λ i. flag put (instrumentBlockWord i)) ≡ instruments
+      → tableOf (rosterOf m .accounts) (rosterOf m .groups) false (groupBlockAt put) ≡ groups
+      → blocksBy accounts instruments groups ≡ setBlock what (not (isZero z)) (blocksOf m)
+      → view put ≡ record { book = work unit (bookOf m) (Block what z); trading = tradingOf m }
   unfolding view bookOf work
   block-view unit what z accounts instruments groups blocks =
       same-view _ _ _ _ _ _ _ _ _ _
@@ -58,7 +68,8 @@ module _ (m : List ℕ) (held : Held m) (z : ℤ) (unit : Order → ℕ) where
   abbrev on : Bool
   on = not (isZero z)
 
-  pub view-block-account : (a : ℕ) → Numbered (rosterOf m .accounts) a → view (blockAccount m a on) ≡ record { book = work unit (bookOf m) (Block (Account a) z); trading = tradingOf m }
+  pub view-block-account : (a : ℕ) → Numbered (rosterOf m .accounts) a
+      → view (blockAccount m a on) ≡ record { book = work unit (bookOf m) (Block (Account a) z); trading = tradingOf m }
   unfolding blocksOf setBlock
   view-block-account a on-a =
       let sized = held .sized in
@@ -66,23 +77,28 @@ module _ (m : List ℕ) (held : Held m) (z : ℤ) (unit : Order → ℕ) where
       block-view m held j (bit on) (omega arith) (omega arith) unit (Account a) z
       (row-at (rosterOf m .accounts) (λ b. flag m (accountBlockWord b)) (λ b. flag (putWord m j (bit on)) (accountBlockWord b)) a on on-a
       (flag-bit m j on (omega (arith, held .long)))
-      (λ b on-b other. same-flag (putWord m j (bit on)) m (accountBlockWord b) (except-put m j (bit on) (accountBlockWord b) (λ e. other (omega arith)))))
+      (λ b on-b other. same-flag (putWord m j (bit on)) m (accountBlockWord b)
+      (except-put m j (bit on) (accountBlockWord b) (λ e. other (omega arith)))))
       (instruments-kept m held j (bit on) (omega arith) (omega arith) (λ low high. omega arith))
       (groups-kept m held j (bit on) (omega arith) (omega arith) (omega arith)) refl
 
-  pub view-block-instrument : (i : ℕ) → Numbered (rosterOf m .instruments) i → view (blockInstrument m i on) ≡ record { book = work unit (bookOf m) (Block (Instrument i) z); trading = tradingOf m }
+  pub view-block-instrument : (i : ℕ) → Numbered (rosterOf m .instruments) i
+      → view (blockInstrument m i on) ≡ record { book = work unit (bookOf m) (Block (Instrument i) z); trading = tradingOf m }
   unfolding blocksOf setBlock
   view-block-instrument i on-i =
       let sized = held .sized in
       let j : ℕ = instrumentBlockWord i in
       block-view m held j (bit on) (omega arith) (omega arith) unit (Instrument i) z
       (accounts-kept m held j (bit on) (omega arith) (omega arith) (omega arith))
-      (row-at (rosterOf m .instruments) (λ b. flag m (instrumentBlockWord b)) (λ b. flag (putWord m j (bit on)) (instrumentBlockWord b)) i on on-i
+      (row-at (rosterOf m .instruments) (λ b. flag m (instrumentBlockWord b)) (λ b. flag (putWord m j (bit on)) (instrumentBlockWord b)) i
+      on on-i
       (flag-bit m j on (omega (arith, held .long)))
-      (λ b on-b other. same-flag (putWord m j (bit on)) m (instrumentBlockWord b) (except-put m j (bit on) (instrumentBlockWord b) (λ e. other (omega arith)))))
+      (λ b on-b other. same-flag (putWord m j (bit on)) m (instrumentBlockWord b)
+      (except-put m j (bit on) (instrumentBlockWord b) (λ e. other (omega arith)))))
       (groups-kept m held j (bit on) (omega arith) (omega arith) (omega arith)) refl
 
-  pub view-block-group : (a g : ℕ) → Numbered (rosterOf m .accounts) a → Numbered (rosterOf m .groups) g → view (blockGroup m a g on) ≡ record { book = work unit (bookOf m) (Block (GroupFor a g) z); trading = tradingOf m }
+  pub view-block-group : (a g : ℕ) → Numbered (rosterOf m .accounts) a → Numbered (rosterOf m .groups) g
+      → view (blockGroup m a g on) ≡ record { book = work unit (bookOf m) (Block (GroupFor a g) z); trading = tradingOf m }
   unfolding blocksOf setBlock
   view-block-group a g on-a on-g =
       let sized = held .sized in
@@ -92,5 +108,6 @@ module _ (m : List ℕ) (held : Held m) (z : ℤ) (unit : Order → ℕ) where
       (instruments-kept m held j (bit on) (omega arith) (omega arith) (λ low high. omega arith))
       (table-at (rosterOf m .accounts) (rosterOf m .groups) false (groupBlockAt m) (groupBlockAt (putWord m j (bit on))) a g on on-a on-g
       (flag-bit m j on (omega (arith, held .long)))
-      (λ b k on-b on-k apart. same-flag (putWord m j (bit on)) m (groupBlockRow b + k) (except-put m j (bit on) (groupBlockRow b + k) (λ e. apart (omega arith) (omega arith)))))
+      (λ b k on-b on-k apart. same-flag (putWord m j (bit on)) m (groupBlockRow b + k)
+      (except-put m j (bit on) (groupBlockRow b + k) (λ e. apart (omega arith) (omega arith)))))
       refl

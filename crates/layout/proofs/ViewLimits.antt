@@ -17,7 +17,8 @@ use Rattle.layout.specs.Layout.{ownSetRow, defaultSetRow, groupSetRow, o
 use Rattle.layout.specs.View.{rosterOf, linesOf, bookOf, tradingOf, view}
 use Rattle.layout.specs.FieldStores.{storeOwn, storeDefault, storeOfGroup}
 use Rattle.layout.proofs.GuardedTables.{table-at}
-use Rattle.layout.proofs.SameFields.{Same, Held, ownAt, defaultAt, ofGroupAt, same-own, same-of-group, own-same, default-same, of-group-same}
+use Rattle.layout.proofs.SameFields.{Same, Held, ownAt, defaultAt, ofGroupAt}
+use Rattle.layout.proofs.SameFields.{same-own, same-of-group, own-same, default-same, of-group-same}
 use Rattle.layout.proofs.StoreWords.{SmallLine, SmallGroupLine, line-elsewhere, line-back, group-line-elsewhere, group-line-back}
 use Rattle.layout.proofs.ViewLines.{lines-roster, lines-view, unchanged, owns, defaults, ofGroups, lines-at}
 
@@ -47,7 +48,8 @@ module _ (l m : List ℕ) (held : Held m) {a s k w : ℕ} (line : OneLine l m a 
       (own-same l m held roster (λ j low high. line .elsewhere j (λ e. omega arith) (λ b c. omega arith))
       (λ b i on-b on-i j low high. line .elsewhere j (λ e. omega arith) (λ d e. omega arith)))
 
-  default-kept : (1280 ≤ s → s < 1408 → ⊥) → (ownRow a + 66 < k + w → k < ownRow a + 82 → ⊥) → defaults m held a l ≡ at a (defaults m held a m a) (defaults m held a m)
+  default-kept : (1280 ≤ s → s < 1408 → ⊥) → (ownRow a + 66 < k + w → k < ownRow a + 82 → ⊥)
+      → defaults m held a l ≡ at a (defaults m held a m a) (defaults m held a m)
   default-kept other apart =
       let sized = held .sized in
       unchanged a _ _
@@ -63,14 +65,15 @@ module _ (l m : List ℕ) (held : Held m) {a s k w : ℕ} (line : OneLine l m a 
       (λ b g on-b on-g. line .elsewhere (groupRow b + g) (λ e. omega arith) (λ d e. omega arith)))
 
 -- ---- an instrument's own line
-module _ (m : List ℕ) (held : Held m) (a i : ℕ) (f : Figures) (small : SmallLine (lineOf f)) (on-a : Numbered (rosterOf m .accounts) a) (on-i : Numbered (rosterOf m .instruments) i) where
+module _ (m : List ℕ) (held : Held m) (a i : ℕ) (f : Figures) (small : SmallLine (lineOf f))
+    (on-a : Numbered (rosterOf m .accounts) a) (on-i : Numbered (rosterOf m .instruments) i) where
   abbrev own : List ℕ
   own = storeOwn m a i (lineOf f)
 
   own-line : OneLine own m a (ownSetRow a + i) (ownRow a + i * 2) 2
   own-line =
       let sized = held .sized in
-      record { elsewhere = line-elsewhere m (ownSetRow a + i) (ownRow a + i * 2) (lineOf f); set = omega arith; row = omega arith; account = omega arith }
+      record { set = omega arith; row = omega arith; account = omega arith; elsewhere = line-elsewhere m (ownSetRow a + i) (ownRow a + i * 2) (lineOf f) }
 
   pub view-own : (unit : Order → ℕ) → view own ≡ record { book = work unit (bookOf m) (Limit a (Own i f)); trading = tradingOf m }
   unfolding linesOf setLine
@@ -80,23 +83,27 @@ module _ (m : List ℕ) (held : Held m) (a i : ℕ) (f : Figures) (small : Small
       lines-view own m held (before own m held own-line) (after own m held own-line) unit a (Own i f)
       (lines-at m held a own (roster own m held own-line) _ _ _
       (table-at (rosterOf m .accounts) (rosterOf m .instruments) none (ownAt m) (ownAt own) a i (lineOf f) on-a on-i
-      (line-back m (ownSetRow a + i) (ownRow a + i * 2) (lineOf f) small (omega (arith, held .long)) (omega (arith, held .long)) (λ b c. omega arith))
-      (λ b k on-b on-k apart. same-own own m (ownSetRow b + k) (ownRow b + k * 2) (word (ownSetRow b + k) (λ e. apart (omega arith) (omega arith)) (λ d e. omega arith))
+      (line-back m (ownSetRow a + i) (ownRow a + i * 2) (lineOf f) small (omega (arith, held .long)) (omega (arith, held .long))
+      (λ b c. omega arith))
+      (λ b k on-b on-k apart. same-own own m (ownSetRow b + k) (ownRow b + k * 2)
+      (word (ownSetRow b + k) (λ e. apart (omega arith) (omega arith)) (λ d e. omega arith))
       (λ j low high. word j (λ e. omega arith) (λ d e. apart (omega arith) (omega arith)))))
       (default-kept own m held own-line (λ b c. omega arith) (λ b c. omega arith))
       (of-group-kept own m held own-line (omega arith) (omega arith)))
 
 -- ---- a contract's default line
-module _ (m : List ℕ) (held : Held m) (a c : ℕ) (f : Figures) (small : SmallLine (lineOf f)) (on-a : Numbered (rosterOf m .accounts) a) (on-c : Numbered (rosterOf m .contracts) c) where
+module _ (m : List ℕ) (held : Held m) (a c : ℕ) (f : Figures) (small : SmallLine (lineOf f))
+    (on-a : Numbered (rosterOf m .accounts) a) (on-c : Numbered (rosterOf m .contracts) c) where
   abbrev default : List ℕ
   default = storeDefault m a c (lineOf f)
 
   default-line : OneLine default m a (defaultSetRow a + c) (defaultRow a + c * 2) 2
   default-line =
       let sized = held .sized in
-      record { elsewhere = line-elsewhere m (defaultSetRow a + c) (defaultRow a + c * 2) (lineOf f); set = omega arith; row = omega arith; account = omega arith }
+      record { set = omega arith; row = omega arith; account = omega arith; elsewhere = line-elsewhere m (defaultSetRow a + c) (defaultRow a + c * 2) (lineOf f) }
 
-  pub view-default : (unit : Order → ℕ) → view default ≡ record { book = work unit (bookOf m) (Limit a (Default c f)); trading = tradingOf m }
+  pub view-default : (unit : Order → ℕ)
+      → view default ≡ record { book = work unit (bookOf m) (Limit a (Default c f)); trading = tradingOf m }
   unfolding linesOf setLine
   view-default unit =
       let sized = held .sized in
@@ -105,22 +112,26 @@ module _ (m : List ℕ) (held : Held m) (a c : ℕ) (f : Figures) (small : Small
       (lines-at m held a default (roster default m held default-line) _ _ _
       (own-kept default m held default-line (omega arith) (omega arith))
       (table-at (rosterOf m .accounts) (rosterOf m .contracts) none (defaultAt m) (defaultAt default) a c (lineOf f) on-a on-c
-      (line-back m (defaultSetRow a + c) (defaultRow a + c * 2) (lineOf f) small (omega (arith, held .long)) (omega (arith, held .long)) (λ b c. omega arith))
-      (λ b k on-b on-k apart. same-own default m (defaultSetRow b + k) (defaultRow b + k * 2) (word (defaultSetRow b + k) (λ e. apart (omega arith) (omega arith)) (λ d e. omega arith))
+      (line-back m (defaultSetRow a + c) (defaultRow a + c * 2) (lineOf f) small (omega (arith, held .long)) (omega (arith, held .long))
+      (λ b c. omega arith))
+      (λ b k on-b on-k apart. same-own default m (defaultSetRow b + k) (defaultRow b + k * 2)
+      (word (defaultSetRow b + k) (λ e. apart (omega arith) (omega arith)) (λ d e. omega arith))
       (λ j low high. word j (λ e. omega arith) (λ d e. apart (omega arith) (omega arith)))))
       (of-group-kept default m held default-line (omega arith) (omega arith)))
 
 -- ---- a group's line
-module _ (m : List ℕ) (held : Held m) (a g : ℕ) (x y : ℤ) (small : SmallGroupLine (groupLineOf x y)) (on-a : Numbered (rosterOf m .accounts) a) (on-g : Numbered (rosterOf m .groups) g) where
+module _ (m : List ℕ) (held : Held m) (a g : ℕ) (x y : ℤ) (small : SmallGroupLine (groupLineOf x y))
+    (on-a : Numbered (rosterOf m .accounts) a) (on-g : Numbered (rosterOf m .groups) g) where
   abbrev of-group : List ℕ
   of-group = storeOfGroup m a g (groupLineOf x y)
 
   group-line : OneLine of-group m a (groupSetRow a + g) (groupRow a + g) 1
   group-line =
       let sized = held .sized in
-      record { elsewhere = group-line-elsewhere m (groupSetRow a + g) (groupRow a + g) (groupLineOf x y); set = omega arith; row = omega arith; account = omega arith }
+      record { set = omega arith; row = omega arith; account = omega arith; elsewhere = group-line-elsewhere m (groupSetRow a + g) (groupRow a + g) (groupLineOf x y) }
 
-  pub view-of-group : (unit : Order → ℕ) → view of-group ≡ record { book = work unit (bookOf m) (Limit a (OfGroup g x y)); trading = tradingOf m }
+  pub view-of-group : (unit : Order → ℕ)
+      → view of-group ≡ record { book = work unit (bookOf m) (Limit a (OfGroup g x y)); trading = tradingOf m }
   unfolding linesOf setLine
   view-of-group unit =
       let sized = held .sized in
@@ -130,6 +141,8 @@ module _ (m : List ℕ) (held : Held m) (a g : ℕ) (x y : ℤ) (small : SmallGr
       (own-kept of-group m held group-line (omega arith) (omega arith))
       (default-kept of-group m held group-line (λ b c. omega arith) (λ b c. omega arith))
       (table-at (rosterOf m .accounts) (rosterOf m .groups) none (ofGroupAt m) (ofGroupAt of-group) a g (groupLineOf x y) on-a on-g
-      (group-line-back m (groupSetRow a + g) (groupRow a + g) (groupLineOf x y) small (omega (arith, held .long)) (omega (arith, held .long)) (λ b c. omega arith))
-      (λ b k on-b on-k apart. same-of-group of-group m (groupSetRow b + k) (groupRow b + k) (word (groupSetRow b + k) (λ e. apart (omega arith) (omega arith)) (λ d e. omega arith))
+      (group-line-back m (groupSetRow a + g) (groupRow a + g) (groupLineOf x y) small (omega (arith, held .long))
+      (omega (arith, held .long)) (λ b c. omega arith))
+      (λ b k on-b on-k apart. same-of-group of-group m (groupSetRow b + k) (groupRow b + k)
+      (word (groupSetRow b + k) (λ e. apart (omega arith) (omega arith)) (λ d e. omega arith))
       (word (groupRow b + k) (λ e. omega arith) (λ d e. apart (omega arith) (omega arith))))))

@@ -20,21 +20,24 @@ use Rattle.layout.specs.Layout.{countWord, firstWord}
 use Rattle.layout.specs.View.{rosterOf, linesOf, bookOf, tradingOf, view}
 use Rattle.layout.proofs.RosterLaws.{roster-same}
 use Rattle.layout.proofs.GuardedTables.{tableOf, same-lines, same-view}
-use Rattle.layout.proofs.SameFields.{Same, Held, ownAt, defaultAt, ofGroupAt, linesBy, balances-same, blocks-same, marks-same, orders-same, lines-are}
+use Rattle.layout.proofs.SameFields.{Same, Held, ownAt, defaultAt, ofGroupAt, linesBy}
+use Rattle.layout.proofs.SameFields.{balances-same, blocks-same, marks-same, orders-same, lines-are}
 
 -- ---- a memory that differs in words of the lines only
 module _ (l m : List ℕ) (held : Held m) (before : Same 1 768 l m) (after : Same 4224 5248 l m) where
   pub lines-roster : rosterOf l ≡ rosterOf m
   lines-roster = roster-same l m (held .sized) (λ k low high. before k low (omega arith))
 
-  pub lines-view : (unit : Order → ℕ) (a : ℕ) (line : LimitLine) → linesOf l ≡ at a (setLine line (linesOf m a)) (linesOf m) → view l ≡ record { book = work unit (bookOf m) (Limit a line); trading = tradingOf m }
+  pub lines-view : (unit : Order → ℕ) (a : ℕ) (line : LimitLine) → linesOf l ≡ at a (setLine line (linesOf m a)) (linesOf m)
+      → view l ≡ record { book = work unit (bookOf m) (Limit a line); trading = tradingOf m }
   unfolding view bookOf work
   lines-view unit a line lines =
       same-view _ _ _ _ _ _ _ _ _ _
       (balances-same l m held lines-roster (λ k low high. before k (omega arith) high))
       lines
       (blocks-same l m held lines-roster (λ k low high. before k (omega arith) (omega arith)))
-      (orders-same l m held lines-roster (before countWord (omega arith) (omega arith)) (before firstWord (omega arith) (omega arith)) after)
+      (orders-same l m held lines-roster (before countWord (omega arith) (omega arith)) (before firstWord (omega arith) (omega arith))
+      after)
       (marks-same l m held lines-roster (λ k low high. before k (omega arith) (omega arith)))
 
 -- ---- the lines of one account changed
@@ -61,7 +64,8 @@ module _ (m : List ℕ) (held : Held m) (a : ℕ) where
   lines-at l roster o d g own default ofGroup =
       lines-are l m held roster
       ∙ fun-ext
-      (λ b. by-number b a (λ t. linesBy (owns l) (defaults l) (ofGroups l) b ≡ cond t (record { ownOf = o; defaultOf = d; lineOfGroup = g }) (linesOf m b))
+      (λ b. by-number b a (λ t. linesBy (owns l) (defaults l) (ofGroups l) b ≡ cond t (record { ownOf = o; defaultOf = d; lineOfGroup = g })
+      (linesOf m b))
       (λ same. same-lines _ _ _ _ _ _ (ap (λ t. t b) own ∙ at-here a o (owns m) b same)
       (ap (λ t. t b) default ∙ at-here a d (defaults m) b same) (ap (λ t. t b) ofGroup ∙ at-here a g (ofGroups m) b same))
       (λ other. same-lines _ _ _ _ _ _ (ap (λ t. t b) own ∙ at-elsewhere a o (owns m) b other)

@@ -17,7 +17,8 @@ module _ (by n : ℕ) where
   unfolding risen putWords wordsAt
   risen-start m = let z : n - n ≡ 0 = omega arith in rw z
 
-  pub risen-turn : (m l next : List ℕ) (i v : ℕ) → 1 ≤ i → i ≤ n → l ≡ risen m i → v ≡ wordAt l (i - 1) → next ≡ putWord l (i - 1 + by) v → next ≡ risen m (i - 1)
+  pub risen-turn : (m l next : List ℕ) (i v : ℕ) → 1 ≤ i → i ≤ n → l ≡ risen m i → v ≡ wordAt l (i - 1) → next ≡ putWord l (i - 1 + by) v
+      → next ≡ risen m (i - 1)
   unfolding risen putWords wordsAt
   risen-turn m l next i v low h is read stored =
       let vs : List ℕ = wordsAt m i (n - i) in
@@ -26,7 +27,8 @@ module _ (by n : ℕ) where
       let g : i - 1 + 1 ≡ i = omega arith in
       let kept : wordAt (putWords m (i + by) vs) (i - 1) ≡ wordAt m (i - 1) =
       word-puts-other m (i + by) vs (i - 1) (λ j low e. omega arith) in
-      let more : putWords m (i - 1 + by) (wordsAt m (i - 1) (n - (i - 1))) ≡ putWords (putWord m (i - 1 + by) (wordAt m (i - 1))) (i - 1 + by + 1) (wordsAt m (i - 1 + 1) (n - i)) = rw e in
+      let more : putWords m (i - 1 + by) (wordsAt m (i - 1) (n - (i - 1))) ≡ putWords (putWord m (i - 1 + by) (wordAt m (i - 1)))
+      (i - 1 + by + 1) (wordsAt m (i - 1 + 1) (n - i)) = rw e in
       stored
       ∙ rw (read, is, kept)
       (put-past-words vs m (i - 1 + by) (i + by) (wordAt m (i - 1)) (omega arith)
@@ -53,13 +55,24 @@ module _ (to from n : ℕ) where
       rw (e, f, g)
 
   -- the word v of place j is stored in place k
-  falling-turn : (m next : List ℕ) (i j k v : ℕ) → to ≤ from → i < n → j ≡ from + i → k ≡ to + i → v ≡ wordAt m j → next ≡ putWord m k v → falling next (i + 1) ≡ falling m i
+  falling-turn : (m next : List ℕ) (i j k v : ℕ) → to ≤ from → i < n → j ≡ from + i → k ≡ to + i → v ≡ wordAt m j → next ≡ putWord m k v
+      → falling next (i + 1) ≡ falling m i
   unfolding falling putWords wordsAt
   falling-turn m next i j k v lower h is-j is-k read stored =
       let e : n - i ≡ suc (n - (i + 1)) = omega arith in
       let f : to + (i + 1) ≡ to + i + 1 = omega arith in
       let g : from + (i + 1) ≡ from + i + 1 = omega arith in
-      rw (stored, read, is-j, is-k, e, f, g, words-put-other m (to + i) (wordAt m (from + i)) (from + i + 1) (n - (i + 1)) (λ j low e. omega arith))
+      rw (
+        stored,
+        read,
+        is-j,
+        is-k,
+        e,
+        f,
+        g,
+        words-put-other m (to + i) (wordAt m (from + i)) (from + i + 1) (n - (i + 1))
+            (λ j low e. omega arith),
+      )
 
   falling-end : (m : List ℕ) (i : ℕ) → n ≤ i → falling m i ≡ m
   unfolding falling putWords wordsAt

@@ -9,4 +9,5 @@ pub copy-down-spec : {M : Type 1} → statement M
 copy-down-spec =
     tie.close (tie.spec (λ c. search needs) (λ c. search needs) (λ c. search needs) (λ c. search needs) (λ c. search needs)
     (λ c κs. search needs) (λ c. search needs)
-    (λ c. let start = c .before .before .before .before .before in moved _ _ (start .args .from) (start .args .to) (start .args .n) (omega arith) (omega arith) (omega arith) (c .before .before .words-copied .ensures)))
+    (λ c. let start = c .before .before .before .before .before in moved _ _ (start .args .from) (start .args .to) (start .args .n)
+    (omega arith) (omega arith) (omega arith) (c .before .before .words-copied .ensures)))

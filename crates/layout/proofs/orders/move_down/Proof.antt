@@ -9,4 +9,5 @@ use Rattle.layout.proofs.orders.move_down.Tie as tie
 pub move-down-spec : {M : Type 1} → statement M
 move-down-spec =
     tie.close (tie.spec (λ c. search needs) (λ c. search needs) (λ c. search needs) (λ c κs. search needs) (λ c. search needs)
-    (λ c. let start = c .before .before .before .before .before in moved _ _ (start .args .at + 1) (start .args .at) (start .args .n) (omega arith) (omega arith) (omega arith) (c .before .before .words-down .ensures)))
+    (λ c. let start = c .before .before .before .before .before in moved _ _ (start .args .at + 1) (start .args .at) (start .args .n)
+    (omega arith) (omega arith) (omega arith) (c .before .before .words-down .ensures)))
