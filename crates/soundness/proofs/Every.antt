@@ -1,5 +1,5 @@
 -- A test of every number from 1 to n, number by number.
-use Prim.Native.Nat.{ℕ, zero, suc, _+_, _≤_, _<_}
+use Prim.Native.Nat.{ℕ, zero, suc, _+_, _*_, _≤_, _<_}
 use mathlib.Core.Path.{_≡_, refl, sym, _∙_}
 use mathlib.Core.Bool.{Bool, true, false, not, _&&_}
 use native.Mathlib.Decide.{ℕ-discrete}
@@ -62,9 +62,38 @@ module _ (test : ℕ → Bool) where
       let same : j ≡ n = omega arith in
       sym (rw same at was)
 
+  -- ---- the same loop, by what holds before turn j
+  pub record SoFar (n j : ℕ) : Type 0 where
+    pub within : j ≤ n
+    pub yes : every j test ≡ true
+
+  pub so-far-none : (n : ℕ) → SoFar n 0
+  so-far-none n = record { within = omega arith; yes = every-none }
+
+  pub so-far-on : {n j : ℕ} (t : Bool) → SoFar n j → j < n → t ≡ test (j + 1) → not t ≡ false → SoFar n (j + 1)
+  so-far-on {n} {j} t was h e on = record { within = omega arith; yes = every-on j t (was .yes) e on }
+
+  pub so-far-all : {n j : ℕ} → SoFar n j → n ≤ j → true ≡ every n test
+  so-far-all {n} {j} was end = every-all n j (was .within) end (was .yes)
+
 -- tests that agree on the numbers from 1 to n
 pub every-same : (f g : ℕ → Bool) (n : ℕ) → ((k : ℕ) → Numbered n k → f k ≡ g k) → every n f ≡ every n g
 unfolding every
 every-same f g zero h = refl
 every-same f g (suc n) h =
     rw (every-same f g n (λ k l. h k (l .0, omega arith)), h (suc n) (omega arith, omega arith))
+
+pub and-both : (a b c : Bool) → a && b && c ≡ (a && (b && c))
+and-both true b c = refl
+and-both false b c = refl
+
+-- a test of pairs is one of twice as many
+pub every-pairs : (test : ℕ → Bool) (k n : ℕ) → every n (λ j. test (k + j * 2) && test (k + j * 2 + 1)) ≡ every (n * 2) (λ j. test (k + 1 + j))
+unfolding every
+every-pairs test k zero = refl
+every-pairs test k (suc n) =
+    let many : suc n * 2 ≡ suc (suc (n * 2)) = omega arith in
+    let first : k + 1 + suc (n * 2) ≡ k + suc n * 2 = omega arith in
+    let second : k + 1 + suc (n * 2) + 1 ≡ k + 1 + suc (suc (n * 2)) = omega arith in
+    rw (every-pairs test k n, ← first, second, many)
+    (sym (and-both (every (n * 2) (λ j. test (k + 1 + j))) (test (k + 1 + suc (n * 2))) (test (k + 1 + suc (suc (n * 2))))))
