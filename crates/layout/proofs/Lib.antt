@@ -1,4 +1,5 @@
 pub mod RosterLaws
+pub mod Every
 pub mod GuardedTables
 pub mod Blank
 pub mod OrderRecords

@@ -51,5 +51,14 @@ module _ (m : List ℕ) where
   pub each-in : Conditions m → soundDesk m ≡ true
   unfolding soundDesk longEnough holds sound
   each-in c =
-      rw (le-leb 65536 (length m) (c .long), eq-eqb (wordAt m kindWord) 1 (c .kind), le-leb (wordAt m countWord) 256 (c .count),
-      le-leb (firstOf m) 256 (c .first), c .roster, c .lines, c .ids, c .orders, c .positions)
+      rw (
+        le-leb 65536 (length m) (c .long),
+        eq-eqb (wordAt m kindWord) 1 (c .kind),
+        le-leb (wordAt m countWord) 256 (c .count),
+        le-leb (firstOf m) 256 (c .first),
+        c .roster,
+        c .lines,
+        c .ids,
+        c .orders,
+        c .positions,
+      )

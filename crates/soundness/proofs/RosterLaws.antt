@@ -20,7 +20,7 @@ use Rattle.layout.specs.View.{rosterOf}
 use Rattle.soundness.specs.Soundness.{rosterSound}
 use Rattle.soundness.specs.Cells.{Readable}
 use Rattle.soundness.proofs.Asked.{numbered-between}
-use Rattle.soundness.proofs.Every.{every-same}
+use Rattle.layout.proofs.Every.{every-same}
 
 -- the words of the roster
 pub roster-long : (m : List ℕ) → 65536 ≤ length m → length (partOf m rosterWord 76) ≡ 608

@@ -5,7 +5,7 @@ use native.Mathlib.Omega.{arith}
 use borrow.Author.Needs.{needs}
 use Rattle.layout.specs.View.{rosterOf}
 use Rattle.soundness.specs.Soundness.{accountLinesSound, linesSound}
-use Rattle.soundness.proofs.Every.{SoFar, so-far-none, so-far-on, so-far-all, every-no}
+use Rattle.layout.proofs.Every.{SoFar, so-far-none, so-far-on, so-far-all, every-no}
 use Rattle.soundness.proofs.lines.lines_are_sound.Statement.{statement}
 use Rattle.soundness.proofs.lines.lines_are_sound.Tie as tie
 

@@ -3,7 +3,7 @@ use Prim.Native.Nat.{_+_, _-_}
 use native.Mathlib.Omega.{arith}
 use Rattle.limits.specs.InBytes.{groupLineAt}
 use Rattle.soundness.specs.Soundness.{groupLineInRange}
-use Rattle.soundness.proofs.Every.{SoFar, so-far-none, so-far-on, so-far-all, every-no}
+use Rattle.layout.proofs.Every.{SoFar, so-far-none, so-far-on, so-far-all, every-no}
 use Rattle.soundness.proofs.lines.words_in_range.Statement.{statement}
 use Rattle.soundness.proofs.lines.words_in_range.Tie as tie
 

@@ -5,7 +5,7 @@ use native.Mathlib.Omega.{arith}
 use borrow.Author.Needs.{needs}
 use Rattle.words.specs.Words.{wordAt}
 use Rattle.book.specs.Decoding.{between}
-use Rattle.soundness.proofs.Every.{SoFar, so-far-none, so-far-on, so-far-all, every-no}
+use Rattle.layout.proofs.Every.{SoFar, so-far-none, so-far-on, so-far-all, every-no}
 use Rattle.soundness.proofs.roster.all_between.Statement.{statement}
 use Rattle.soundness.proofs.roster.all_between.Tie as tie
 

@@ -8,7 +8,7 @@ use lib.IntN.{natAbs}
 use mir.Syntax.{w64}
 use mir.ValLaws.{toZ-ofZ}
 use Rattle.words.specs.Words.{signedAt}
-use Rattle.soundness.proofs.Every.{SoFar, so-far-none, so-far-on, so-far-all, every-no}
+use Rattle.layout.proofs.Every.{SoFar, so-far-none, so-far-on, so-far-all, every-no}
 use Rattle.soundness.proofs.roster.all_weights.Statement.{statement}
 use Rattle.soundness.proofs.roster.all_weights.Tie as tie
 
