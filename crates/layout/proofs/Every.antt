@@ -1,5 +1,5 @@
 -- A test of every number from 1 to n, number by number.
-use Prim.Native.Nat.{ℕ, zero, suc, _+_, _*_, _≤_, _<_}
+use Prim.Native.Nat.{ℕ, zero, suc, _+_, _≤_, _<_}
 use mathlib.Core.Path.{_≡_, refl, sym, _∙_}
 use mathlib.Core.Bool.{Bool, true, false, not, _&&_}
 use native.Mathlib.Decide.{ℕ-discrete}
@@ -82,18 +82,3 @@ unfolding every
 every-same f g zero h = refl
 every-same f g (suc n) h =
     rw (every-same f g n (λ k l. h k (l .0, omega arith)), h (suc n) (omega arith, omega arith))
-
-pub and-both : (a b c : Bool) → a && b && c ≡ (a && (b && c))
-and-both true b c = refl
-and-both false b c = refl
-
--- a test of pairs is one of twice as many
-pub every-pairs : (test : ℕ → Bool) (k n : ℕ) → every n (λ j. test (k + j * 2) && test (k + j * 2 + 1)) ≡ every (n * 2) (λ j. test (k + 1 + j))
-unfolding every
-every-pairs test k zero = refl
-every-pairs test k (suc n) =
-    let many : suc n * 2 ≡ suc (suc (n * 2)) = omega arith in
-    let first : k + 1 + suc (n * 2) ≡ k + suc n * 2 = omega arith in
-    let second : k + 1 + suc (n * 2) + 1 ≡ k + 1 + suc (suc (n * 2)) = omega arith in
-    rw (every-pairs test k n, ← first, second, many)
-    (sym (and-both (every (n * 2) (λ j. test (k + 1 + j))) (test (k + 1 + suc (n * 2))) (test (k + 1 + suc (suc (n * 2))))))

@@ -1,6 +1,6 @@
 -- The lines' condition as facts, and back: the figures of every line on the roster are in range, and so those that are set.
 use Prim.Native.Nat.{ℕ, _+_, _*_, _≤_, _<_}
-use mathlib.Core.Path.{_≡_, refl, _∙_}
+use mathlib.Core.Path.{_≡_, refl}
 use mathlib.Core.Bool.{Bool, true, false, _&&_, cond}
 use mathlib.Core.List.{List}
 use mathlib.Core.Option.{none, some}
@@ -22,7 +22,7 @@ use Rattle.layout.specs.Rosters.{every}
 use Rattle.layout.specs.View.{rosterOf, flag, onRoster, linesOf}
 use Rattle.soundness.specs.Soundness.{lineInRange, groupLineInRange, accountLinesSound, linesSound}
 use Rattle.soundness.specs.Held.{Figures}
-use Rattle.layout.proofs.Every.{every-out, every-in, every-same, every-pairs, and-both}
+use Rattle.layout.proofs.Every.{every-out, every-in}
 
 -- ---- one line
 pub line-out : (l : Line) → lineInRange l ≡ true → LineFits 1000000000 l
@@ -53,18 +53,6 @@ group-line-out l e =
 pub group-line-in : (l : GroupLine) → GroupLineFits 1000000000 l → groupLineInRange l ≡ true
 unfolding groupLineInRange
 group-line-in l f = rw (le-leb (l .lcc) 1000000000 (f .lcc)) (le-leb (l .lvc) 1000000000 (f .lvc))
-
--- ---- a row of lines, word by word
-line-words : (m : List ℕ) (k : ℕ)
-    → lineInRange (lineAt m k) ≡ (groupLineInRange (groupLineAt m k) && groupLineInRange (groupLineAt m (k + 1)))
-unfolding lineInRange groupLineInRange lineAt groupLineAt
-line-words m k =
-    let l = lineAt m k in
-    and-both (leb (l .tci) 1000000000 && leb (l .tvi) 1000000000) (leb (l .lci) 1000000000) (leb (l .lvi) 1000000000)
-
-pub row-words : (m : List ℕ) (row n : ℕ) → every n (λ i. lineInRange (lineAt m (row + i * 2)))
-    ≡ every (n * 2) (λ j. groupLineInRange (groupLineAt m (row + 1 + j)))
-row-words m row n = every-same _ _ n (λ i h. line-words m (row + i * 2)) ∙ every-pairs (λ k. groupLineInRange (groupLineAt m k)) row n
 
 -- ---- the 168 figures of an account's row, as numbers of 32 bits
 module _ (m : List ℕ) (bytes : Bytes m) (a : ℕ) (all : (p : ℕ) → (ownRow a + 2) * 2 ≤ p → p < (ownRow a + 2) * 2 + 168 → u32At m (p * 4) ≤ 1000000000) where

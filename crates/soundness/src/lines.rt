@@ -2,9 +2,9 @@
 ghost use mathlib.Core.Path.{_≡_};
 ghost use Prim.Native.Nat.{_+_, _*_, _≤_};
 ghost use lib.ListN.{length};
-ghost use Rattle.limits.specs.InBytes.{groupLineAt};
+ghost use Rattle.limits.specs.InBytes.{lineAt, groupLineAt};
 ghost use Rattle.layout.specs.Rosters.{every};
-ghost use Rattle.soundness.specs.Soundness.{groupLineInRange, accountLinesSound, linesSound};
+ghost use Rattle.soundness.specs.Soundness.{lineInRange, groupLineInRange, accountLinesSound, linesSound};
 ghost use Rattle.soundness.specs.Cells.{Readable};
 use crate::bits::all_in_range;
 use crate::roster::accounts;
@@ -28,14 +28,39 @@ fn word_in_range(m: &[u8], k: usize) -> bool
     w / 4294967296 <= 1000000000
 }
 
-// Both figures of each of the `n` words behind word `k`: a group's line is one word, any other line two.
-fn words_in_range(m: &[u8], k: usize, n: usize) -> bool
-    requires { ⌜ (k + n + 1) * 8 ≤ length (now m) ⌝ }
-    ensures { λ r. ⌜ r ≡ every n (λ j. groupLineInRange (groupLineAt (now (m .entry)) (k + j))) ⌝ }
+// The line in words `k` and `k + 1`.
+fn line_in_range(m: &[u8], k: usize) -> bool
+    requires { ⌜ (k + 2) * 8 ≤ length (now m) ⌝ }
+    ensures { λ r. ⌜ r ≡ lineInRange (lineAt (now (m .entry)) k) ⌝ }
+{
+    if !word_in_range(m, k) {
+        return false;
+    }
+    word_in_range(m, k + 1)
+}
+
+// Lines 1 to `n` of a row.
+fn row_in_range(m: &[u8], row: usize, n: usize) -> bool
+    requires { ⌜ (row + n * 2 + 2) * 8 ≤ length (now m) ⌝ }
+    ensures { λ r. ⌜ r ≡ every n (λ j. lineInRange (lineAt (now (m .entry)) (row + j * 2))) ⌝ }
 {
     for j in 0..n {
         let i = j + 1;
-        if !word_in_range(m, k + i) {
+        if !line_in_range(m, row + i * 2) {
+            return false;
+        }
+    }
+    true
+}
+
+// Group lines 1 to `n` of a row.
+fn group_row_in_range(m: &[u8], row: usize, n: usize) -> bool
+    requires { ⌜ (row + n + 1) * 8 ≤ length (now m) ⌝ }
+    ensures { λ r. ⌜ r ≡ every n (λ j. groupLineInRange (groupLineAt (now (m .entry)) (row + j))) ⌝ }
+{
+    for j in 0..n {
+        let i = j + 1;
+        if !word_in_range(m, row + i) {
             return false;
         }
     }
@@ -51,13 +76,13 @@ fn account_lines_are_sound(m: &[u8], a: usize) -> bool
     if all_in_range(m, (OWN_LINES + a * 84 + 2) * 2, 168) {
         return true;
     }
-    if !words_in_range(m, OWN_LINES + a * 84 + 1, instruments(m) as usize * 2) {
+    if !row_in_range(m, OWN_LINES + a * 84, instruments(m) as usize) {
         return false;
     }
-    if !words_in_range(m, DEFAULT_LINES + a * 84 + 1, contracts(m) as usize * 2) {
+    if !row_in_range(m, DEFAULT_LINES + a * 84, contracts(m) as usize) {
         return false;
     }
-    words_in_range(m, GROUP_LINES + a * 84, groups(m) as usize)
+    group_row_in_range(m, GROUP_LINES + a * 84, groups(m) as usize)
 }
 
 // All lines of the roster.

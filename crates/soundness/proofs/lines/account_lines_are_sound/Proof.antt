@@ -1,4 +1,4 @@
--- All 168 figures in range at once are those on the roster; else each row says its part, a line of four figures by its two words.
+-- All 168 figures in range at once are those on the roster; else each row says its part.
 use Prim.Native.Nat.{_+_, _*_}
 use mathlib.Core.Path.{_≡_, _∙_, sym}
 use borrow.Author.Needs.{needs}
@@ -8,26 +8,22 @@ use Rattle.limits.specs.InBytes.{lineAt, groupLineAt}
 use Rattle.layout.specs.View.{rosterOf}
 use Rattle.soundness.specs.Soundness.{lineInRange, groupLineInRange, accountLinesSound}
 use Rattle.soundness.proofs.Asked.{said-no, said-yes}
-use Rattle.soundness.proofs.LineFacts.{row-words, row-within}
+use Rattle.soundness.proofs.LineFacts.{row-within}
 use Rattle.soundness.proofs.lines.account_lines_are_sound.Statement.{statement}
 use Rattle.soundness.proofs.lines.account_lines_are_sound.Tie as tie
 
 -- what each call says of the account's rows
-own : (c : tie.After-words-in-range) → let a = c .before .before .before .before .before .args in
-    c .words-in-range .result ≡ every (rosterOf (a .m .now) .instruments) (λ i. lineInRange (lineAt (a .m .now) (ownRow (a .a) + i * 2)))
-own c =
-    let a = c .before .before .before .before .before .args in
-    c .words-in-range .ensures ∙ rw (c .before .instruments .ensures) (sym (row-words (a .m .now) (ownRow (a .a)) _))
+own : (c : tie.After-row-in-range) → let a = c .before .before .before .before .before .args in
+    c .row-in-range .result ≡ every (rosterOf (a .m .now) .instruments) (λ i. lineInRange (lineAt (a .m .now) (ownRow (a .a) + i * 2)))
+own c = c .row-in-range .ensures ∙ rw (c .before .instruments .ensures)
 
-default : (c : tie.After-words-in-range2) → let a = c .before .before .before .before .before .before .before .before .args in
-    c .words-in-range2 .result ≡ every (rosterOf (a .m .now) .contracts) (λ i. lineInRange (lineAt (a .m .now) (defaultRow (a .a) + i * 2)))
-default c =
-    let a = c .before .before .before .before .before .before .before .before .args in
-    c .words-in-range2 .ensures ∙ rw (c .before .contracts .ensures) (sym (row-words (a .m .now) (defaultRow (a .a)) _))
+default : (c : tie.After-row-in-range2) → let a = c .before .before .before .before .before .before .before .before .args in
+    c .row-in-range2 .result ≡ every (rosterOf (a .m .now) .contracts) (λ i. lineInRange (lineAt (a .m .now) (defaultRow (a .a) + i * 2)))
+default c = c .row-in-range2 .ensures ∙ rw (c .before .contracts .ensures)
 
-of-group : (c : tie.After-words-in-range3) → let a = c .before .before .before .before .before .before .before .before .before .before .before .args in
-    c .words-in-range3 .result ≡ every (rosterOf (a .m .now) .groups) (λ i. groupLineInRange (groupLineAt (a .m .now) (groupRow (a .a) + i)))
-of-group c = c .words-in-range3 .ensures ∙ rw (c .before .groups .ensures)
+of-group : (c : tie.After-group-row-in-range) → let a = c .before .before .before .before .before .before .before .before .before .before .before .args in
+    c .group-row-in-range .result ≡ every (rosterOf (a .m .now) .groups) (λ i. groupLineInRange (groupLineAt (a .m .now) (groupRow (a .a) + i)))
+of-group c = c .group-row-in-range .ensures ∙ rw (c .before .groups .ensures)
 
 returns : tie.Need-returns
 returns c =
@@ -57,6 +53,6 @@ returns-4 c =
 pub account-lines-are-sound-spec : {M : Type 1} → statement M
 account-lines-are-sound-spec =
     tie.close (tie.spec (λ c. search needs) (λ c. search needs) (λ c. search needs) (λ c. search needs) (λ c κs. search needs) returns
-    (λ c. search needs) (λ c. search needs) (λ c. search needs) (λ c κs. search needs) (λ c. search needs) (λ c κs. search needs) returns-2
-    (λ c. search needs) (λ c. search needs) (λ c. search needs) (λ c κs. search needs) (λ c. search needs) (λ c κs. search needs) returns-3
-    (λ c. search needs) (λ c. search needs) (λ c κs. search needs) (λ c κs. search needs) returns-4)
+    (λ c. search needs) (λ c. search needs) (λ c κs. search needs) (λ c κs. search needs) returns-2 (λ c. search needs) (λ c. search needs)
+    (λ c κs. search needs) (λ c κs. search needs) returns-3 (λ c. search needs) (λ c. search needs) (λ c κs. search needs)
+    (λ c κs. search needs) returns-4)

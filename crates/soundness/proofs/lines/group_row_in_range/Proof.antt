@@ -1,20 +1,20 @@
--- Word by word, the answer is `word_in_range`'s; the loop leaves at the first no.
+-- As `row_in_range`, word by word.
 use Prim.Native.Nat.{_+_, _-_}
 use native.Mathlib.Omega.{arith}
 use Rattle.limits.specs.InBytes.{groupLineAt}
 use Rattle.soundness.specs.Soundness.{groupLineInRange}
 use Rattle.layout.proofs.Every.{SoFar, so-far-none, so-far-on, so-far-all, every-no}
-use Rattle.soundness.proofs.lines.words_in_range.Statement.{statement}
-use Rattle.soundness.proofs.lines.words_in_range.Tie as tie
+use Rattle.soundness.proofs.lines.group_row_in_range.Statement.{statement}
+use Rattle.soundness.proofs.lines.group_row_in_range.Tie as tie
 
 abbrev Inv-loop : tie.InvT-loop
-Inv-loop m k n j₀ j = SoFar (λ i. groupLineInRange (groupLineAt m (k + i))) n j
+Inv-loop m row n j₀ j = SoFar (λ i. groupLineInRange (groupLineAt m (row + i))) n j
 
 abbrev μ-loop : tie.MeasureT-loop
-μ-loop m k n j₀ j = n - j
+μ-loop m row n j₀ j = n - j
 
-pub words-in-range-spec : {M : Type 1} → statement M
-words-in-range-spec =
+pub group-row-in-range-spec : {M : Type 1} → statement M
+group-row-in-range-spec =
     tie.close (tie.spec Inv-loop μ-loop (λ c. so-far-none _ _) (λ c. omega arith) (λ c. omega arith) (λ c κs. omega arith)
     (λ c. every-no _ _ _ _ (omega arith) (c .before .word-in-range .ensures) (c .if1 .taken)) (λ c. omega arith) (λ c. omega arith)
     (λ c. so-far-on _ _ (c .before .before .before .loop .inv) (omega arith) (c .before .word-in-range .ensures) (c .if1 .left))
