@@ -18,7 +18,8 @@ use Rattle.layout.specs.View.{rosterOf, flag, blocksOf, bookOf, tradingO
 use Rattle.layout.specs.FieldStores.{bit, blockAccount, blockInstrument, blockGroup}
 use Rattle.layout.proofs.GuardedTables.{tableOf, table-at, rowOf, row-at, same-blocks, same-view}
 use Rattle.layout.proofs.SameFields.{Held, groupBlockAt, blocksBy, same-flag}
-use Rattle.layout.proofs.SameFields.{balances-same, marks-same, account-blocks-same, instrument-blocks-same, group-blocks-same, blocks-are}
+use Rattle.layout.proofs.SameFields.{balances-same, marks-same}
+use Rattle.layout.proofs.SameFields.{account-blocks-same, instrument-blocks-same, group-blocks-same, blocks-are}
 use Rattle.layout.proofs.StoreWords.{Except, except-put, except-same, flag-bit}
 use Rattle.layout.proofs.ViewStores.{one-roster, one-lines, one-orders}
 

@@ -73,7 +73,12 @@ module _ (m : List ℕ) (held : Held m) (a i : ℕ) (f : Figures) (small : Small
   own-line : OneLine own m a (ownSetRow a + i) (ownRow a + i * 2) 2
   own-line =
       let sized = held .sized in
-      record { set = omega arith; row = omega arith; account = omega arith; elsewhere = line-elsewhere m (ownSetRow a + i) (ownRow a + i * 2) (lineOf f) }
+      record {
+        set = omega arith;
+        row = omega arith;
+        account = omega arith;
+        elsewhere = line-elsewhere m (ownSetRow a + i) (ownRow a + i * 2) (lineOf f);
+      }
 
   pub view-own : (unit : Order → ℕ) → view own ≡ record { book = work unit (bookOf m) (Limit a (Own i f)); trading = tradingOf m }
   unfolding linesOf setLine
@@ -100,7 +105,12 @@ module _ (m : List ℕ) (held : Held m) (a c : ℕ) (f : Figures) (small : Small
   default-line : OneLine default m a (defaultSetRow a + c) (defaultRow a + c * 2) 2
   default-line =
       let sized = held .sized in
-      record { set = omega arith; row = omega arith; account = omega arith; elsewhere = line-elsewhere m (defaultSetRow a + c) (defaultRow a + c * 2) (lineOf f) }
+      record {
+        set = omega arith;
+        row = omega arith;
+        account = omega arith;
+        elsewhere = line-elsewhere m (defaultSetRow a + c) (defaultRow a + c * 2) (lineOf f);
+      }
 
   pub view-default : (unit : Order → ℕ)
       → view default ≡ record { book = work unit (bookOf m) (Limit a (Default c f)); trading = tradingOf m }
@@ -128,7 +138,12 @@ module _ (m : List ℕ) (held : Held m) (a g : ℕ) (x y : ℤ) (small : SmallGr
   group-line : OneLine of-group m a (groupSetRow a + g) (groupRow a + g) 1
   group-line =
       let sized = held .sized in
-      record { set = omega arith; row = omega arith; account = omega arith; elsewhere = group-line-elsewhere m (groupSetRow a + g) (groupRow a + g) (groupLineOf x y) }
+      record {
+        set = omega arith;
+        row = omega arith;
+        account = omega arith;
+        elsewhere = group-line-elsewhere m (groupSetRow a + g) (groupRow a + g) (groupLineOf x y);
+      }
 
   pub view-of-group : (unit : Order → ℕ)
       → view of-group ≡ record { book = work unit (bookOf m) (Limit a (OfGroup g x y)); trading = tradingOf m }

@@ -47,11 +47,16 @@ accepted-out m s e =
     record {
       long = leb-true 65536 (length m) (h .0);
       sizes = lengths-out s (h .1 .0);
-      groups = λ k low high. between-numbered (u16At s 2) (u8At s (7 + k)) (every-out (λ j. between 1 (u16At s 2) (u8At s (7 + j))) (u16At s 4) (names .0) k (low, high));
-      contracts = λ k low high. between-numbered (u16At s 4) (u8At s (7 + u16At s 4 + k)) (every-out (λ j. between 1 (u16At s 4) (u8At s (7 + u16At s 4 + j))) (u16At s 6) (names .1) k (low, high));
+      groups =
+          λ k low high. between-numbered (u16At s 2) (u8At s (7 + k))
+          (every-out (λ j. between 1 (u16At s 2) (u8At s (7 + j))) (u16At s 4) (names .0) k (low, high));
+      contracts =
+          λ k low high. between-numbered (u16At s 4) (u8At s (7 + u16At s 4 + k))
+          (every-out (λ j. between 1 (u16At s 4) (u8At s (7 + u16At s 4 + j))) (u16At s 6) (names .1) k (low, high));
       weights =
           λ k low high. leb-true (natAbs (i32At s (4 + u16At s 4 + u16At s 6 + 4 * k))) 1000000
-          (every-out (λ j. leb (natAbs (i32At s (4 + u16At s 4 + u16At s 6 + 4 * j))) 1000000) (u16At s 6) (sym (weights-by s) ∙ h .1 .1 .1 .0) k (low, high));
+          (every-out (λ j. leb (natAbs (i32At s (4 + u16At s 4 + u16At s 6 + 4 * j))) 1000000) (u16At s 6)
+          (sym (weights-by s) ∙ h .1 .1 .1 .0) k (low, high));
     }
 
 -- ---- any opening

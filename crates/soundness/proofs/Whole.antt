@@ -14,7 +14,8 @@ use Rattle.layout.specs.View.{firstOf, openOrders}
 use Rattle.soundness.specs.Soundness.{ascend, holds, rosterSound, linesSound, ordersSound, positionsSound, sound, soundDesk}
 
 -- the tests in the code's order; a no refuses whatever the others say
-in-order : (l k c f r n i o p : Bool) → (l && (k && c && f) && (r && n && i && o && p)) ≡ (l && (k && (c && (f && (r && (n && (i && o && p)))))))
+in-order : (l k c f r n i o p : Bool)
+    → (l && (k && c && f) && (r && n && i && o && p)) ≡ (l && (k && (c && (f && (r && (n && (i && o && p)))))))
 in-order false k c f r n i o p = refl
 in-order true false c f r n i o p = refl
 in-order true true false f r n i o p = refl
@@ -28,8 +29,8 @@ module _ (m : List ℕ) where
       && (rosterSound m && (linesSound m && (ascend 0 (openOrders m) && ordersSound m && positionsSound m)))))))
   unfolding soundDesk holds sound
   asked =
-      in-order (longEnough m) (eqb (wordAt m kindWord) 1) (leb (wordAt m countWord) 256) (leb (firstOf m) 256) (rosterSound m) (linesSound m)
-      (ascend 0 (openOrders m)) (ordersSound m) (positionsSound m)
+      in-order (longEnough m) (eqb (wordAt m kindWord) 1) (leb (wordAt m countWord) 256) (leb (firstOf m) 256) (rosterSound m)
+      (linesSound m) (ascend 0 (openOrders m)) (ordersSound m) (positionsSound m)
 
   pub too-short : length m < 65536 → false ≡ soundDesk m
   unfolding longEnough

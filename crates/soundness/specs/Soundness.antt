@@ -51,7 +51,8 @@ unfoldable pub linesSound : List ℕ → Bool
 linesSound m = every (rosterOf m .accounts) (accountLinesSound m)
 
 -- ---- of each open order
--- "its [..] orders are in range": account and instrument on the roster, total 1 to 1,000,000; its side is one bit, and either value is a side
+-- "its [..] orders are in range": account and instrument on the roster, total 1 to 1,000,000 (its side is one bit, and either value is
+-- a side)
 abbrev pub orderInRange : Roster → Order → Bool
 orderInRange r o =
     between 1 (r .accounts) (o .account) && between 1 (r .instruments) (o .instrument) && between 1 1000000 (o .total)

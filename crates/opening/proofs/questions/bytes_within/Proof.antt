@@ -25,7 +25,7 @@ said c = c .numbered .ensures ∙ rw (c .before .u8-at .ensures)
 pub bytes-within-spec : {M : Type 1} → statement M
 unfolding bytesWithin
 bytes-within-spec =
-    tie.close (tie.spec Inv-loop μ-loop (λ c. so-far-none _ _) (λ c. omega arith) (λ c. omega arith) (λ c κs. omega arith) (λ c. search needs)
-    (λ c κs. search needs) (λ c. every-no _ _ _ _ (omega arith) (said (c .before)) (c .if1 .taken)) (λ c. omega arith)
+    tie.close (tie.spec Inv-loop μ-loop (λ c. so-far-none _ _) (λ c. omega arith) (λ c. omega arith) (λ c κs. omega arith)
+    (λ c. search needs) (λ c κs. search needs) (λ c. every-no _ _ _ _ (omega arith) (said (c .before)) (c .if1 .taken)) (λ c. omega arith)
     (λ c. so-far-on _ _ (c .before .before .before .before .loop .inv) (omega arith) (said (c .before)) (c .if1 .left))
     (λ c. so-far-all _ (c .before .loop .inv) (omega arith)))

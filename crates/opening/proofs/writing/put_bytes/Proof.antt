@@ -23,6 +23,6 @@ loop-again c =
 
 pub put-bytes-spec : {M : Type 1} → statement M
 put-bytes-spec =
-    tie.close (tie.spec Inv-loop μ-loop (λ c. written-start _ _ _) (λ c. omega arith) (λ c. omega arith) (λ c. omega arith) (λ c κs. omega arith)
-    (λ c. search needs) (λ c κs. omega arith) (λ c. omega arith) loop-again (λ c. search needs)
+    tie.close (tie.spec Inv-loop μ-loop (λ c. written-start _ _ _) (λ c. omega arith) (λ c. omega arith) (λ c. omega arith)
+    (λ c κs. omega arith) (λ c. search needs) (λ c κs. omega arith) (λ c. omega arith) loop-again (λ c. search needs)
     (λ c. written-end _ (c .before .loop .inv) (omega arith)))

@@ -34,6 +34,6 @@ cast-set-signed-word c =
 
 pub put-weights-spec : {M : Type 1} → statement M
 put-weights-spec =
-    tie.close (tie.spec Inv-loop μ-loop (λ c. written-start _ _ _) (λ c. omega arith) (λ c. omega arith) (λ c. omega arith) (λ c. omega arith)
-    (λ c κs. omega arith) cast-set-signed-word (λ c κs. omega arith) (λ c. omega arith) loop-again (λ c. search needs)
+    tie.close (tie.spec Inv-loop μ-loop (λ c. written-start _ _ _) (λ c. omega arith) (λ c. omega arith) (λ c. omega arith)
+    (λ c. omega arith) (λ c κs. omega arith) cast-set-signed-word (λ c κs. omega arith) (λ c. omega arith) loop-again (λ c. search needs)
     (λ c. written-end _ (c .before .loop .inv) (omega arith)))

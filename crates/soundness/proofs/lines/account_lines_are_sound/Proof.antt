@@ -21,15 +21,18 @@ default : (c : tie.After-row-in-range2) → let a = c .before .before .before .b
     c .row-in-range2 .result ≡ every (rosterOf (a .m .now) .contracts) (λ i. lineInRange (lineAt (a .m .now) (defaultRow (a .a) + i * 2)))
 default c = c .row-in-range2 .ensures ∙ rw (c .before .contracts .ensures)
 
-of-group : (c : tie.After-group-row-in-range) → let a = c .before .before .before .before .before .before .before .before .before .before .before .args in
-    c .group-row-in-range .result ≡ every (rosterOf (a .m .now) .groups) (λ i. groupLineInRange (groupLineAt (a .m .now) (groupRow (a .a) + i)))
+of-group : (c : tie.After-group-row-in-range)
+    → let a = c .before .before .before .before .before .before .before .before .before .before .before .args in
+    c .group-row-in-range .result
+    ≡ every (rosterOf (a .m .now) .groups) (λ i. groupLineInRange (groupLineAt (a .m .now) (groupRow (a .a) + i)))
 of-group c = c .group-row-in-range .ensures ∙ rw (c .before .groups .ensures)
 
 returns : tie.Need-returns
 returns c =
     let known = c .before .before in
     let s = known .before in
-    sym (row-within _ (λ i. known .shared-slice-known .given i .fits) _ (c .before .all-in-range .ensures (c .if1 .taken)) (s .pre .0 .instruments)
+    sym (row-within _ (λ i. known .shared-slice-known .given i .fits) _
+    (c .before .all-in-range .ensures (c .if1 .taken)) (s .pre .0 .instruments)
     (s .pre .0 .contracts) (s .pre .0 .groups))
 
 returns-2 : tie.Need-returns-2

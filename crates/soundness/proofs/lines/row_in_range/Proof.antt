@@ -15,7 +15,8 @@ abbrev μ-loop : tie.MeasureT-loop
 
 pub row-in-range-spec : {M : Type 1} → statement M
 row-in-range-spec =
-    tie.close (tie.spec Inv-loop μ-loop (λ c. so-far-none _ _) (λ c. omega arith) (λ c. omega arith) (λ c. omega arith) (λ c κs. omega arith)
-    (λ c. every-no _ _ _ _ (omega arith) (c .before .line-in-range .ensures) (c .if1 .taken)) (λ c. omega arith) (λ c. omega arith)
+    tie.close (tie.spec Inv-loop μ-loop (λ c. so-far-none _ _) (λ c. omega arith) (λ c. omega arith) (λ c. omega arith)
+    (λ c κs. omega arith) (λ c. every-no _ _ _ _ (omega arith) (c .before .line-in-range .ensures) (c .if1 .taken)) (λ c. omega arith)
+    (λ c. omega arith)
     (λ c. so-far-on _ _ (c .before .before .before .loop .inv) (omega arith) (c .before .line-in-range .ensures) (c .if1 .left))
     (λ c. so-far-all _ (c .before .loop .inv) (omega arith)))

@@ -55,5 +55,6 @@ returns-3 c =
 
 pub work-limit-spec : {M : Type 1} → statement M
 work-limit-spec =
-    tie.close (tie.spec (λ c. search needs) own-line-requires work-line-requires (λ c. search needs) default-line-requires work-line-requires-2
-    (λ c. search needs) work-of-group-requires (λ c. search needs) returns (λ c. search needs) returns-2 (λ c. search needs) returns-3)
+    tie.close (tie.spec (λ c. search needs) own-line-requires work-line-requires (λ c. search needs) default-line-requires
+    work-line-requires-2 (λ c. search needs) work-of-group-requires (λ c. search needs) returns (λ c. search needs) returns-2
+    (λ c. search needs) returns-3)

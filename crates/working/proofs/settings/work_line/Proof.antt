@@ -12,7 +12,8 @@ limits-of-requires c κs = (c .before .before .before .pre .2, sym (c .before .u
 returns : tie.Need-returns
 returns c =
     let tested = c .before .before .before .before in
-    c .before .before .unset-line .ensures ∙ ap (storeLine _ _ _) (sym (line-unset _ _ (tested .before .unsets .ensures) (tested .if1 .taken)))
+    c .before .before .unset-line .ensures ∙ ap (storeLine _ _ _)
+    (sym (line-unset _ _ (tested .before .unsets .ensures) (tested .if1 .taken)))
 
 returns-2 : tie.Need-returns-2
 returns-2 c =
