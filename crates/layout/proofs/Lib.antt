@@ -1,5 +1,6 @@
 -- Laws of the memory: which words a field of the view is made of, what each store changes, and records that move. One module a subject.
 pub mod RosterLaws
+pub mod Every
 pub mod GuardedTables
 pub mod Blank
 pub mod OrderRecords

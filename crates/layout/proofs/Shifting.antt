@@ -16,7 +16,8 @@ use Rattle.layout.proofs.Stored.{length-orders-from, bytes-orders, word
 
 -- ---- records moved as one run of words
 -- the words of n records from record q on, stored in those from record r on, are their orders stored there
-words-moved : (l m : List ℕ) (q n r : ℕ) → q + n ≤ 512 → putWords l (recordWord r) (wordsAt m (recordWord q) (n * 2)) ≡ putOrders l r (recordsIn m q n)
+words-moved : (l m : List ℕ) (q n r : ℕ) → q + n ≤ 512
+    → putWords l (recordWord r) (wordsAt m (recordWord q) (n * 2)) ≡ putOrders l r (recordsIn m q n)
 unfolding putOrders ordersFrom putOrder wordsAt putWords
 words-moved l m q zero r h = refl
 words-moved l m q (suc n) r h =
@@ -31,19 +32,11 @@ words-moved l m q (suc n) r h =
     ∙ rw (from, to) (words-moved next m (q + 1) n (r + 1) (omega arith))
     ∙ ap (λ vs. putOrders (putWords l j vs) (r + 1) (recordsIn m (q + 1) n)) (sym (fields-in m q (omega arith)))
 
-pub copied-down : (m after : List ℕ) (q r n : ℕ) → q + n ≤ 512 → after ≡ putWords m (recordWord r) (wordsAt m (recordWord q) (n * 2)) → after ≡ putOrders m r (recordsIn m q n)
-copied-down m after q r n inside copied = copied ∙ words-moved m m q n r inside
-
-module _ (m after : List ℕ) (r n : ℕ) (inside : r + n < 512) where
-  pub moved-up : after ≡ putWords m (recordWord r + 2) (wordsAt m (recordWord r) (n * 2)) → after ≡ putOrders m (r + 1) (recordsIn m r n)
-  moved-up moved =
-      let e : recordWord r + 2 ≡ recordWord (r + 1) = omega arith in
-      moved ∙ rw e (words-moved m m r n (r + 1) (omega arith))
-
-  pub moved-down : after ≡ putWords m (recordWord r) (wordsAt m (recordWord r + 2) (n * 2)) → after ≡ putOrders m r (recordsIn m (r + 1) n)
-  moved-down moved =
-      let e : recordWord r + 2 ≡ recordWord (r + 1) = omega arith in
-      moved ∙ rw e (words-moved m m (r + 1) n r (omega arith))
+-- the same of a memory after the move, by the words j and k at which it was made
+pub moved : (m after : List ℕ) (q r n : ℕ) {j k : ℕ} → q + n ≤ 512 → j ≡ recordWord r → k ≡ recordWord q
+    → after ≡ putWords m j (wordsAt m k (n * 2))
+    → after ≡ putOrders m r (recordsIn m q n)
+moved m after q r n inside to from is = is ∙ rw (to, from) (words-moved m m q n r inside)
 
 -- ---- records stored in two pieces
 pub puts-both : (xs ys : List Order) (m : List ℕ) (r : ℕ) → putOrders m r (xs ++ ys) ≡ putOrders (putOrders m r xs) (r + length xs) ys
@@ -71,9 +64,11 @@ module _ (m : List ℕ) (bytes : Bytes m) where
       ∙ rw (length-orders-from (partOf m ordersWord 1024) p r, stand m bytes p r h)
 
   -- the last piece stands
-  pub last-stands : (xs : List Order) (r q n : ℕ) → q ≡ r + length xs → q + n ≤ 512 → putOrders m r (xs ++ recordsIn m q n) ≡ putOrders m r xs
+  pub last-stands : (xs : List Order) (r q n : ℕ) → q ≡ r + length xs → q + n ≤ 512
+      → putOrders m r (xs ++ recordsIn m q n) ≡ putOrders m r xs
   last-stands xs r q n e h =
       let l : List ℕ = putOrders m r xs in
-      let same : recordsIn l q n ≡ recordsIn m q n = same-records l m n q h (λ j low high. word-orders-other xs m r j (λ a b. omega arith)) in
+      let same : recordsIn l q n ≡ recordsIn m q n = same-records l m n q h (λ j low high. word-orders-other xs m r j (λ a b. omega arith))
+      in
       puts-both xs (recordsIn m q n) m r
       ∙ rw (← e, ← same) (stand l (bytes-orders xs m r bytes) n q h)

@@ -1,6 +1,6 @@
 -- The stores of blocks: each changes that block of the view as the book has it, and nothing else.
 use Prim.Native.Nat.{ℕ, _+_, _≤_, _<_}
-use mathlib.Core.Path.{_≡_, _∙_}
+use mathlib.Core.Path.{_≡_, refl, _∙_}
 use mathlib.Core.Bool.{Bool, false, not}
 use mathlib.Core.List.{List}
 use native.Mathlib.Omega.{arith}
@@ -16,8 +16,10 @@ use Rattle.book.specs.Books.{setBlock, work}
 use Rattle.layout.specs.Layout.{accountBlockWord, instrumentBlockWord, groupBlockRow}
 use Rattle.layout.specs.View.{rosterOf, flag, blocksOf, bookOf, tradingOf, view}
 use Rattle.layout.specs.FieldStores.{bit, blockAccount, blockInstrument, blockGroup}
-use Rattle.layout.proofs.GuardedTables.{table-at, row-at, same-blocks, same-view}
-use Rattle.layout.proofs.SameFields.{Held, groupBlockAt, same-flag, balances-same, marks-same, account-blocks-same, instrument-blocks-same, group-blocks-same, blocks-are}
+use Rattle.layout.proofs.GuardedTables.{tableOf, table-at, rowOf, row-at, same-blocks, same-view}
+use Rattle.layout.proofs.SameFields.{Held, groupBlockAt, blocksBy, same-flag}
+use Rattle.layout.proofs.SameFields.{balances-same, marks-same}
+use Rattle.layout.proofs.SameFields.{account-blocks-same, instrument-blocks-same, group-blocks-same, blocks-are}
 use Rattle.layout.proofs.StoreWords.{Except, except-put, except-same, flag-bit}
 use Rattle.layout.proofs.ViewStores.{one-roster, one-lines, one-orders}
 
@@ -32,13 +34,33 @@ module _ (m : List ℕ) (held : Held m) (j v : ℕ) (from : 144 ≤ j) (below : 
   block-roster : rosterOf put ≡ rosterOf m
   block-roster = one-roster put m held j others (omega arith) (omega arith)
 
-  block-view : (unit : Order → ℕ) (what : Blocked) (z : ℤ) → blocksOf put ≡ setBlock what (not (isZero z)) (blocksOf m) → view put ≡ record { book = work unit (bookOf m) (Block what z); trading = tradingOf m }
+  -- the rows and the table that the word is not in are as they were
+  accounts-kept : 160 ≤ j → rowOf (rosterOf m .accounts) (λ a. flag put (accountBlockWord a))
+      ≡ rowOf (rosterOf m .accounts) (λ a. flag m (accountBlockWord a))
+  accounts-kept behind = account-blocks-same put m held block-roster (except-same put m j 144 160 others (λ low high. omega arith))
+
+  instruments-kept : (160 ≤ j → j < 192 → ⊥)
+      → rowOf (rosterOf m .instruments) (λ i. flag put (instrumentBlockWord i))
+      ≡ rowOf (rosterOf m .instruments) (λ i. flag m (instrumentBlockWord i))
+  instruments-kept outside = instrument-blocks-same put m held block-roster (except-same put m j 160 192 others outside)
+
+  groups-kept : j < 192 → tableOf (rosterOf m .accounts) (rosterOf m .groups) false (groupBlockAt put)
+      ≡ tableOf (rosterOf m .accounts) (rosterOf m .groups) false (groupBlockAt m)
+  groups-kept before = group-blocks-same put m held block-roster (except-same put m j 192 256 others (λ low high. omega arith))
+
+  -- the view, from what the rows and the table say
+  block-view : (unit : Order → ℕ) (what : Blocked) (z : ℤ) {accounts instruments : ℕ → Bool} {groups : ℕ → ℕ → Bool}
+      → rowOf (rosterOf m .accounts) (λ a. flag put (accountBlockWord a)) ≡ accounts
+      → rowOf (rosterOf m .instruments) (λ i. flag put (instrumentBlockWord i)) ≡ instruments
+      → tableOf (rosterOf m .accounts) (rosterOf m .groups) false (groupBlockAt put) ≡ groups
+      → blocksBy accounts instruments groups ≡ setBlock what (not (isZero z)) (blocksOf m)
+      → view put ≡ record { book = work unit (bookOf m) (Block what z); trading = tradingOf m }
   unfolding view bookOf work
-  block-view unit what z blocks =
+  block-view unit what z accounts instruments groups blocks =
       same-view _ _ _ _ _ _ _ _ _ _
       (balances-same put m held block-roster (except-same put m j 256 768 others (λ low high. omega arith)))
       (one-lines put m held j others (omega arith) (omega arith))
-      blocks
+      (blocks-are put m held block-roster ∙ same-blocks _ _ _ _ _ _ accounts instruments groups ∙ blocks)
       (one-orders put m held j others (omega arith) (omega arith))
       (marks-same put m held block-roster (except-same put m j 128 144 others (λ low high. omega arith)))
 
@@ -47,50 +69,46 @@ module _ (m : List ℕ) (held : Held m) (z : ℤ) (unit : Order → ℕ) where
   abbrev on : Bool
   on = not (isZero z)
 
-  pub view-block-account : (a : ℕ) → Numbered (rosterOf m .accounts) a → view (blockAccount m a on) ≡ record { book = work unit (bookOf m) (Block (Account a) z); trading = tradingOf m }
+  pub view-block-account : (a : ℕ) → Numbered (rosterOf m .accounts) a
+      → view (blockAccount m a on) ≡ record { book = work unit (bookOf m) (Block (Account a) z); trading = tradingOf m }
   unfolding blocksOf setBlock
   view-block-account a on-a =
       let sized = held .sized in
       let j : ℕ = accountBlockWord a in
-      let l : List ℕ = putWord m j (bit on) in
-      let roster = block-roster m held j (bit on) (omega arith) (omega arith) in
       block-view m held j (bit on) (omega arith) (omega arith) unit (Account a) z
-      (blocks-are l m held roster
-      ∙ same-blocks _ _ _ _ _ _
-      (row-at (rosterOf m .accounts) (λ b. flag m (accountBlockWord b)) (λ b. flag l (accountBlockWord b)) a on on-a
+      (row-at (rosterOf m .accounts) (λ b. flag m (accountBlockWord b)) (λ b. flag (putWord m j (bit on)) (accountBlockWord b)) a on on-a
       (flag-bit m j on (omega (arith, held .long)))
-      (λ b on-b other. same-flag l m (accountBlockWord b) (except-put m j (bit on) (accountBlockWord b) (λ e. other (omega arith)))))
-      (instrument-blocks-same l m held roster (except-same l m j 160 192 (except-put m j (bit on)) (λ low high. omega arith)))
-      (group-blocks-same l m held roster (except-same l m j 192 256 (except-put m j (bit on)) (λ low high. omega arith))))
+      (λ b on-b other. same-flag (putWord m j (bit on)) m (accountBlockWord b)
+      (except-put m j (bit on) (accountBlockWord b) (λ e. other (omega arith)))))
+      (instruments-kept m held j (bit on) (omega arith) (omega arith) (λ low high. omega arith))
+      (groups-kept m held j (bit on) (omega arith) (omega arith) (omega arith)) refl
 
-  pub view-block-instrument : (i : ℕ) → Numbered (rosterOf m .instruments) i → view (blockInstrument m i on) ≡ record { book = work unit (bookOf m) (Block (Instrument i) z); trading = tradingOf m }
+  pub view-block-instrument : (i : ℕ) → Numbered (rosterOf m .instruments) i
+      → view (blockInstrument m i on) ≡ record { book = work unit (bookOf m) (Block (Instrument i) z); trading = tradingOf m }
   unfolding blocksOf setBlock
   view-block-instrument i on-i =
       let sized = held .sized in
       let j : ℕ = instrumentBlockWord i in
-      let l : List ℕ = putWord m j (bit on) in
-      let roster = block-roster m held j (bit on) (omega arith) (omega arith) in
       block-view m held j (bit on) (omega arith) (omega arith) unit (Instrument i) z
-      (blocks-are l m held roster
-      ∙ same-blocks _ _ _ _ _ _
-      (account-blocks-same l m held roster (except-same l m j 144 160 (except-put m j (bit on)) (λ low high. omega arith)))
-      (row-at (rosterOf m .instruments) (λ b. flag m (instrumentBlockWord b)) (λ b. flag l (instrumentBlockWord b)) i on on-i
+      (accounts-kept m held j (bit on) (omega arith) (omega arith) (omega arith))
+      (row-at (rosterOf m .instruments) (λ b. flag m (instrumentBlockWord b)) (λ b. flag (putWord m j (bit on)) (instrumentBlockWord b)) i
+      on on-i
       (flag-bit m j on (omega (arith, held .long)))
-      (λ b on-b other. same-flag l m (instrumentBlockWord b) (except-put m j (bit on) (instrumentBlockWord b) (λ e. other (omega arith)))))
-      (group-blocks-same l m held roster (except-same l m j 192 256 (except-put m j (bit on)) (λ low high. omega arith))))
+      (λ b on-b other. same-flag (putWord m j (bit on)) m (instrumentBlockWord b)
+      (except-put m j (bit on) (instrumentBlockWord b) (λ e. other (omega arith)))))
+      (groups-kept m held j (bit on) (omega arith) (omega arith) (omega arith)) refl
 
-  pub view-block-group : (a g : ℕ) → Numbered (rosterOf m .accounts) a → Numbered (rosterOf m .groups) g → view (blockGroup m a g on) ≡ record { book = work unit (bookOf m) (Block (GroupFor a g) z); trading = tradingOf m }
+  pub view-block-group : (a g : ℕ) → Numbered (rosterOf m .accounts) a → Numbered (rosterOf m .groups) g
+      → view (blockGroup m a g on) ≡ record { book = work unit (bookOf m) (Block (GroupFor a g) z); trading = tradingOf m }
   unfolding blocksOf setBlock
   view-block-group a g on-a on-g =
       let sized = held .sized in
       let j : ℕ = groupBlockRow a + g in
-      let l : List ℕ = putWord m j (bit on) in
-      let roster = block-roster m held j (bit on) (omega arith) (omega arith) in
       block-view m held j (bit on) (omega arith) (omega arith) unit (GroupFor a g) z
-      (blocks-are l m held roster
-      ∙ same-blocks _ _ _ _ _ _
-      (account-blocks-same l m held roster (except-same l m j 144 160 (except-put m j (bit on)) (λ low high. omega arith)))
-      (instrument-blocks-same l m held roster (except-same l m j 160 192 (except-put m j (bit on)) (λ low high. omega arith)))
-      (table-at (rosterOf m .accounts) (rosterOf m .groups) false (groupBlockAt m) (groupBlockAt l) a g on on-a on-g
+      (accounts-kept m held j (bit on) (omega arith) (omega arith) (omega arith))
+      (instruments-kept m held j (bit on) (omega arith) (omega arith) (λ low high. omega arith))
+      (table-at (rosterOf m .accounts) (rosterOf m .groups) false (groupBlockAt m) (groupBlockAt (putWord m j (bit on))) a g on on-a on-g
       (flag-bit m j on (omega (arith, held .long)))
-      (λ b k on-b on-k apart. same-flag l m (groupBlockRow b + k) (except-put m j (bit on) (groupBlockRow b + k) (λ e. apart (omega arith) (omega arith))))))
+      (λ b k on-b on-k apart. same-flag (putWord m j (bit on)) m (groupBlockRow b + k)
+      (except-put m j (bit on) (groupBlockRow b + k) (λ e. apart (omega arith) (omega arith)))))
+      refl

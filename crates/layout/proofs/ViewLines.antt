@@ -1,4 +1,4 @@
--- Memories that differ in words of the lines only, and the view's lines where one table of them is changed.
+-- Memories that differ in words of the lines only, and the view's lines where those of one account are changed.
 use Prim.Native.Nat.{ℕ}
 use mathlib.Core.Path.{_≡_, _∙_, ap, fun-ext}
 use mathlib.Core.Bool.{cond}
@@ -20,25 +20,34 @@ use Rattle.layout.specs.Layout.{countWord, firstWord}
 use Rattle.layout.specs.View.{rosterOf, linesOf, bookOf, tradingOf, view}
 use Rattle.layout.proofs.RosterLaws.{roster-same}
 use Rattle.layout.proofs.GuardedTables.{tableOf, same-lines, same-view}
-use Rattle.layout.proofs.SameFields.{Same, Held, ownAt, defaultAt, ofGroupAt, linesBy, balances-same, blocks-same, marks-same, orders-same, lines-are}
+use Rattle.layout.proofs.SameFields.{Same, Held, ownAt, defaultAt, ofGroupAt, linesBy}
+use Rattle.layout.proofs.SameFields.{balances-same, blocks-same, marks-same, orders-same, lines-are}
 
 -- ---- a memory that differs in words of the lines only
 module _ (l m : List ℕ) (held : Held m) (before : Same 1 768 l m) (after : Same 4224 5248 l m) where
   pub lines-roster : rosterOf l ≡ rosterOf m
   lines-roster = roster-same l m (held .sized) (λ k low high. before k low (omega arith))
 
-  pub lines-view : (unit : Order → ℕ) (a : ℕ) (line : LimitLine) → linesOf l ≡ at a (setLine line (linesOf m a)) (linesOf m) → view l ≡ record { book = work unit (bookOf m) (Limit a line); trading = tradingOf m }
+  pub lines-view : (unit : Order → ℕ) (a : ℕ) (line : LimitLine) → linesOf l ≡ at a (setLine line (linesOf m a)) (linesOf m)
+      → view l ≡ record { book = work unit (bookOf m) (Limit a line); trading = tradingOf m }
   unfolding view bookOf work
   lines-view unit a line lines =
       same-view _ _ _ _ _ _ _ _ _ _
       (balances-same l m held lines-roster (λ k low high. before k (omega arith) high))
       lines
       (blocks-same l m held lines-roster (λ k low high. before k (omega arith) (omega arith)))
-      (orders-same l m held lines-roster (before countWord (omega arith) (omega arith)) (before firstWord (omega arith) (omega arith)) after)
+      (orders-same l m held lines-roster (before countWord (omega arith) (omega arith)) (before firstWord (omega arith) (omega arith))
+      after)
       (marks-same l m held lines-roster (λ k low high. before k (omega arith) (omega arith)))
 
--- ---- one table of lines changed
-module _ (m : List ℕ) (held : Held m) (a : ℕ) (on-a : Numbered (rosterOf m .accounts) a) where
+-- ---- the lines of one account changed
+-- a table that is as it was has for account a what it had
+pub unchanged : {A : Type 0} (a : ℕ) (old new : ℕ → A) → new ≡ old → new ≡ at a (old a) old
+unchanged a old new same =
+    fun-ext
+    (λ b. by-number b a (λ t. new b ≡ cond t (old a) (old b)) (λ here. ap (λ t. t b) same ∙ ap old here) (λ other. ap (λ t. t b) same))
+
+module _ (m : List ℕ) (held : Held m) (a : ℕ) where
   abbrev pub owns : List ℕ → ℕ → ℕ → Option Line
   owns l = tableOf (rosterOf m .accounts) (rosterOf m .instruments) none (ownAt l)
 
@@ -48,35 +57,16 @@ module _ (m : List ℕ) (held : Held m) (a : ℕ) (on-a : Numbered (rosterOf m .
   abbrev pub ofGroups : List ℕ → ℕ → ℕ → Option GroupLine
   ofGroups l = tableOf (rosterOf m .accounts) (rosterOf m .groups) none (ofGroupAt l)
 
-  pub changed-own : (l : List ℕ) → rosterOf l ≡ rosterOf m → (i : ℕ) (f : Figures) → owns l ≡ at a (at i (lineOf f) (owns m a)) (owns m) → defaults l ≡ defaults m → ofGroups l ≡ ofGroups m → linesOf l ≡ at a (setLine (Own i f) (linesOf m a)) (linesOf m)
-  unfolding linesOf setLine
-  changed-own l roster i f own default ofGroup =
+  pub lines-at : (l : List ℕ) → rosterOf l ≡ rosterOf m → (o d : ℕ → Option Line) (g : ℕ → Option GroupLine)
+      → owns l ≡ at a o (owns m) → defaults l ≡ at a d (defaults m) → ofGroups l ≡ at a g (ofGroups m)
+      → linesOf l ≡ at a (record { ownOf = o; defaultOf = d; lineOfGroup = g }) (linesOf m)
+  unfolding linesOf
+  lines-at l roster o d g own default ofGroup =
       lines-are l m held roster
       ∙ fun-ext
-      (λ b. by-number b a (λ t. linesBy (owns l) (defaults l) (ofGroups l) b ≡ cond t (setLine (Own i f) (linesOf m a)) (linesOf m b))
-      (λ same. same-lines _ _ _ _ _ _
-      (ap (λ t. t b) own ∙ at-here a (at i (lineOf f) (owns m a)) (owns m) b same) (ap (λ t. t b) default ∙ ap (defaults m) same) (ap (λ t. t b) ofGroup ∙ ap (ofGroups m) same))
-      (λ other. same-lines _ _ _ _ _ _
-      (ap (λ t. t b) own ∙ at-elsewhere a (at i (lineOf f) (owns m a)) (owns m) b other) (ap (λ t. t b) default) (ap (λ t. t b) ofGroup)))
-
-  pub changed-default : (l : List ℕ) → rosterOf l ≡ rosterOf m → (c : ℕ) (f : Figures) → owns l ≡ owns m → defaults l ≡ at a (at c (lineOf f) (defaults m a)) (defaults m) → ofGroups l ≡ ofGroups m → linesOf l ≡ at a (setLine (Default c f) (linesOf m a)) (linesOf m)
-  unfolding linesOf setLine
-  changed-default l roster c f own default ofGroup =
-      lines-are l m held roster
-      ∙ fun-ext
-      (λ b. by-number b a (λ t. linesBy (owns l) (defaults l) (ofGroups l) b ≡ cond t (setLine (Default c f) (linesOf m a)) (linesOf m b))
-      (λ same. same-lines _ _ _ _ _ _
-      (ap (λ t. t b) own ∙ ap (owns m) same) (ap (λ t. t b) default ∙ at-here a (at c (lineOf f) (defaults m a)) (defaults m) b same) (ap (λ t. t b) ofGroup ∙ ap (ofGroups m) same))
-      (λ other. same-lines _ _ _ _ _ _
-      (ap (λ t. t b) own) (ap (λ t. t b) default ∙ at-elsewhere a (at c (lineOf f) (defaults m a)) (defaults m) b other) (ap (λ t. t b) ofGroup)))
-
-  pub changed-of-group : (l : List ℕ) → rosterOf l ≡ rosterOf m → (g : ℕ) (x y : ℤ) → owns l ≡ owns m → defaults l ≡ defaults m → ofGroups l ≡ at a (at g (groupLineOf x y) (ofGroups m a)) (ofGroups m) → linesOf l ≡ at a (setLine (OfGroup g x y) (linesOf m a)) (linesOf m)
-  unfolding linesOf setLine
-  changed-of-group l roster g x y own default ofGroup =
-      lines-are l m held roster
-      ∙ fun-ext
-      (λ b. by-number b a (λ t. linesBy (owns l) (defaults l) (ofGroups l) b ≡ cond t (setLine (OfGroup g x y) (linesOf m a)) (linesOf m b))
-      (λ same. same-lines _ _ _ _ _ _
-      (ap (λ t. t b) own ∙ ap (owns m) same) (ap (λ t. t b) default ∙ ap (defaults m) same) (ap (λ t. t b) ofGroup ∙ at-here a (at g (groupLineOf x y) (ofGroups m a)) (ofGroups m) b same))
-      (λ other. same-lines _ _ _ _ _ _
-      (ap (λ t. t b) own) (ap (λ t. t b) default) (ap (λ t. t b) ofGroup ∙ at-elsewhere a (at g (groupLineOf x y) (ofGroups m a)) (ofGroups m) b other)))
+      (λ b. by-number b a (λ t. linesBy (owns l) (defaults l) (ofGroups l) b ≡ cond t (record { ownOf = o; defaultOf = d; lineOfGroup = g })
+      (linesOf m b))
+      (λ same. same-lines _ _ _ _ _ _ (ap (λ t. t b) own ∙ at-here a o (owns m) b same)
+      (ap (λ t. t b) default ∙ at-here a d (defaults m) b same) (ap (λ t. t b) ofGroup ∙ at-here a g (ofGroups m) b same))
+      (λ other. same-lines _ _ _ _ _ _ (ap (λ t. t b) own ∙ at-elsewhere a o (owns m) b other)
+      (ap (λ t. t b) default ∙ at-elsewhere a d (defaults m) b other) (ap (λ t. t b) ofGroup ∙ at-elsewhere a g (ofGroups m) b other)))

@@ -3,8 +3,10 @@ ghost use mathlib.Core.Path.{_≡_};
 ghost use mathlib.Core.Option.{none, some};
 ghost use Prim.Native.Nat.{_+_, _*_, _≤_};
 ghost use lib.ListN.{length};
-ghost use Rattle.layout.specs.Layout.{memoryBytes};
-ghost use Rattle.layout.specs.FieldStores.{bit, storeBalance, storeMark, blockAccount, blockInstrument, blockGroup, storeLine, storeOwn, storeDefault, storeOfGroup, lineWith, groupLineWith};
+ghost use Rattle.words.specs.Words.{putWord};
+ghost use Rattle.layout.specs.Layout.{memoryBytes, ownSetRow, defaultSetRow, ownRow, defaultRow};
+ghost use Rattle.layout.specs.FieldStores.{bit, storeBalance, storeMark, blockAccount, blockInstrument, blockGroup};
+ghost use Rattle.layout.specs.FieldStores.{storeLine, storeOfGroup, lineWith, groupLineWith};
 use crate::table::ACCOUNT_BLOCKS;
 use crate::table::BALANCES;
 use crate::table::DEFAULT_LINES;
@@ -43,12 +45,20 @@ fn bit_of(on: bool) -> u64
     if on { 1 } else { 0 }
 }
 
+// Word `k` says yes or no.
+fn set_bit(m: &mut [u8], k: usize, on: bool)
+    requires { ⌜ k * 8 + 8 ≤ length (now m) ⌝ }
+    ensures { λ r. ⌜ now (m .exit) ≡ putWord (now (m .entry)) k (bit on) ⌝ }
+{
+    set_word(m, k, bit_of(on));
+}
+
 // Blocks an account, or lifts its block.
 pub fn block_account(m: &mut [u8], a: usize, on: bool)
     requires { ⌜ (memoryBytes ≤ length (now m)) × (a ≤ 16) ⌝ }
     ensures { λ r. ⌜ now (m .exit) ≡ blockAccount (now (m .entry)) a on ⌝ }
 {
-    set_word(m, ACCOUNT_BLOCKS + a, bit_of(on));
+    set_bit(m, ACCOUNT_BLOCKS + a, on);
 }
 
 // Blocks an instrument for all, or lifts its block.
@@ -56,7 +66,7 @@ pub fn block_instrument(m: &mut [u8], i: usize, on: bool)
     requires { ⌜ (memoryBytes ≤ length (now m)) × (i ≤ 32) ⌝ }
     ensures { λ r. ⌜ now (m .exit) ≡ blockInstrument (now (m .entry)) i on ⌝ }
 {
-    set_word(m, INSTRUMENT_BLOCKS + i, bit_of(on));
+    set_bit(m, INSTRUMENT_BLOCKS + i, on);
 }
 
 // Blocks a group for an account, or lifts its block.
@@ -64,65 +74,45 @@ pub fn block_group(m: &mut [u8], a: usize, g: usize, on: bool)
     requires { ⌜ (memoryBytes ≤ length (now m)) × (a ≤ 16) × (g ≤ 4) ⌝ }
     ensures { λ r. ⌜ now (m .exit) ≡ blockGroup (now (m .entry)) a g on ⌝ }
 {
-    set_word(m, GROUP_BLOCKS + a * 4 + g, bit_of(on));
+    set_bit(m, GROUP_BLOCKS + a * 4 + g, on);
 }
 
-// Sets the line whose figures stand in words `k` and `k + 1`, and that it is set in word `s`.
-fn put_line(m: &mut [u8], s: usize, k: usize, tci: u32, tvi: u32, lci: u32, lvi: u32)
-    requires { ⌜ (s * 8 + 8 ≤ length (now m)) × (k * 8 + 16 ≤ length (now m)) ⌝ }
-    ensures { λ r. ⌜ now (m .exit) ≡ storeLine (now (m .entry)) s k (some (lineWith tci tvi lci lvi)) ⌝ }
+// Where a line stands: the word that says whether it is set, and the first of the two words of its figures.
+pub struct LinePlace(pub usize, pub usize);
+
+// The place of an instrument's own line.
+pub fn own_line(a: usize, i: usize) -> LinePlace
+    requires { ⌜ (a ≤ 16) × (i ≤ 32) ⌝ }
+    ensures { λ r. ⌜ (r .0 ≡ ownSetRow a + i) × (r .1 ≡ ownRow a + i * 2) ⌝ }
 {
+    LinePlace(OWN_SET + a * 32 + i, OWN_LINES + a * 84 + i * 2)
+}
+
+// The place of a contract's default line.
+pub fn default_line(a: usize, c: usize) -> LinePlace
+    requires { ⌜ (a ≤ 16) × (c ≤ 8) ⌝ }
+    ensures { λ r. ⌜ (r .0 ≡ defaultSetRow a + c) × (r .1 ≡ defaultRow a + c * 2) ⌝ }
+{
+    LinePlace(DEFAULT_SET + a * 8 + c, DEFAULT_LINES + a * 84 + c * 2)
+}
+
+// Sets the line at a place.
+pub fn set_line(m: &mut [u8], at: LinePlace, tci: u32, tvi: u32, lci: u32, lvi: u32)
+    requires { ⌜ (at .0 * 8 + 8 ≤ length (now m)) × (at .1 * 8 + 16 ≤ length (now m)) ⌝ }
+    ensures { λ r. ⌜ now (m .exit) ≡ storeLine (now (m .entry)) (at .0) (at .1) (some (lineWith tci tvi lci lvi)) ⌝ }
+{
+    let k = at.1;
     set_word(m, k, halves(tci, tvi));
     set_word(m, k + 1, halves(lci, lvi));
-    set_word(m, s, 1);
+    set_word(m, at.0, 1);
 }
 
-// Sets an instrument's own line.
-pub fn set_own(m: &mut [u8], a: usize, i: usize, tci: u32, tvi: u32, lci: u32, lvi: u32)
-    requires { ⌜ (memoryBytes ≤ length (now m)) × (a ≤ 16) × (i ≤ 32) ⌝ }
-    ensures { λ r. ⌜ now (m .exit) ≡ storeOwn (now (m .entry)) a i (some (lineWith tci tvi lci lvi)) ⌝ }
+// The line at a place is set no more.
+pub fn unset_line(m: &mut [u8], at: LinePlace)
+    requires { ⌜ at .0 * 8 + 8 ≤ length (now m) ⌝ }
+    ensures { λ r. ⌜ now (m .exit) ≡ storeLine (now (m .entry)) (at .0) (at .1) none ⌝ }
 {
-    put_line(
-        m,
-        OWN_SET + a * 32 + i,
-        OWN_LINES + a * 84 + i * 2,
-        tci,
-        tvi,
-        lci,
-        lvi,
-    );
-}
-
-// An instrument's own line is set no more.
-pub fn unset_own(m: &mut [u8], a: usize, i: usize)
-    requires { ⌜ (memoryBytes ≤ length (now m)) × (a ≤ 16) × (i ≤ 32) ⌝ }
-    ensures { λ r. ⌜ now (m .exit) ≡ storeOwn (now (m .entry)) a i none ⌝ }
-{
-    set_word(m, OWN_SET + a * 32 + i, 0);
-}
-
-// Sets a contract's default line.
-pub fn set_default(m: &mut [u8], a: usize, c: usize, tci: u32, tvi: u32, lci: u32, lvi: u32)
-    requires { ⌜ (memoryBytes ≤ length (now m)) × (a ≤ 16) × (c ≤ 8) ⌝ }
-    ensures { λ r. ⌜ now (m .exit) ≡ storeDefault (now (m .entry)) a c (some (lineWith tci tvi lci lvi)) ⌝ }
-{
-    put_line(
-        m,
-        DEFAULT_SET + a * 8 + c,
-        DEFAULT_LINES + a * 84 + c * 2,
-        tci,
-        tvi,
-        lci,
-        lvi,
-    );
-}
-
-// A contract's default line is set no more.
-pub fn unset_default(m: &mut [u8], a: usize, c: usize)
-    requires { ⌜ (memoryBytes ≤ length (now m)) × (a ≤ 16) × (c ≤ 8) ⌝ }
-    ensures { λ r. ⌜ now (m .exit) ≡ storeDefault (now (m .entry)) a c none ⌝ }
-{
-    set_word(m, DEFAULT_SET + a * 8 + c, 0);
+    set_word(m, at.0, 0);
 }
 
 // Sets a group's line.

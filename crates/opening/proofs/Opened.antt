@@ -24,9 +24,10 @@ use Rattle.layout.specs.Rosters.{listed, every, longEnough}
 use Rattle.layout.specs.View.{rosterOf, view}
 use Rattle.layout.proofs.RosterLaws.{Sized, by-test, roster-of-words}
 use Rattle.layout.proofs.Blank.{view-blank}
+use Rattle.layout.proofs.Every.{every-out}
 use Rattle.opening.specs.Questions.{rosterFrom, bytesWithin, weightsWithin, openingQuestions, openingAnswer}
 use Rattle.opening.specs.Opening.{cleared, withSizes, withRoster, opened, afterOpening}
-use Rattle.opening.proofs.Tests.{Lengths, lengths-out, every-each, names-by, weights-by}
+use Rattle.opening.proofs.Tests.{Lengths, lengths-out, names-by, weights-by}
 use Rattle.opening.proofs.Written.{cleared-length, cleared-bytes, cleared-byte, cleared-word, written-bytes}
 use Rattle.opening.proofs.RosterWords.{roster-keeps, length-kept, size-word, group-word, contract-word, weight-word}
 
@@ -46,11 +47,16 @@ accepted-out m s e =
     record {
       long = leb-true 65536 (length m) (h .0);
       sizes = lengths-out s (h .1 .0);
-      groups = λ k low high. between-numbered (u16At s 2) (u8At s (7 + k)) (every-each (λ j. between 1 (u16At s 2) (u8At s (7 + j))) (u16At s 4) k (names .0) low high);
-      contracts = λ k low high. between-numbered (u16At s 4) (u8At s (7 + u16At s 4 + k)) (every-each (λ j. between 1 (u16At s 4) (u8At s (7 + u16At s 4 + j))) (u16At s 6) k (names .1) low high);
+      groups =
+          λ k low high. between-numbered (u16At s 2) (u8At s (7 + k))
+          (every-out (λ j. between 1 (u16At s 2) (u8At s (7 + j))) (u16At s 4) (names .0) k (low, high));
+      contracts =
+          λ k low high. between-numbered (u16At s 4) (u8At s (7 + u16At s 4 + k))
+          (every-out (λ j. between 1 (u16At s 4) (u8At s (7 + u16At s 4 + j))) (u16At s 6) (names .1) k (low, high));
       weights =
           λ k low high. leb-true (natAbs (i32At s (4 + u16At s 4 + u16At s 6 + 4 * k))) 1000000
-          (every-each (λ j. leb (natAbs (i32At s (4 + u16At s 4 + u16At s 6 + 4 * j))) 1000000) (u16At s 6) k (sym (weights-by s) ∙ h .1 .1 .1 .0) low high);
+          (every-out (λ j. leb (natAbs (i32At s (4 + u16At s 4 + u16At s 6 + 4 * j))) 1000000) (u16At s 6)
+          (sym (weights-by s) ∙ h .1 .1 .1 .0) k (low, high));
     }
 
 -- ---- any opening

@@ -1,10 +1,8 @@
--- What the tests of a roster say, and how a loop asks them number by number.
+-- What the tests of a roster say.
 use Prim.Native.Nat.{ℕ, zero, suc, _+_, _*_, _≤_, _<_}
 use mathlib.Core.Path.{_≡_, refl, _∙_, sym, ap}
 use mathlib.Core.Bool.{Bool, true, false, _&&_, cond}
 use mathlib.Core.List.{List}
-use native.Mathlib.Decide.{ℕ-discrete}
-use native.Mathlib.Numerals.{add-one}
 use native.Mathlib.Omega.{arith}
 use lib.Dec.{leb, eqb}
 use lib.IntN.{ℤ, pos, negsuc, natAbs}
@@ -17,14 +15,14 @@ use mir.ValLaws.{toZ-ofZ}
 use Rattle.integers.specs.Parts.{signed, magnitude-parts}
 use Rattle.words.specs.Fields.{u8At, u16At, i32At}
 use Rattle.ledger.specs.Roster.{Numbered}
-use Rattle.limits.proofs.Answers.{both-true, and-true}
+use Rattle.limits.proofs.Answers.{both-true}
 use Rattle.book.specs.Decoding.{between}
 use Rattle.book.proofs.Tables.{between-numbered}
-use Rattle.layout.specs.Rosters.{listed, every, sizesFit, namesFit, weightsFit}
+use Rattle.layout.specs.Rosters.{listed, sizesFit, namesFit, weightsFit}
 use Rattle.layout.proofs.RosterLaws.{numbered-between}
+use Rattle.layout.proofs.Every.{every-same}
 use Rattle.opening.specs.Questions.{rosterFrom, rosterLength, lengthsFit, bytesWithin, weightsWithin}
 
--- ---- a test of every number
 and-no : (t u : Bool) → u ≡ false → t && u ≡ false
 and-no true u e = e
 and-no false u e = refl
@@ -32,68 +30,7 @@ and-no false u e = refl
 and-false : (t : Bool) → t && false ≡ false
 and-false t = and-no t false refl
 
-module _ (f : ℕ → Bool) where
-  pub every-more : (k : ℕ) → every k f ≡ true → f (k + 1) ≡ true → every (k + 1) f ≡ true
-  unfolding every
-  every-more k e h =
-      let here : f (suc k) ≡ true = ap f (sym (add-one k)) ∙ h in
-      rw add-one (and-true (every k f) (f (suc k)) e here)
-
-  pub every-fails : (n k : ℕ) → k < n → f (k + 1) ≡ false → every n f ≡ false
-  unfolding every
-  every-fails zero k h e = absurd (omega arith)
-  every-fails (suc n) k h e = by (ℕ-discrete k n) (λ g. every-fails n k g e)
-    where
-      by : Dec (k ≡ n) → (k < n → every n f ≡ false) → every n f && f (suc n) ≡ false
-      by (yes same) before =
-          let last : f (suc n) ≡ false = ap f (omega arith) ∙ e in
-          and-no (every n f) (f (suc n)) last
-      by (no other) before = rw (before (omega (arith, other)))
-
-pub every-each : (f : ℕ → Bool) (n k : ℕ) → every n f ≡ true → 1 ≤ k → k ≤ n → f k ≡ true
-unfolding every
-every-each f zero k e low high = absurd (omega arith)
-every-each f (suc n) k e low high =
-    let h = both-true (every n f) (f (suc n)) e in
-    by (ℕ-discrete k (suc n)) (h .1) (λ g. every-each f n k (h .0) low g)
-  where
-    by : Dec (k ≡ suc n) → f (suc n) ≡ true → (k ≤ n → f k ≡ true) → f k ≡ true
-    by (yes same) last before = rw same last
-    by (no other) last before = before (omega (arith, other))
-
-pub every-same : (f g : ℕ → Bool) (n : ℕ) → ((k : ℕ) → 1 ≤ k → k ≤ n → f k ≡ g k) → every n f ≡ every n g
-unfolding every
-every-same f g zero same = refl
-every-same f g (suc n) same =
-    rw (every-same f g n (λ k low high. same k low (omega arith)), same (suc n) (omega arith) (omega arith))
-
--- ---- a turn of each loop
-module _ (s : List ℕ) (a most : ℕ) where
-  pub bytes-more : (k x : ℕ) → bytesWithin s a k most ≡ true → x ≡ u8At s (a + (k + 1)) → between 1 most x ≡ true → bytesWithin s a (k + 1) most ≡ true
-  unfolding bytesWithin
-  bytes-more k x so e yes-here = every-more _ k so (rw (← e) yes-here)
-
-  pub bytes-fail : (n k x : ℕ) → k < n → x ≡ u8At s (a + (k + 1)) → between 1 most x ≡ false → bytesWithin s a n most ≡ false
-  unfolding bytesWithin
-  bytes-fail n k x h e no-here = every-fails _ n k h (rw (← e) no-here)
-
-  pub bytes-none : bytesWithin s a 0 most ≡ true
-  unfolding bytesWithin every
-  bytes-none = refl
-
-module _ (s : List ℕ) (a : ℕ) where
-  pub weights-more : (k : ℕ) (w : ℤ) → weightsWithin s a k ≡ true → w ≡ i32At s (a + 4 * (k + 1)) → leb (natAbs w) 1000000 ≡ true → weightsWithin s a (k + 1) ≡ true
-  unfolding weightsWithin
-  weights-more k w so e yes-here = every-more _ k so (rw (← e) yes-here)
-
-  pub weights-fail : (n k : ℕ) (w : ℤ) → k < n → w ≡ i32At s (a + 4 * (k + 1)) → leb (natAbs w) 1000000 ≡ false → weightsWithin s a n ≡ false
-  unfolding weightsWithin
-  weights-fail n k w h e no-here = every-fails _ n k h (rw (← e) no-here)
-
-  pub weights-none : weightsWithin s a 0 ≡ true
-  unfolding weightsWithin every
-  weights-none = refl
-
+-- ---- weights
 pub weight-low : (w : ℤ) → w <ℤ negsuc 999999 → leb (natAbs w) 1000000 ≡ false
 weight-low w h = lt-leb (natAbs w) 1000000 (omega (signed, magnitude-parts w))
 
@@ -188,10 +125,10 @@ module _ (s : List ℕ) where
       rw (
         every-same (λ c. between 1 (u16At s 2) (cond (between 1 (u16At s 4) c) (u8At s (7 + c)) 0))
             (λ c. between 1 (u16At s 2) (u8At s (7 + c)))
-            (u16At s 4) (λ k low high. rw (numbered-between (u16At s 4) k (low, high))),
+            (u16At s 4) (λ k h. rw (numbered-between (u16At s 4) k h)),
         every-same (λ i. between 1 (u16At s 4) (cond (between 1 (u16At s 6) i) (u8At s (7 + u16At s 4 + i)) 0))
             (λ i. between 1 (u16At s 4) (u8At s (7 + u16At s 4 + i)))
-            (u16At s 6) (λ k low high. rw (numbered-between (u16At s 6) k (low, high))),
+            (u16At s 6) (λ k h. rw (numbered-between (u16At s 6) k h)),
       )
 
   pub names-first : (c g : ℕ) (t : Bool) → c ≡ u16At s 4 → g ≡ u16At s 2 → t ≡ bytesWithin s 7 c g → t ≡ false → false ≡ namesFit (rosterFrom s)
@@ -209,7 +146,7 @@ module _ (s : List ℕ) where
   weights-by =
       every-same (λ i. leb (natAbs (cond (between 1 (u16At s 6) i) (i32At s (4 + u16At s 4 + u16At s 6 + 4 * i)) (pos 0))) 1000000)
       (λ i. leb (natAbs (i32At s (4 + u16At s 4 + u16At s 6 + 4 * i))) 1000000)
-      (u16At s 6) (λ k low high. rw (numbered-between (u16At s 6) k (low, high)))
+      (u16At s 6) (λ k h. rw (numbered-between (u16At s 6) k h))
 
   pub weights-read : (c i : ℕ) → c ≡ u16At s 4 → i ≡ u16At s 6 → weightsWithin s (4 + c + i) i ≡ weightsFit (rosterFrom s)
   weights-read c i ec ei = sym (rw (ec, ei) weights-by)

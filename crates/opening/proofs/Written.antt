@@ -8,11 +8,9 @@ use native.Mathlib.Numerals.{add-one}
 use native.Mathlib.Omega.{arith}
 use lib.ListN.{length, getD}
 use Rattle.words.specs.Bytes.{Bytes}
-use lib.IntN.{ℤ}
-use Rattle.words.specs.Fields.{u8At, i32At}
-use Rattle.words.specs.Words.{wordAt, putWord, putSigned}
+use Rattle.words.specs.Words.{wordAt, putWord}
 use Rattle.words.proofs.Memory.{length-put, bytes-put, byte-put-other, word-put-same, word-put-other}
-use Rattle.opening.specs.Opening.{cleared, written, bytesWritten, weightsWritten}
+use Rattle.opening.specs.Opening.{cleared, written}
 
 -- ---- cleared words
 module _ (m : List ℕ) where
@@ -97,17 +95,26 @@ written-same f g m (suc n) same =
     same (written f m n) (suc n) (omega arith) (omega arith)
     ∙ ap (λ l. g l (suc n)) (written-same f g m n (λ l k low high. same l k low (omega arith)))
 
--- ---- a turn of each loop
-pub bytes-turn : (s : List ℕ) (k a : ℕ) (first m after : List ℕ) (i x : ℕ) → m ≡ bytesWritten s k a first i → x ≡ u8At s (a + (i + 1)) → after ≡ putWord m (k + (i + 1)) x → after ≡ bytesWritten s k a first (i + 1)
-bytes-turn s k a first m after i x before read stored =
-    stored
-    ∙ ap (λ l. putWord l (k + (i + 1)) x) before
-    ∙ ap (putWord (bytesWritten s k a first i) (k + (i + 1))) read
-    ∙ written-more (λ l j. putWord l (k + j) (u8At s (a + j))) first i
+-- ---- a loop that writes them, by what holds before turn i
+module _ (put : List ℕ → ℕ → List ℕ) where
+  pub record WrittenTo (first m : List ℕ) (n i : ℕ) : Type 0 where
+    pub within : i ≤ n
+    pub size : length m ≡ length first
+    pub so-far : m ≡ written put first i
 
-pub weights-turn : (s : List ℕ) (k a : ℕ) (first m after : List ℕ) (i : ℕ) (w : ℤ) → m ≡ weightsWritten s k a first i → w ≡ i32At s (a + 4 * (i + 1)) → after ≡ putSigned m (k + (i + 1)) w → after ≡ weightsWritten s k a first (i + 1)
-weights-turn s k a first m after i w before read stored =
-    stored
-    ∙ ap (λ l. putSigned l (k + (i + 1)) w) before
-    ∙ ap (putSigned (weightsWritten s k a first i) (k + (i + 1))) read
-    ∙ written-more (λ l j. putSigned l (k + j) (i32At s (a + 4 * j))) first i
+  pub written-start : (m : List ℕ) (n : ℕ) → WrittenTo m m n 0
+  written-start m n = record { within = omega arith; size = refl; so-far = sym (written-none put m) }
+
+  pub written-turn : {first m after : List ℕ} {n i : ℕ} → WrittenTo first m n i → i < n → after ≡ put m (i + 1) → length after ≡ length m
+      → WrittenTo first after n (i + 1)
+  written-turn {first} {i = i} was h stored kept =
+      record {
+        within = omega arith;
+        size = kept ∙ was .size;
+        so-far = stored ∙ ap (λ l. put l (i + 1)) (was .so-far) ∙ written-more put first i;
+      }
+
+  pub written-end : {first m : List ℕ} {n i : ℕ} → WrittenTo first m n i → n ≤ i → m ≡ written put first n
+  written-end {n = n} {i = i} was end =
+      let same : i ≡ n = omega arith in
+      rw same at (was .so-far)

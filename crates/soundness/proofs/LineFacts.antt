@@ -22,7 +22,7 @@ use Rattle.layout.specs.Rosters.{every}
 use Rattle.layout.specs.View.{rosterOf, flag, onRoster, linesOf}
 use Rattle.soundness.specs.Soundness.{lineInRange, groupLineInRange, accountLinesSound, linesSound}
 use Rattle.soundness.specs.Held.{Figures}
-use Rattle.soundness.proofs.Every.{every-out, every-in}
+use Rattle.layout.proofs.Every.{every-out, every-in}
 
 -- ---- one line
 pub line-out : (l : Line) → lineInRange l ≡ true → LineFits 1000000000 l

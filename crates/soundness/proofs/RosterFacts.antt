@@ -14,7 +14,7 @@ use Rattle.layout.specs.Rosters.{every, sizesFit, namesFit, weightsFit}
 use Rattle.layout.specs.View.{rosterOf}
 use Rattle.soundness.specs.Soundness.{rosterSound}
 use Rattle.soundness.proofs.Asked.{numbered-between}
-use Rattle.soundness.proofs.Every.{every-out, every-in}
+use Rattle.layout.proofs.Every.{every-out, every-in}
 use Rattle.soundness.proofs.RosterLaws.{sound-sizes, sizes-numbered}
 
 module _ (m : List ℕ) where

@@ -20,28 +20,17 @@ use Rattle.layout.specs.View.{rosterOf}
 use Rattle.soundness.specs.Soundness.{rosterSound}
 use Rattle.soundness.specs.Cells.{Readable}
 use Rattle.soundness.proofs.Asked.{numbered-between}
-use Rattle.soundness.proofs.Every.{every-same}
+use Rattle.layout.proofs.Every.{every-same}
 
 -- the words of the roster
 pub roster-long : (m : List ℕ) → 65536 ≤ length m → length (partOf m rosterWord 76) ≡ 608
 roster-long m h = length-part m rosterWord 76 (omega arith)
 
 module _ (m : List ℕ) where
-  pub accounts-word : wordAt (partOf m rosterWord 76) 0 ≡ rosterOf m .accounts
+  pub size-words : (wordAt (partOf m rosterWord 76) 0 ≡ rosterOf m .accounts) × (wordAt (partOf m rosterWord 76) 1 ≡ rosterOf m .groups)
+      × (wordAt (partOf m rosterWord 76) 2 ≡ rosterOf m .contracts) × (wordAt (partOf m rosterWord 76) 3 ≡ rosterOf m .instruments)
   unfolding rosterOf listed rosterIn
-  accounts-word = refl
-
-  pub groups-word : wordAt (partOf m rosterWord 76) 1 ≡ rosterOf m .groups
-  unfolding rosterOf listed rosterIn
-  groups-word = refl
-
-  pub contracts-word : wordAt (partOf m rosterWord 76) 2 ≡ rosterOf m .contracts
-  unfolding rosterOf listed rosterIn
-  contracts-word = refl
-
-  pub instruments-word : wordAt (partOf m rosterWord 76) 3 ≡ rosterOf m .instruments
-  unfolding rosterOf listed rosterIn
-  instruments-word = refl
+  size-words = (refl, refl, refl, refl)
 
   pub group-word : (c : ℕ) → Numbered (rosterOf m .contracts) c → rosterOf m .groupOf c ≡ wordAt (partOf m rosterWord 76) (3 + c)
   unfolding rosterOf listed rosterIn

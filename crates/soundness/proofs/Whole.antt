@@ -14,22 +14,23 @@ use Rattle.layout.specs.View.{firstOf, openOrders}
 use Rattle.soundness.specs.Soundness.{ascend, holds, rosterSound, linesSound, ordersSound, positionsSound, sound, soundDesk}
 
 -- the tests in the code's order; a no refuses whatever the others say
-in-order : (l k c f i r n o p : Bool) → (l && (k && c && f && i) && (r && n && o && p)) ≡ (l && (k && (c && (f && (r && (n && (i && o && p)))))))
-in-order false k c f i r n o p = refl
-in-order true false c f i r n o p = refl
-in-order true true false f i r n o p = refl
-in-order true true true false i r n o p = refl
-in-order true true true true false false n o p = refl
-in-order true true true true false true false o p = refl
-in-order true true true true false true true o p = refl
-in-order true true true true true false n o p = refl
-in-order true true true true true true false o p = refl
-in-order true true true true true true true o p = refl
+in-order : (l k c f r n i o p : Bool)
+    → (l && (k && c && f) && (r && n && i && o && p)) ≡ (l && (k && (c && (f && (r && (n && (i && o && p)))))))
+in-order false k c f r n i o p = refl
+in-order true false c f r n i o p = refl
+in-order true true false f r n i o p = refl
+in-order true true true false r n i o p = refl
+in-order true true true true false n i o p = refl
+in-order true true true true true false i o p = refl
+in-order true true true true true true i o p = refl
 
 module _ (m : List ℕ) where
-  asked : soundDesk m ≡ (longEnough m && (eqb (wordAt m kindWord) 1 && (leb (wordAt m countWord) 256 && (leb (firstOf m) 256 && (rosterSound m && (linesSound m && (ascend 0 (openOrders m) && ordersSound m && positionsSound m)))))))
+  asked : soundDesk m ≡ (longEnough m && (eqb (wordAt m kindWord) 1 && (leb (wordAt m countWord) 256 && (leb (firstOf m) 256
+      && (rosterSound m && (linesSound m && (ascend 0 (openOrders m) && ordersSound m && positionsSound m)))))))
   unfolding soundDesk holds sound
-  asked = in-order (longEnough m) (eqb (wordAt m kindWord) 1) (leb (wordAt m countWord) 256) (leb (firstOf m) 256) (ascend 0 (openOrders m)) (rosterSound m) (linesSound m) (ordersSound m) (positionsSound m)
+  asked =
+      in-order (longEnough m) (eqb (wordAt m kindWord) 1) (leb (wordAt m countWord) 256) (leb (firstOf m) 256) (rosterSound m)
+      (linesSound m) (ascend 0 (openOrders m)) (ordersSound m) (positionsSound m)
 
   pub too-short : length m < 65536 → false ≡ soundDesk m
   unfolding longEnough

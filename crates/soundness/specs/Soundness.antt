@@ -1,5 +1,13 @@
--- Question 5: is the lent memory long enough, and does it hold a sound desk? Two definitions, each computed: what this layout
--- asks (`holds`), and document 01's list, sentence by sentence (`sound`).
+-- Question 5: is the lent memory long enough, and does it hold a sound desk? Each part is computed. `holds` is what this layout asks;
+-- `sound` is document 01's definition of a sound desk, clause by clause, each with its sentence:
+--   "its roster would be accepted"                                       rosterSound
+--   "its lines and orders are in range"                                  linesSound; orderInRange
+--   "open ids are non-zero and differ"                                   idsSound
+--   "every remaining is at least 1"                                      remains
+--   "B and V equal the orders' sums"                                     no test: B and V are not stored, they are those sums
+--   "S + B and −S + V are at most 1,000,000,000"                         positionsSound
+--   "every account with an open order is marked as trading"              marked
+-- The three that are asked of each order by itself stand together in `orderSound`.
 use Prim.Native.Nat.{ℕ, zero, suc, _+_, _*_}
 use mathlib.Core.Bool.{Bool, true, _&&_}
 use mathlib.Core.List.{List, [], _∷_}
@@ -20,29 +28,17 @@ use Rattle.layout.specs.Layout.{kindWord, countWord, ownRow, defaultRow, groupR
 use Rattle.layout.specs.Rosters.{every, sizesFit, namesFit, weightsFit, longEnough}
 use Rattle.layout.specs.View.{rosterOf, balancesOf, firstOf, recordsOf, openOrders, tradingOf}
 
--- ids above `least`, strictly ascending: from 0 on they are non-zero and differ
-unfoldable pub ascend : ℕ → List Order → Bool
-ascend least [] = true
-ascend least (o ∷ os) = ltb least (o .id) && ascend (o .id) os
+-- ---- "its roster would be accepted"
+unfoldable pub rosterSound : List ℕ → Bool
+rosterSound m = sizesFit (rosterOf m) && namesFit (rosterOf m) && weightsFit (rosterOf m)
 
+-- ---- "its lines [..] are in range"
 -- every figure of a line is from 0 to 1,000,000,000, whether the line is set or not
 unfoldable pub lineInRange : Line → Bool
 lineInRange l = leb (l .tci) 1000000000 && leb (l .tvi) 1000000000 && leb (l .lci) 1000000000 && leb (l .lvi) 1000000000
 
 unfoldable pub groupLineInRange : GroupLine → Bool
 groupLineInRange l = leb (l .lcc) 1000000000 && leb (l .lvc) 1000000000
-
--- the layout's own conditions: the kind of desk, the count of orders, their first record, ids ascending
-unfoldable pub holds : List ℕ → Bool
-holds m =
-    eqb (wordAt m kindWord) 1
-    && leb (wordAt m countWord) 256
-    && leb (firstOf m) 256
-    && ascend 0 (openOrders m)
-
--- its roster would be accepted
-unfoldable pub rosterSound : List ℕ → Bool
-rosterSound m = sizesFit (rosterOf m) && namesFit (rosterOf m) && weightsFit (rosterOf m)
 
 -- the lines of account a
 unfoldable pub accountLinesSound : List ℕ → ℕ → Bool
@@ -51,19 +47,26 @@ accountLinesSound m a =
     && every (rosterOf m .contracts) (λ c. lineInRange (lineAt m (defaultRow a + c * 2)))
     && every (rosterOf m .groups) (λ g. groupLineInRange (groupLineAt m (groupRow a + g)))
 
--- its lines are in range
 unfoldable pub linesSound : List ℕ → Bool
 linesSound m = every (rosterOf m .accounts) (accountLinesSound m)
 
--- an order is in range: account and instrument on the roster, total 1 to 1,000,000 (its side is one bit, and either value is a
--- side); its remaining is at least 1, and its account is marked as trading
+-- ---- of each open order
+-- "its [..] orders are in range": account and instrument on the roster, total 1 to 1,000,000 (its side is one bit, and either value is
+-- a side)
+abbrev pub orderInRange : Roster → Order → Bool
+orderInRange r o =
+    between 1 (r .accounts) (o .account) && between 1 (r .instruments) (o .instrument) && between 1 1000000 (o .total)
+
+-- "every remaining is at least 1"
+abbrev pub remains : Order → Bool
+remains o = leb 1 (remaining o)
+
+-- "every account with an open order is marked as trading"
+abbrev pub marked : (ℕ → Bool) → Order → Bool
+marked trading o = trading (o .account)
+
 unfoldable pub orderSound : Roster → (ℕ → Bool) → Order → Bool
-orderSound r trading o =
-    between 1 (r .accounts) (o .account)
-    && between 1 (r .instruments) (o .instrument)
-    && between 1 1000000 (o .total)
-    && leb 1 (remaining o)
-    && trading (o .account)
+orderSound r trading o = orderInRange r o && remains o && marked trading o
 
 -- each of the n records from record p on
 unfoldable pub recordsSound : Roster → (ℕ → Bool) → List ℕ → ℕ → ℕ → Bool
@@ -71,12 +74,21 @@ recordsSound r trading m p zero = true
 recordsSound r trading m p (suc n) =
     orderSound r trading (orderAt m p) && recordsSound r trading m (p + 1) n
 
--- its orders are in range
 unfoldable pub ordersSound : List ℕ → Bool
 ordersSound m =
     recordsSound (rosterOf m) (tradingOf m) (recordsOf m) 0 (wordAt m countWord)
 
--- S + B (long) and −S + V (short) are at most 1,000,000,000
+-- ---- "open ids are non-zero and differ"
+-- ids above `least`, strictly ascending, as this layout stores them: from 0 on they are non-zero and differ
+unfoldable pub ascend : ℕ → List Order → Bool
+ascend least [] = true
+ascend least (o ∷ os) = ltb least (o .id) && ascend (o .id) os
+
+abbrev pub idsSound : List ℕ → Bool
+idsSound m = ascend 0 (openOrders m)
+
+-- ---- "S + B and −S + V are at most 1,000,000,000"
+-- S + B for long, −S + V for short; B and V are what the open orders say
 unfoldable pub positionSound : List ℕ → ℕ → ℕ → Way → Bool
 positionSound m a i w =
     leZ (ofInstrument (derivatives .unit) (openOrders m) a (balancesOf m a) i w) (pos 1000000000)
@@ -91,14 +103,13 @@ accountSound m a = every (rosterOf m .instruments) (placeSound m a)
 unfoldable pub positionsSound : List ℕ → Bool
 positionsSound m = every (rosterOf m .accounts) (accountSound m)
 
--- document 01's list. B and V are what the orders say, so that they equal the orders' sums is no condition.
-unfoldable pub sound : List ℕ → Bool
-sound m =
-    rosterSound m
-    && linesSound m
-    && ordersSound m
-    && positionsSound m
+-- ---- question 5
+-- the layout's own conditions: the kind of desk, the count of orders, their first record
+unfoldable pub holds : List ℕ → Bool
+holds m = eqb (wordAt m kindWord) 1 && leb (wordAt m countWord) 256 && leb (firstOf m) 256
 
--- 5
+unfoldable pub sound : List ℕ → Bool
+sound m = rosterSound m && linesSound m && idsSound m && ordersSound m && positionsSound m
+
 unfoldable pub soundDesk : List ℕ → Bool
 soundDesk m = longEnough m && holds m && sound m

@@ -1,11 +1,12 @@
 // The roster that a memory holds: its sizes, and whether it would be accepted.
 ghost use mathlib.Core.Path.{_≡_};
-ghost use Prim.Native.Nat.{_+_, _*_, _≤_};
+ghost use Prim.Native.Nat.{_+_, _*_, _≤_, _<_};
 ghost use lib.Dec.{leb};
 ghost use lib.IntN.{natAbs};
 ghost use lib.ListN.{length};
-ghost use Rattle.words.specs.Words.{wordAt, signedAt};
+ghost use Rattle.words.specs.Words.{wordAt, signedAt, partOf};
 ghost use Rattle.book.specs.Decoding.{between};
+ghost use Rattle.layout.specs.Layout.{rosterWord};
 ghost use Rattle.layout.specs.Rosters.{every, sizesFit};
 ghost use Rattle.layout.specs.View.{rosterOf};
 ghost use Rattle.soundness.specs.Soundness.{rosterSound};
@@ -16,12 +17,20 @@ use words::part;
 use words::signed_word;
 use words::word;
 
+// The size in word `k` of the roster.
+fn size(m: &[u8], k: usize) -> u64
+    requires { ⌜ (65536 ≤ length (now m)) × (k < 4) ⌝ }
+    ensures { λ r. ⌜ r ≡ wordAt (partOf (now (m .entry)) rosterWord 76) k ⌝ }
+{
+    word(part(m, ROSTER, 76), k)
+}
+
 // How many accounts the roster has.
 pub fn accounts(m: &[u8]) -> u64
     requires { ⌜ 65536 ≤ length (now m) ⌝ }
     ensures { λ r. ⌜ r ≡ rosterOf (now (m .entry)) .accounts ⌝ }
 {
-    word(part(m, ROSTER, 76), 0)
+    size(m, 0)
 }
 
 // How many groups.
@@ -29,7 +38,7 @@ pub fn groups(m: &[u8]) -> u64
     requires { ⌜ 65536 ≤ length (now m) ⌝ }
     ensures { λ r. ⌜ r ≡ rosterOf (now (m .entry)) .groups ⌝ }
 {
-    word(part(m, ROSTER, 76), 1)
+    size(m, 1)
 }
 
 // How many contracts.
@@ -37,7 +46,7 @@ pub fn contracts(m: &[u8]) -> u64
     requires { ⌜ 65536 ≤ length (now m) ⌝ }
     ensures { λ r. ⌜ r ≡ rosterOf (now (m .entry)) .contracts ⌝ }
 {
-    word(part(m, ROSTER, 76), 2)
+    size(m, 2)
 }
 
 // How many instruments.
@@ -45,7 +54,7 @@ pub fn instruments(m: &[u8]) -> u64
     requires { ⌜ 65536 ≤ length (now m) ⌝ }
     ensures { λ r. ⌜ r ≡ rosterOf (now (m .entry)) .instruments ⌝ }
 {
-    word(part(m, ROSTER, 76), 3)
+    size(m, 3)
 }
 
 // Are the sizes within their limits?

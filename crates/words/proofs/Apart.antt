@@ -36,7 +36,8 @@ module _ (f : List ℕ → List ℕ) where
       past-store n (a + 1) (x / 256) (λ i low high. passes i (omega arith) (omega arith)) (set m a (x % 256))
       ∙ ap (λ (l : List ℕ). store n l (a + 1) (x / 256)) (passes a (omega arith) (omega arith) m (x % 256))
 
-  pub past-words : (vs : List ℕ) (k : ℕ) → ((i : ℕ) → k ≤ i / 8 → i / 8 < k + length vs → Passes f i) → (m : List ℕ) → f (putWords m k vs) ≡ putWords (f m) k vs
+  pub past-words : (vs : List ℕ) (k : ℕ) → ((i : ℕ) → k ≤ i / 8 → i / 8 < k + length vs → Passes f i) → (m : List ℕ)
+      → f (putWords m k vs) ≡ putWords (f m) k vs
   unfolding putWords putWord
   past-words [] k passes m = refl
   past-words (x ∷ vs) k passes m =

@@ -40,6 +40,10 @@ module _ (w : Width) where
     pub read-back : toZ w (ofZ w z) ≡ z
     read-back = toZ-ofZ w z fits
 
+    -- a signed number that was made of the bits n, which are k
+    pub read-signed : {n k : ℕ} → z ≡ signedOf (bits w) n → n ≡ k → toZ w (ofZ w z) ≡ signedOf (bits w) k
+    read-signed is same = read-back ∙ is ∙ ap (signedOf (bits w)) same
+
     module _ (negative : z <ℤ pos 0) where
       pub below-fits : SFits w (negsuc 0 -ℤ toZ w (ofZ w z))
       below-fits = rw read-back (omega (signed, difference-parts (negsuc 0) z))

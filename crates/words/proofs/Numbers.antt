@@ -25,11 +25,16 @@ byte-store-other (suc n) m a v i apart =
     ∙ getD-set-other m a i (v % 256) 0 (λ e. apart 0 (omega arith) (omega arith))
 
 -- a number of k bytes that shares none with the n stored ones is as it was
-pub number-store-other : (k n : ℕ) (m : List ℕ) (a v b : ℕ) → ((i j : ℕ) → i < k → j < n → b + i ≢ a + j) → number k (store n m a v) b ≡ number k m b
+pub number-store-other : (k n : ℕ) (m : List ℕ) (a v b : ℕ) → ((i j : ℕ) → i < k → j < n → b + i ≢ a + j)
+    → number k (store n m a v) b ≡ number k m b
 unfolding number
 number-store-other zero n m a v b apart = refl
 number-store-other (suc k) n m a v b apart =
-    rw (byte-store-other n m a v b (λ j h e. apart 0 j (omega arith) h (omega arith)), number-store-other k n m a v (b + 1) (λ i j g h e. apart (i + 1) j (omega arith) h (omega arith)))
+    rw (
+      byte-store-other n m a v b (λ j h e. apart 0 j (omega arith) h (omega arith)),
+      number-store-other k n m a v (b + 1)
+          (λ i j g h e. apart (i + 1) j (omega arith) h (omega arith)),
+    )
 
 -- the stored number is read back
 pub number-store-same : (n : ℕ) (m : List ℕ) (a v : ℕ) → a + n ≤ length m → v < 256 ^ n → number n (store n m a v) a ≡ v
@@ -39,8 +44,10 @@ number-store-same (suc n) m a v fits below =
     let rest : v / 256 < 256 ^ n = omega (arith, pow-suc 256 n) in
     let inside : a < length m = omega arith in
     let long : a + 1 + n ≤ length (set m a (v % 256)) = simp length-set (omega arith) in
-    let first : getD (store n (set m a (v % 256)) (a + 1) (v / 256)) a 0 ≡ v % 256 = byte-store-other n (set m a (v % 256)) (a + 1) (v / 256) a (λ j h e. omega arith) ∙ getD-set-same m a (v % 256) 0 inside in
-    let others : number n (store n (set m a (v % 256)) (a + 1) (v / 256)) (a + 1) ≡ v / 256 = number-store-same n (set m a (v % 256)) (a + 1) (v / 256) long rest in
+    let first : getD (store n (set m a (v % 256)) (a + 1) (v / 256)) a 0 ≡ v % 256 = byte-store-other n (set m a (v % 256)) (a + 1)
+    (v / 256) a (λ j h e. omega arith) ∙ getD-set-same m a (v % 256) 0 inside in
+    let others : number n (store n (set m a (v % 256)) (a + 1) (v / 256)) (a + 1) ≡ v / 256 = number-store-same n (set m a (v % 256))
+    (a + 1) (v / 256) long rest in
     rw (first, others) (omega arith)
 
 pub number-below : (n : ℕ) (m : List ℕ) (a : ℕ) → Bytes m → number n m a < 256 ^ n
@@ -67,4 +74,5 @@ pub store-bytes : (n : ℕ) (m : List ℕ) (a v : ℕ) → Bytes m → Bytes (st
 unfolding store
 store-bytes zero m a v bytes = bytes
 store-bytes (suc n) m a v bytes =
-    store-bytes n (set m a (v % 256)) (a + 1) (v / 256) (λ i. set-bytes m a (v % 256) i bytes (omega arith) (ℕ-discrete i a) (decLt a (length m)))
+    store-bytes n (set m a (v % 256)) (a + 1) (v / 256)
+    (λ i. set-bytes m a (v % 256) i bytes (omega arith) (ℕ-discrete i a) (decLt a (length m)))

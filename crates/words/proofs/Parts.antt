@@ -76,7 +76,9 @@ module _ (k : ℕ) where
       (take-append-drop (k * 8) (putWords m (k + j) vs))
 
   -- words of the part from word k on, lent and back, that are moved within it are moved within the whole
-  pub moved-behind : (m ys : List ℕ) (j i n a b : ℕ) → k + j ≡ a → k + i ≡ b → ys ≡ putWords (take (length m - k * 8) (drop (k * 8) m)) j (wordsAt (take (length m - k * 8) (drop (k * 8) m)) i n) → take (k * 8) m ++ (ys ++ drop (length m - k * 8) (drop (k * 8) m)) ≡ putWords m a (wordsAt m b n)
+  pub moved-behind : (m ys : List ℕ) (j i n a b : ℕ) → k + j ≡ a → k + i ≡ b
+      → ys ≡ putWords (take (length m - k * 8) (drop (k * 8) m)) j (wordsAt (take (length m - k * 8) (drop (k * 8) m)) i n)
+      → take (k * 8) m ++ (ys ++ drop (length m - k * 8) (drop (k * 8) m)) ≡ putWords m a (wordsAt m b n)
   moved-behind m ys j i n a b to from stored =
       let rest : List ℕ = drop (k * 8) m in
       let long : length rest ≤ length m - k * 8 = omega (arith, length-drop (k * 8) m) in

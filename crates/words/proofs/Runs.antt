@@ -13,7 +13,11 @@ pub words-put-other : (m : List ℕ) (i v k n : ℕ) → ((j : ℕ) → j < n �
 unfolding wordsAt
 words-put-other m i v k zero apart = refl
 words-put-other m i v k (suc n) apart =
-    rw (word-put-other m i v k (λ e. apart 0 (omega arith) (omega arith)), words-put-other m i v (k + 1) n (λ j h e. apart (j + 1) (omega arith) (omega arith)))
+    rw (
+      word-put-other m i v k (λ e. apart 0 (omega arith) (omega arith)),
+      words-put-other m i v (k + 1) n
+          (λ j h e. apart (j + 1) (omega arith) (omega arith)),
+    )
 
 pub length-puts : (m : List ℕ) (k : ℕ) (vs : List ℕ) → length (putWords m k vs) ≡ length m
 unfolding putWords
@@ -25,14 +29,16 @@ unfolding putWords
 bytes-puts m k [] bytes = bytes
 bytes-puts m k (v ∷ vs) bytes = bytes-puts (putWord m k v) (k + 1) vs (bytes-put m k v bytes)
 
-pub word-puts-other : (m : List ℕ) (k : ℕ) (vs : List ℕ) (j : ℕ) → ((i : ℕ) → i < length vs → j ≢ k + i) → wordAt (putWords m k vs) j ≡ wordAt m j
+pub word-puts-other : (m : List ℕ) (k : ℕ) (vs : List ℕ) (j : ℕ) → ((i : ℕ) → i < length vs → j ≢ k + i)
+    → wordAt (putWords m k vs) j ≡ wordAt m j
 unfolding putWords
 word-puts-other m k [] j apart = refl
 word-puts-other m k (v ∷ vs) j apart =
     word-puts-other (putWord m k v) (k + 1) vs j (λ i h e. apart (i + 1) (omega arith) (omega arith))
     ∙ word-put-other m k v j (λ e. apart 0 (omega arith) (omega arith))
 
-pub word-puts-same : (m : List ℕ) (k : ℕ) (vs : List ℕ) (j : ℕ) → (k + length vs) * 8 ≤ length m → AreWords vs → j < length vs → wordAt (putWords m k vs) (k + j) ≡ getD vs j 0
+pub word-puts-same : (m : List ℕ) (k : ℕ) (vs : List ℕ) (j : ℕ) → (k + length vs) * 8 ≤ length m → AreWords vs → j < length vs
+    → wordAt (putWords m k vs) (k + j) ≡ getD vs j 0
 unfolding putWords
 word-puts-same m k [] j fits small h = absurd (omega arith)
 word-puts-same m k (v ∷ vs) zero fits small h =
@@ -54,7 +60,8 @@ puts-back m k (suc n) bytes =
     ∙ puts-back m (k + 1) n bytes
 
 -- a run of a + b words is stored as its first a and the b behind them
-pub puts-more : (l : List ℕ) (j : ℕ) (m : List ℕ) (k a b : ℕ) → putWords l j (wordsAt m k (a + b)) ≡ putWords (putWords l j (wordsAt m k a)) (j + a) (wordsAt m (k + a) b)
+pub puts-more : (l : List ℕ) (j : ℕ) (m : List ℕ) (k a b : ℕ)
+    → putWords l j (wordsAt m k (a + b)) ≡ putWords (putWords l j (wordsAt m k a)) (j + a) (wordsAt m (k + a) b)
 unfolding wordsAt putWords
 puts-more l j m k zero b =
     let e : j + 0 ≡ j = omega arith in

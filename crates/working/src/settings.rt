@@ -2,27 +2,30 @@
 ghost use mathlib.Core.Path.{_≡_};
 ghost use mathlib.Core.Bool.{true, false};
 ghost use mathlib.Core.Option.{some};
+ghost use Prim.Native.Nat.{_+_, _*_, _≤_};
+ghost use lib.ListN.{length};
 ghost use Rattle.book.specs.declared.Event.the-variants.{Limit, Balance, Block};
-ghost use Rattle.book.specs.declared.LimitLine.the-variants.{Own, Default, OfGroup};
+ghost use Rattle.book.specs.declared.LimitLine.the-variants.{OfGroup};
 ghost use Rattle.book.specs.Market.{derivatives};
 ghost use Rattle.book.specs.Books.{unsets, lineOf, groupLineOf};
 ghost use Rattle.book.specs.Table.{figuresOfLineFit};
-ghost use Rattle.layout.specs.FieldStores.{storeOwn, storeDefault, storeOfGroup, lineWith};
+ghost use Rattle.layout.specs.FieldStores.{storeLine, storeOfGroup, lineWith};
 ghost use Rattle.working.specs.Working.{Ready, worked};
 use book::Blocked;
 use book::Figures;
 use book::LimitLine;
 use book::is_minus_one;
+use layout::stores::LinePlace;
 use layout::stores::block_account;
 use layout::stores::block_group;
 use layout::stores::block_instrument;
+use layout::stores::default_line;
+use layout::stores::own_line;
 use layout::stores::set_balance;
-use layout::stores::set_default;
+use layout::stores::set_line;
 use layout::stores::set_of_group;
-use layout::stores::set_own;
-use layout::stores::unset_default;
+use layout::stores::unset_line;
 use layout::stores::unset_of_group;
-use layout::stores::unset_own;
 
 // The figures of a line that is set.
 struct Limits {
@@ -44,33 +47,16 @@ fn limits_of(figures: Figures) -> Limits
     }
 }
 
-// An instrument's own line: −1 throughout and it is set no more.
-fn work_own(m: &mut [u8], account: u64, instrument: u64, figures: Figures)
-    requires { ⌜ Ready (now m) (Limit account (Own instrument figures)) 0 ⌝ }
-    ensures { λ r. ⌜ now (m .exit) ≡ storeOwn (now (m .entry)) account instrument (lineOf figures) ⌝ }
+// A line of four figures: −1 throughout and it is set no more.
+fn work_line(m: &mut [u8], at: LinePlace, figures: Figures)
+    requires { ⌜ (at .0 * 8 + 8 ≤ length (now m)) × (at .1 * 8 + 16 ≤ length (now m)) × (figuresOfLineFit derivatives figures ≡ true) ⌝ }
+    ensures { λ r. ⌜ now (m .exit) ≡ storeLine (now (m .entry)) (at .0) (at .1) (lineOf figures) ⌝ }
 {
-    let a = account as usize;
-    let i = instrument as usize;
     if figures.unsets() {
-        unset_own(m, a, i);
+        unset_line(m, at);
     } else {
         let l = limits_of(figures);
-        set_own(m, a, i, l.tci, l.tvi, l.lci, l.lvi);
-    }
-}
-
-// A contract's default line: −1 throughout and it is set no more.
-fn work_default(m: &mut [u8], account: u64, contract: u64, figures: Figures)
-    requires { ⌜ Ready (now m) (Limit account (Default contract figures)) 0 ⌝ }
-    ensures { λ r. ⌜ now (m .exit) ≡ storeDefault (now (m .entry)) account contract (lineOf figures) ⌝ }
-{
-    let a = account as usize;
-    let c = contract as usize;
-    if figures.unsets() {
-        unset_default(m, a, c);
-    } else {
-        let l = limits_of(figures);
-        set_default(m, a, c, l.tci, l.tvi, l.lci, l.lvi);
+        set_line(m, at, l.tci, l.tvi, l.lci, l.lvi);
     }
 }
 
@@ -93,12 +79,17 @@ pub fn work_limit(m: &mut [u8], account: u64, line: LimitLine)
     requires { ⌜ Ready (now m) (Limit account line) 0 ⌝ }
     ensures { λ r. ⌜ now (m .exit) ≡ worked (now (m .entry)) (Limit account line) ⌝ }
 {
+    let a = account as usize;
     match line {
         LimitLine::Own {
             instrument,
             figures,
-        } => work_own(m, account, instrument, figures),
-        LimitLine::Default { contract, figures } => work_default(m, account, contract, figures),
+        } => work_line(m, own_line(a, instrument as usize), figures),
+        LimitLine::Default { contract, figures } => work_line(
+            m,
+            default_line(a, contract as usize),
+            figures,
+        ),
         LimitLine::OfGroup { group, lcc, lvc } => work_of_group(m, account, group, lcc, lvc),
     }
 }

@@ -18,5 +18,4 @@ returns c =
 
 pub set-signed-word-spec : {M : Type 1} → statement M
 set-signed-word-spec =
-    tie.close
-    (tie.spec (λ c κs. search needs) (λ c κs. search needs) (λ c. search needs) returns)
+    tie.close (tie.spec (λ c κs. search needs) (λ c κs. search needs) (λ c. search needs) returns)

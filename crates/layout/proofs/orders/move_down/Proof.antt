@@ -1,22 +1,13 @@
--- 2n words moved by two words are n records moved by one (`moved-down`); at + n below 512 keeps them in the region.
+-- The words of the records that move down are their orders, stored one record lower.
+use Prim.Native.Nat.{_+_}
+use native.Mathlib.Omega.{arith}
 use borrow.Author.Needs.{needs}
-use Rattle.layout.proofs.Shifting.{moved-down}
+use Rattle.layout.proofs.Shifting.{moved}
 use Rattle.layout.proofs.orders.move_down.Statement.{statement}
 use Rattle.layout.proofs.orders.move_down.Tie as tie
 
-returns : tie.Need-returns
-returns c =
-    let moved = c .before .before in
-    let start = moved .before .before .before in
-    moved-down (start .args .m .now) _ (start .args .at) (start .args .n) (start .pre .1) (moved .words-down .ensures)
-
 pub move-down-spec : {M : Type 1} → statement M
 move-down-spec =
-    tie.close
-    (tie.spec
-    (λ c. search needs)
-    (λ c. search needs)
-    (λ c. search needs)
-    (λ c κs. search needs)
-    (λ c. search needs)
-    returns)
+    tie.close (tie.spec (λ c. search needs) (λ c. search needs) (λ c. search needs) (λ c κs. search needs) (λ c. search needs)
+    (λ c. let start = c .before .before .before .before .before in moved _ _ (start .args .at + 1) (start .args .at) (start .args .n)
+    (omega arith) (omega arith) (omega arith) (c .before .before .words-down .ensures)))

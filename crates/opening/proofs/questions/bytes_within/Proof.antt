@@ -1,56 +1,31 @@
--- The first k bytes are from 1 to `most`: one outside ends the loop by `bytes-fail`, one inside goes on by `bytes-more`.
-use Prim.Native.Nat.{_-_, _≤_}
-use mathlib.Core.Path.{_≡_, _∙_, sym}
-use mathlib.Core.Bool.{true}
+-- Byte by byte, the answer is that of the test of the byte read; the loop leaves at the first no.
+use Prim.Native.Nat.{_+_, _-_}
+use mathlib.Core.Path.{_≡_, _∙_}
 use native.Mathlib.Omega.{arith}
 use borrow.Author.Needs.{needs}
-use borrow.Author.Tests.{not-true, not-false}
+use Rattle.words.specs.Fields.{u8At}
+use Rattle.book.specs.Decoding.{between}
+use Rattle.layout.proofs.Every.{SoFar, so-far-none, so-far-on, so-far-all, every-no}
 use Rattle.opening.specs.Questions.{bytesWithin}
-use Rattle.opening.proofs.Tests.{bytes-none, bytes-more, bytes-fail}
 use Rattle.opening.proofs.questions.bytes_within.Statement.{statement}
 use Rattle.opening.proofs.questions.bytes_within.Tie as tie
 
--- the bytes behind a passed
 abbrev Inv-loop : tie.InvT-loop
-Inv-loop s a n most k₀ k = (k ≤ n) × (bytesWithin s a k most ≡ true)
+Inv-loop s a n most k₀ k = SoFar (λ j. between 1 most (u8At s (a + j))) n k
 
 abbrev μ-loop : tie.MeasureT-loop
 μ-loop s a n most k₀ k = n - k
 
-returns : tie.Need-returns Inv-loop μ-loop
-returns c =
-    let at = c .before .before .before .before in
-    sym
-    (bytes-fail _ _ _ _ (at .loop .k) _ (omega arith) (c .before .before .u8-at .ensures)
-    (sym (c .before .numbered .ensures) ∙ not-true _ (c .if1 .taken)))
-
-loop-again : tie.Need-loop-again Inv-loop μ-loop
-loop-again c =
-    let at = c .before .before .before .before in (
-      omega arith,
-      bytes-more _ _ _ (at .loop .k) _ (at .loop .inv .1) (c .before .before .u8-at .ensures)
-          (sym (c .before .numbered .ensures) ∙ not-false _ (c .if1 .left)),
-    )
-
-returns-2 : tie.Need-returns-2 Inv-loop μ-loop
-returns-2 c =
-    let at = c .before in
-    let e : at .loop .k ≡ at .before .before .args .n = omega arith in
-    sym (rw e at (at .loop .inv .1))
+-- the answer is the test's
+said : (c : tie.After-numbered Inv-loop μ-loop)
+    → let at = c .before .before .before in let a = at .before .before .args in
+    c .numbered .result ≡ between 1 (a .most) (u8At (a .s .now) (a .a + (at .loop .k + 1)))
+said c = c .numbered .ensures ∙ rw (c .before .u8-at .ensures)
 
 pub bytes-within-spec : {M : Type 1} → statement M
+unfolding bytesWithin
 bytes-within-spec =
-    tie.close
-    (tie.spec
-    Inv-loop
-    μ-loop
-    (λ c. (omega arith, bytes-none _ _ _))
-    (λ c. omega arith)
-    (λ c. omega arith)
-    (λ c κs. omega arith)
-    (λ c. search needs)
-    (λ c κs. search needs)
-    returns
-    (λ c. omega arith)
-    loop-again
-    returns-2)
+    tie.close (tie.spec Inv-loop μ-loop (λ c. so-far-none _ _) (λ c. omega arith) (λ c. omega arith) (λ c κs. omega arith)
+    (λ c. search needs) (λ c κs. search needs) (λ c. every-no _ _ _ _ (omega arith) (said (c .before)) (c .if1 .taken)) (λ c. omega arith)
+    (λ c. so-far-on _ _ (c .before .before .before .before .loop .inv) (omega arith) (said (c .before)) (c .if1 .left))
+    (λ c. so-far-all _ (c .before .loop .inv) (omega arith)))

@@ -1,56 +1,35 @@
--- The first k weights are in range: one that is not ends the loop by `weights-fail`, one that is goes on by `weights-more`.
-use Prim.Native.Nat.{_-_, _≤_}
+-- Weight by weight, the answer is that of the test of the weight read; the loop leaves at the first no.
+use Prim.Native.Nat.{_+_, _*_, _-_}
 use mathlib.Core.Path.{_≡_, _∙_, sym}
-use mathlib.Core.Bool.{true}
 use native.Mathlib.Omega.{arith}
 use borrow.Author.Needs.{needs}
-use borrow.Author.Tests.{not-true, not-false}
+use lib.Dec.{leb}
+use lib.IntN.{natAbs}
+use Rattle.words.specs.Fields.{i32At}
+use Rattle.layout.proofs.Every.{SoFar, so-far-none, so-far-on, so-far-all, every-no}
 use Rattle.opening.specs.Questions.{weightsWithin}
-use Rattle.opening.proofs.Tests.{weights-none, weights-more, weights-fail, weighed}
+use Rattle.opening.proofs.Tests.{weighed}
 use Rattle.opening.proofs.questions.weights_within.Statement.{statement}
 use Rattle.opening.proofs.questions.weights_within.Tie as tie
 
--- the weights behind a passed
 abbrev Inv-loop : tie.InvT-loop
-Inv-loop s a n k₀ k = (k ≤ n) × (weightsWithin s a k ≡ true)
+Inv-loop s a n k₀ k = SoFar (λ j. leb (natAbs (i32At s (a + 4 * j))) 1000000) n k
 
 abbrev μ-loop : tie.MeasureT-loop
 μ-loop s a n k₀ k = n - k
 
-returns : tie.Need-returns Inv-loop μ-loop
-returns c =
-    let at = c .before .before .before .before in
-    sym
-    (weights-fail _ _ _ (at .loop .k) _ (omega arith) (c .before .before .i32-at .ensures)
-    (weighed (c .before .before .i32-at .result) _ (record { sfits = c .before .before .i32-at .ok }) (c .before .weighs .ensures) ∙ not-true _ (c .if1 .taken)))
-
-loop-again : tie.Need-loop-again Inv-loop μ-loop
-loop-again c =
-    let at = c .before .before .before .before in (
-      omega arith,
-      weights-more _ _ (at .loop .k) _ (at .loop .inv .1) (c .before .before .i32-at .ensures)
-          (weighed (c .before .before .i32-at .result) _ (record { sfits = c .before .before .i32-at .ok }) (c .before .weighs .ensures) ∙ not-false _ (c .if1 .left)),
-    )
-
-returns-2 : tie.Need-returns-2 Inv-loop μ-loop
-returns-2 c =
-    let at = c .before in
-    let e : at .loop .k ≡ at .before .before .args .n = omega arith in
-    sym (rw e at (at .loop .inv .1))
+-- the answer is the test's
+said : (c : tie.After-weighs Inv-loop μ-loop)
+    → let at = c .before .before .before in let a = at .before .before .args in
+    c .weighs .result ≡ leb (natAbs (i32At (a .s .now) (a .a + 4 * (at .loop .k + 1)))) 1000000
+said c =
+    let read = c .before in
+    sym (weighed (read .i32-at .result) _ (record { sfits = read .i32-at .ok }) (c .weighs .ensures)) ∙ rw (read .i32-at .ensures)
 
 pub weights-within-spec : {M : Type 1} → statement M
+unfolding weightsWithin
 weights-within-spec =
-    tie.close
-    (tie.spec
-    Inv-loop
-    μ-loop
-    (λ c. (omega arith, weights-none _ _))
-    (λ c. omega arith)
-    (λ c. omega arith)
-    (λ c. omega arith)
-    (λ c κs. omega arith)
-    (λ c κs. search needs)
-    returns
-    (λ c. omega arith)
-    loop-again
-    returns-2)
+    tie.close (tie.spec Inv-loop μ-loop (λ c. so-far-none _ _) (λ c. omega arith) (λ c. omega arith) (λ c. omega arith)
+    (λ c κs. omega arith) (λ c κs. search needs) (λ c. every-no _ _ _ _ (omega arith) (said (c .before)) (c .if1 .taken)) (λ c. omega arith)
+    (λ c. so-far-on _ _ (c .before .before .before .before .loop .inv) (omega arith) (said (c .before)) (c .if1 .left))
+    (λ c. so-far-all _ (c .before .loop .inv) (omega arith)))

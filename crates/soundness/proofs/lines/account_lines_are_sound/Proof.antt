@@ -1,4 +1,4 @@
--- Where all 168 figures of the row are in range, so are those on the roster (`row-within`); else own, default and group lines in turn.
+-- All 168 figures in range at once are those on the roster; else each row says its part.
 use Prim.Native.Nat.{_+_, _*_}
 use mathlib.Core.Path.{_≡_, _∙_, sym}
 use borrow.Author.Needs.{needs}
@@ -13,20 +13,27 @@ use Rattle.soundness.proofs.lines.account_lines_are_sound.Statement.{st
 use Rattle.soundness.proofs.lines.account_lines_are_sound.Tie as tie
 
 -- what each call says of the account's rows
-own : (c : tie.After-row-in-range) → let a = c .before .before .before .before .before .args in c .row-in-range .result ≡ every (rosterOf (a .m .now) .instruments) (λ i. lineInRange (lineAt (a .m .now) (ownRow (a .a) + i * 2)))
+own : (c : tie.After-row-in-range) → let a = c .before .before .before .before .before .args in
+    c .row-in-range .result ≡ every (rosterOf (a .m .now) .instruments) (λ i. lineInRange (lineAt (a .m .now) (ownRow (a .a) + i * 2)))
 own c = c .row-in-range .ensures ∙ rw (c .before .instruments .ensures)
 
-default : (c : tie.After-row-in-range2) → let a = c .before .before .before .before .before .before .before .before .args in c .row-in-range2 .result ≡ every (rosterOf (a .m .now) .contracts) (λ i. lineInRange (lineAt (a .m .now) (defaultRow (a .a) + i * 2)))
+default : (c : tie.After-row-in-range2) → let a = c .before .before .before .before .before .before .before .before .args in
+    c .row-in-range2 .result ≡ every (rosterOf (a .m .now) .contracts) (λ i. lineInRange (lineAt (a .m .now) (defaultRow (a .a) + i * 2)))
 default c = c .row-in-range2 .ensures ∙ rw (c .before .contracts .ensures)
 
-of-group : (c : tie.After-group-row-in-range) → let a = c .before .before .before .before .before .before .before .before .before .before .before .args in c .group-row-in-range .result ≡ every (rosterOf (a .m .now) .groups) (λ i. groupLineInRange (groupLineAt (a .m .now) (groupRow (a .a) + i)))
+of-group : (c : tie.After-group-row-in-range)
+    → let a = c .before .before .before .before .before .before .before .before .before .before .before .args in
+    c .group-row-in-range .result
+    ≡ every (rosterOf (a .m .now) .groups) (λ i. groupLineInRange (groupLineAt (a .m .now) (groupRow (a .a) + i)))
 of-group c = c .group-row-in-range .ensures ∙ rw (c .before .groups .ensures)
 
 returns : tie.Need-returns
 returns c =
     let known = c .before .before in
     let s = known .before in
-    sym (row-within _ (λ i. known .shared-slice-known .given i .fits) _ (c .before .all-in-range .ensures (c .if1 .taken)) (s .pre .0 .instruments) (s .pre .0 .contracts) (s .pre .0 .groups))
+    sym (row-within _ (λ i. known .shared-slice-known .given i .fits) _
+    (c .before .all-in-range .ensures (c .if1 .taken)) (s .pre .0 .instruments)
+    (s .pre .0 .contracts) (s .pre .0 .groups))
 
 returns-2 : tie.Need-returns-2
 unfolding accountLinesSound
@@ -48,26 +55,7 @@ returns-4 c =
 
 pub account-lines-are-sound-spec : {M : Type 1} → statement M
 account-lines-are-sound-spec =
-    tie.close
-    (tie.spec
-    (λ c. search needs)
-    (λ c. search needs)
-    (λ c. search needs)
-    (λ c. search needs)
-    (λ c κs. search needs)
-    returns
-    (λ c. search needs)
-    (λ c. search needs)
-    (λ c κs. search needs)
-    (λ c κs. search needs)
-    returns-2
-    (λ c. search needs)
-    (λ c. search needs)
-    (λ c κs. search needs)
-    (λ c κs. search needs)
-    returns-3
-    (λ c. search needs)
-    (λ c. search needs)
-    (λ c κs. search needs)
-    (λ c κs. search needs)
-    returns-4)
+    tie.close (tie.spec (λ c. search needs) (λ c. search needs) (λ c. search needs) (λ c. search needs) (λ c κs. search needs) returns
+    (λ c. search needs) (λ c. search needs) (λ c κs. search needs) (λ c κs. search needs) returns-2 (λ c. search needs) (λ c. search needs)
+    (λ c κs. search needs) (λ c κs. search needs) returns-3 (λ c. search needs) (λ c. search needs) (λ c κs. search needs)
+    (λ c κs. search needs) returns-4)

@@ -1,52 +1,29 @@
--- The first j words are from 1 to `most`: one outside refutes `every` (`every-no`), one inside extends it (`every-on`).
-use Prim.Native.Nat.{_+_, _-_, _≤_}
+-- Number by number, the answer is that of the test of the word read; the loop leaves at the first no.
+use Prim.Native.Nat.{_+_, _-_}
 use mathlib.Core.Path.{_≡_, _∙_}
-use mathlib.Core.Bool.{true}
 use native.Mathlib.Omega.{arith}
 use borrow.Author.Needs.{needs}
 use Rattle.words.specs.Words.{wordAt}
 use Rattle.book.specs.Decoding.{between}
-use Rattle.layout.specs.Rosters.{every}
-use Rattle.soundness.proofs.Every.{every-none, every-no, every-on, every-all}
+use Rattle.layout.proofs.Every.{SoFar, so-far-none, so-far-on, so-far-all, every-no}
 use Rattle.soundness.proofs.roster.all_between.Statement.{statement}
 use Rattle.soundness.proofs.roster.all_between.Tie as tie
 
 abbrev Inv-loop : tie.InvT-loop
-Inv-loop s k n most j₀ j = (j ≤ n) × (every j (λ i. between 1 most (wordAt s (k + i))) ≡ true)
+Inv-loop s k n most j₀ j = SoFar (λ i. between 1 most (wordAt s (k + i))) n j
 
 abbrev μ-loop : tie.MeasureT-loop
 μ-loop s k n most j₀ j = n - j
 
 -- the answer is the test's
-said : (c : tie.After-between Inv-loop μ-loop) → let at = c .before .before .before in let a = at .before .before .args in c .between .result ≡ between 1 (a .most) (wordAt (a .s .now) (a .k + (at .loop .j + 1)))
+said : (c : tie.After-between Inv-loop μ-loop)
+    → let at = c .before .before .before in let a = at .before .before .args in
+    c .between .result ≡ between 1 (a .most) (wordAt (a .s .now) (a .k + (at .loop .j + 1)))
 said c = c .between .ensures ∙ rw (c .before .word .ensures)
-
-returns : tie.Need-returns Inv-loop μ-loop
-returns c =
-    let at = c .before .before .before .before in
-    every-no _ _ (at .loop .j) _ (omega arith) (said (c .before)) (c .if1 .taken)
-
-loop-again : tie.Need-loop-again Inv-loop μ-loop
-loop-again c =
-    let at = c .before .before .before .before in
-    (omega arith, every-on _ (at .loop .j) _ (at .loop .inv .1) (said (c .before)) (c .if1 .left))
-
-returns-2 : tie.Need-returns-2 Inv-loop μ-loop
-returns-2 c = every-all _ _ (c .before .loop .j) (omega arith) (omega arith) (c .before .loop .inv .1)
 
 pub all-between-spec : {M : Type 1} → statement M
 all-between-spec =
-    tie.close
-    (tie.spec
-    Inv-loop
-    μ-loop
-    (λ c. (omega arith, every-none _))
-    (λ c. omega arith)
-    (λ c. omega arith)
-    (λ c κs. omega arith)
-    (λ c κs. search needs)
-    returns
-    (λ c. omega arith)
-    (λ c. omega arith)
-    loop-again
-    returns-2)
+    tie.close (tie.spec Inv-loop μ-loop (λ c. so-far-none _ _) (λ c. omega arith) (λ c. omega arith) (λ c κs. omega arith)
+    (λ c κs. search needs) (λ c. every-no _ _ _ _ (omega arith) (said (c .before)) (c .if1 .taken)) (λ c. omega arith) (λ c. omega arith)
+    (λ c. so-far-on _ _ (c .before .before .before .before .loop .inv) (omega arith) (said (c .before)) (c .if1 .left))
+    (λ c. so-far-all _ (c .before .loop .inv) (omega arith)))

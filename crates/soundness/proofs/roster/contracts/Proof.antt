@@ -1,18 +1,9 @@
--- The third word of the roster's part is the number of contracts; the part has 608 bytes because the memory is long enough.
+-- The contracts stand in word 2 of the roster.
 use mathlib.Core.Path.{_∙_}
-use native.Mathlib.Omega.{arith}
 use borrow.Author.Needs.{needs}
-use Rattle.soundness.proofs.RosterLaws.{roster-long, contracts-word}
+use Rattle.soundness.proofs.RosterLaws.{size-words}
 use Rattle.soundness.proofs.roster.contracts.Statement.{statement}
 use Rattle.soundness.proofs.roster.contracts.Tie as tie
 
-word-requires : tie.Need-word-requires
-word-requires c κs =
-    let s = c .before .before in
-    rw (c .part .ensures) (omega (arith, roster-long (s .args .m .now) (s .pre)))
-
-returns : tie.Need-returns
-returns c = c .word .ensures ∙ (rw (c .before .part .ensures) (contracts-word _))
-
 pub contracts-spec : {M : Type 1} → statement M
-contracts-spec = tie.close (tie.spec (λ c κs. search needs) word-requires returns)
+contracts-spec = tie.close (tie.spec (λ c κs. search needs) (λ c. c .size .ensures ∙ size-words _ .2))

@@ -1,4 +1,4 @@
--- Two bytes joined with six zeros are the number of two bytes; each is below 256, so it fits 16 bits.
+-- Two bytes joined are the number of two bytes, which the definition computes; it is below 2 ^ 16, so the cast keeps it.
 use Prim.Native.Nat.{_+_}
 use native.Mathlib.Omega.{arith}
 use borrow.Author.Needs.{needs}
@@ -19,11 +19,4 @@ returns c = c .join .ensures
 
 pub u16-at-spec : {M : Type 1} → statement M
 u16-at-spec =
-    tie.close
-    (tie.spec
-    (λ c. search needs)
-    (λ c. search needs)
-    (λ c. search needs)
-    (λ c κs. search needs)
-    cast-result
-    returns)
+    tie.close (tie.spec (λ c. search needs) (λ c. search needs) (λ c. search needs) (λ c κs. search needs) cast-result returns)

@@ -1,4 +1,4 @@
--- Four bytes joined with four zeros are the number of four bytes (`number-four`); each is below 256, so it fits 32 bits.
+-- Four bytes joined are the number of four bytes, written out; it is below 2 ^ 32, so the cast keeps it.
 use Prim.Native.Nat.{_+_}
 use mathlib.Core.Path.{_∙_, sym}
 use native.Mathlib.Omega.{arith}
@@ -20,15 +20,5 @@ returns c = c .join .ensures ∙ sym (number-four _ _)
 
 pub u32-at-spec : {M : Type 1} → statement M
 u32-at-spec =
-    tie.close
-    (tie.spec
-    (λ c. search needs)
-    (λ c. search needs)
-    (λ c. search needs)
-    (λ c. search needs)
-    (λ c. search needs)
-    (λ c. search needs)
-    (λ c. search needs)
-    (λ c κs. search needs)
-    cast-result
-    returns)
+    tie.close (tie.spec (λ c. search needs) (λ c. search needs) (λ c. search needs) (λ c. search needs) (λ c. search needs)
+    (λ c. search needs) (λ c. search needs) (λ c κs. search needs) cast-result returns)

@@ -1,4 +1,4 @@
--- Eight bytes joined are the little-endian number of eight bytes (`number-eight`).
+-- Eight bytes joined are the number of eight bytes, written out.
 use mathlib.Core.Path.{_∙_, sym}
 use borrow.Author.Needs.{needs}
 use Rattle.words.specs.Fields.{u64At}
@@ -6,28 +6,10 @@ use Rattle.words.proofs.Unrolled.{number-eight}
 use Rattle.words.proofs.fields.u64_at.Statement.{statement}
 use Rattle.words.proofs.fields.u64_at.Tie as tie
 
-returns : tie.Need-returns
-unfolding u64At
-returns c = c .join .ensures ∙ sym (number-eight _ _)
-
 pub u64-at-spec : {M : Type 1} → statement M
+unfolding u64At
 u64-at-spec =
-    tie.close
-    (tie.spec
-    (λ c. search needs)
-    (λ c. search needs)
-    (λ c. search needs)
-    (λ c. search needs)
-    (λ c. search needs)
-    (λ c. search needs)
-    (λ c. search needs)
-    (λ c. search needs)
-    (λ c. search needs)
-    (λ c. search needs)
-    (λ c. search needs)
-    (λ c. search needs)
-    (λ c. search needs)
-    (λ c. search needs)
-    (λ c. search needs)
-    (λ c κs. search needs)
-    returns)
+    tie.close (tie.spec (λ c. search needs) (λ c. search needs) (λ c. search needs) (λ c. search needs) (λ c. search needs)
+    (λ c. search needs) (λ c. search needs) (λ c. search needs) (λ c. search needs) (λ c. search needs) (λ c. search needs)
+    (λ c. search needs) (λ c. search needs) (λ c. search needs) (λ c. search needs) (λ c κs. search needs)
+    (λ c. c .join .ensures ∙ sym (number-eight _ _)))

@@ -1,46 +1,60 @@
--- The line is stored by the function of its level, on the event with the line told apart; group figures read back as themselves.
+-- Each level's line, by the name that the match gives it, is judged and so has its place; what is stored there is what `worked` stores.
+use mathlib.Core.Path.{_∙_}
+use native.Mathlib.Omega.{arith}
 use borrow.Author.Needs.{needs}
+use Rattle.working.proofs.Told.{told}
+use Rattle.working.proofs.Rooms.{room}
 use Rattle.working.proofs.LineFigures.{ready-line, worked-line, group-handed}
 use Rattle.working.proofs.settings.work_limit.Statement.{statement}
 use Rattle.working.proofs.settings.work_limit.Tie as tie
 
-work-own-requires : tie.Need-work-own-requires
-work-own-requires c κs = ready-line (c .before .before .line .given .1) (c .before .before .before .before .before .pre)
+own-line-requires : tie.Need-own-line-requires
+own-line-requires c κs =
+    let r = room (ready-line (c .before .before .line .given .1) (c .before .before .before .before .before .pre)) in
+    (r .1, r .2)
 
-work-default-requires : tie.Need-work-default-requires
-work-default-requires c κs = ready-line (c .before .before .line2 .given .1) (c .before .before .before .before .before .pre)
+work-line-requires : tie.Need-work-line-requires
+work-line-requires c κs =
+    let ready = ready-line (c .before .before .before .line .given .1) (c .before .before .before .before .before .before .pre) in
+    (omega (arith, room ready), omega (arith, room ready), told _ (ready .held) _ (ready .accepted) .2)
+
+default-line-requires : tie.Need-default-line-requires
+default-line-requires c κs =
+    let r = room (ready-line (c .before .before .line2 .given .1) (c .before .before .before .before .before .pre)) in
+    (r .1, r .2)
+
+work-line-requires-2 : tie.Need-work-line-requires-2
+work-line-requires-2 c κs =
+    let ready = ready-line (c .before .before .before .line2 .given .1) (c .before .before .before .before .before .before .pre) in
+    (omega (arith, room ready), omega (arith, room ready), told _ (ready .held) _ (ready .accepted) .2)
 
 work-of-group-requires : tie.Need-work-of-group-requires
 work-of-group-requires c κs =
     let f = c .before .known-told3 .given in
-    ready-line (group-handed (c .before .before .line3 .given .1) (record { sfits = f .1 .0 .1 }) (record { sfits = f .1 .1 .0 .1 })) (c .before .before .before .before .before .pre)
+    ready-line (group-handed (c .before .before .line3 .given .1) (record { sfits = f .1 .0 .1 }) (record { sfits = f .1 .1 .0 .1 }))
+    (c .before .before .before .before .before .pre)
 
 returns : tie.Need-returns
-returns c = worked-line _ _ (c .before .before .before .before .before .line .given .1) (c .before .before .work-own .ensures)
+returns c =
+    let found = c .before .before .before in
+    worked-line _ _ (found .before .before .before .line .given .1)
+    (c .before .before .work-line .ensures ∙ rw (found .own-line .ensures .0, found .own-line .ensures .1))
 
 returns-2 : tie.Need-returns-2
 returns-2 c =
-    worked-line _ _ (c .before .before .before .before .before .line2 .given .1) (c .before .before .work-default .ensures)
+    let found = c .before .before .before in
+    worked-line _ _ (found .before .before .before .line2 .given .1)
+    (c .before .before .work-line2 .ensures ∙ rw (found .default-line .ensures .0, found .default-line .ensures .1))
 
 returns-3 : tie.Need-returns-3
 returns-3 c =
     let told = c .before .before .before .before in
     let f = told .known-told3 .given in
-    worked-line _ _ (group-handed (told .before .line3 .given .1) (record { sfits = f .1 .0 .1 }) (record { sfits = f .1 .1 .0 .1 })) (c .before .before .work-of-group .ensures)
+    worked-line _ _ (group-handed (told .before .line3 .given .1) (record { sfits = f .1 .0 .1 }) (record { sfits = f .1 .1 .0 .1 }))
+    (c .before .before .work-of-group .ensures)
 
 pub work-limit-spec : {M : Type 1} → statement M
 work-limit-spec =
-    tie.close
-    (tie.spec
-    (λ c. search needs)
-    work-own-requires
-    (λ c. search needs)
-    work-default-requires
-    (λ c. search needs)
-    work-of-group-requires
-    (λ c. search needs)
-    returns
-    (λ c. search needs)
-    returns-2
-    (λ c. search needs)
-    returns-3)
+    tie.close (tie.spec (λ c. search needs) own-line-requires work-line-requires (λ c. search needs) default-line-requires
+    work-line-requires-2 (λ c. search needs) work-of-group-requires (λ c. search needs) returns (λ c. search needs) returns-2
+    (λ c. search needs) returns-3)
