@@ -1,5 +1,5 @@
-pub mod Days
 pub mod Edges
+pub mod Rosters
 pub mod Listing
 pub mod Puts
 pub mod SetAgainExamples

@@ -24,7 +24,7 @@ use Rattle.book.specs.Table.{entered, questionsBefore, answer}
 use Rattle.book.specs.Kept.{RawEvent, said, Kept, begun, keep, keptAfter}
 use Rattle.book.specs.SetAgain.{nameOf, lineOver}
 use Rattle.book.specs.Written.{asBytes, written, writtenAll}
-use Rattle.book.proofs.Days.{endOf}
+use Rattle.book.specs.Days.{endOf}
 use Rattle.book.proofs.Plain.{plain}
 use Rattle.book.proofs.KeptLaws.{memory-of-more, kept-of-more, kept-joined}
 use Rattle.book.proofs.NotSetAgainLaws.{setsNone}

@@ -11,10 +11,11 @@ use Rattle.ledger.specs.Positions.{instrument, group, long, short}
 use Rattle.ledger.specs.Fillings.{none, fill}
 use Rattle.book.specs.EventBytes.{newBytes, buy}
 use Rattle.book.specs.LongerDay.{morning, raisedTooFar, raisedToTheLimit, afternoon, noon, late, ownLineSet, elsewhere, secondAccount}
+use Rattle.book.proofs.LongerDay.{weighs-more}
 use Rattle.opening.specs.Questions.{openingAnswer}
 use Rattle.claim.specs.Examples.{OrderRefused, OrderAccepted}
 use Rattle.claim.specs.Days.{orderOf, order, longerRoster}
-use Rattle.claim.proofs.Opened.{opened, not-zero}
+use Rattle.claim.proofs.Opened.{opened}
 use Rattle.claim.proofs.Examples.{asked, refused, accepted}
 
 module _ (m : List ℕ) (bytes : Bytes m) (opens : openingAnswer m longerRoster ≡ 0) where
@@ -32,19 +33,19 @@ module _ (m : List ℕ) (bytes : Bytes m) (opens : openingAnswer m longerRoster 
   filled-and-raised-too-far =
       let a = asked m longerRoster bytes opens noon raisedTooFar (orderOf 1 7 1 Buy 63 12) refl refl refl in
       refused m longerRoster bytes opens noon raisedTooFar (orderOf 1 7 1 Buy 63 12) a 23 refl (inr (inr (inl refl)))
-      (group 1, long, (refl, not-zero, refl), (fill {o = orderOf 1 7 1 Buy 63 12} 51 (omega arith) none, record { lt = tt }))
+      (group 1, long, (refl, weighs-more, refl), (fill {o = orderOf 1 7 1 Buy 63 12} 51 (omega arith) none, record { lt = tt }))
 
   pub filled-and-raised : OrderAccepted m longerRoster noon raisedToTheLimit (orderOf 1 7 1 Buy 62 12) (group 1) long (pos 600000) afternoon
   unfolding opened
   filled-and-raised =
       let a = asked m longerRoster bytes opens noon raisedToTheLimit (orderOf 1 7 1 Buy 62 12) refl refl refl in
-      accepted m longerRoster bytes opens noon raisedToTheLimit (orderOf 1 7 1 Buy 62 12) (group 1) long (pos 600000) afternoon a refl (refl, not-zero, refl) refl refl
+      accepted m longerRoster bytes opens noon raisedToTheLimit (orderOf 1 7 1 Buy 62 12) (group 1) long (pos 600000) afternoon a refl (refl, weighs-more, refl) refl refl
 
   pub in-the-evening : OrderAccepted m longerRoster late (buy 1 9 70) (order 9 1 Buy 70) (group 1) long (pos 1000000) []
   unfolding opened
   in-the-evening =
       let a = asked m longerRoster bytes opens late (buy 1 9 70) (order 9 1 Buy 70) refl refl refl in
-      accepted m longerRoster bytes opens late (buy 1 9 70) (order 9 1 Buy 70) (group 1) long (pos 1000000) [] a refl (refl, not-zero, refl) refl refl
+      accepted m longerRoster bytes opens late (buy 1 9 70) (order 9 1 Buy 70) (group 1) long (pos 1000000) [] a refl (refl, weighs-more, refl) refl refl
 
   pub under-own-line : OrderAccepted m longerRoster ownLineSet (buy 1 7 50) (order 7 1 Buy 50) (instrument 1) long (pos 100) elsewhere
   unfolding opened
@@ -58,10 +59,10 @@ module _ (m : List ℕ) (bytes : Bytes m) (opens : openingAnswer m longerRoster 
   second-sells =
       let a = asked m longerRoster bytes opens secondAccount (newBytes 2 2 3 11 26) (orderOf 2 11 3 Sell 26 0) refl refl refl in
       refused m longerRoster bytes opens secondAccount (newBytes 2 2 3 11 26) (orderOf 2 11 3 Sell 26 0) a 24 refl (inr (inr (inr refl)))
-      (group 2, short, (refl, not-zero, refl), (fill {o = orderOf 2 11 3 Sell 26 0} 26 (omega arith) none, record { lt = tt }))
+      (group 2, short, (refl, weighs-more, refl), (fill {o = orderOf 2 11 3 Sell 26 0} 26 (omega arith) none, record { lt = tt }))
 
   pub second-buys : OrderAccepted m longerRoster secondAccount (newBytes 1 2 3 11 25) (orderOf 2 11 3 Buy 25 0) (group 2) long (pos 250000) afternoon
   unfolding opened
   second-buys =
       let a = asked m longerRoster bytes opens secondAccount (newBytes 1 2 3 11 25) (orderOf 2 11 3 Buy 25 0) refl refl refl in
-      accepted m longerRoster bytes opens secondAccount (newBytes 1 2 3 11 25) (orderOf 2 11 3 Buy 25 0) (group 2) long (pos 250000) afternoon a refl (refl, not-zero, refl) refl refl
+      accepted m longerRoster bytes opens secondAccount (newBytes 1 2 3 11 25) (orderOf 2 11 3 Buy 25 0) (group 2) long (pos 250000) afternoon a refl (refl, weighs-more, refl) refl refl

@@ -6,31 +6,28 @@ use mathlib.Core.List.{List, [], _∷_, _++_}
 use native.Mathlib.Omega.{arith}
 use lib.IntN.{pos}
 use lib.ListN.{length}
-use borrow.Author.Tests.{le-leb}
 use Rattle.words.specs.Bytes.{Bytes}
 use Rattle.ledger.specs.declared.order.Side.the-variants.{Buy, Sell}
 use Rattle.ledger.specs.Positions.{instrument, group, long, short}
 use Rattle.ledger.specs.Fillings.{none, fill}
-use Rattle.limits.specs.Questions.{allPass}
 use Rattle.book.specs.declared.LimitLine.the-variants.{OfGroup}
 use Rattle.book.specs.EventBytes.{groupLine, blockBytes, buy}
 use Rattle.book.specs.Kept.{begun}
 use Rattle.book.specs.LongerDay.{morning, tooLong, tooShort, putSold, putBought, raisedTooFar, putSoldToTheLimit, putBoughtToTheLimit, raisedToTheLimit, afternoon, evening}
 use Rattle.book.specs.Written.{written, writtenAll}
-use Rattle.layout.specs.Rosters.{every, sizesFit, namesFit, weightsFit, longEnough}
-use Rattle.opening.specs.Questions.{rosterFrom, rosterLength, lengthsFit, openingQuestions, openingAnswer}
+use Rattle.book.proofs.LongerDay.{weighs-more, weighs-less}
+use Rattle.opening.specs.Questions.{rosterFrom, openingAnswer}
 use Rattle.opening.specs.Opening.{afterOpening}
 use Rattle.claim.specs.Examples.{OrderRefused, OrderAccepted, LimitSetAgain}
 use Rattle.claim.specs.Days.{order, longerRoster, LongerDay, InEveryMemory}
-use Rattle.claim.proofs.Demands.{demand-2}
 use Rattle.claim.proofs.Plainly.{plainly, answers-plainly}
 use Rattle.claim.proofs.LaterOrders.{too-long-in-part, filled-and-raised-too-far, filled-and-raised, in-the-evening, under-own-line, second-sells, second-buys}
-use Rattle.claim.proofs.Opened.{opened, not-zero, put-not-zero}
+use Rattle.claim.proofs.Opened.{opened, opens-long}
 use Rattle.claim.proofs.Examples.{asked, refused, accepted, limit-set-again}
 
 longer-opens : (m : List ℕ) → 65536 ≤ length m → openingAnswer m longerRoster ≡ 0
-unfolding opened openingQuestions allPass longEnough lengthsFit rosterLength sizesFit namesFit weightsFit every
-longer-opens m enough = demand-2 .roster-accepted m longerRoster .1 (rw (le-leb 65536 (length m) enough) refl)
+unfolding opened
+longer-opens m enough = opens-long m longerRoster enough refl
 
 module _ (m : List ℕ) (bytes : Bytes m) (opens : openingAnswer m longerRoster ≡ 0) where
   -- 21: all 50 of order 7 and the 53 of N put instrument 1 at 101, past 100
@@ -52,21 +49,21 @@ module _ (m : List ℕ) (bytes : Bytes m) (opens : openingAnswer m longerRoster 
   unfolding opened
   put-sold =
       refused m longerRoster bytes opens morning putSold (order 8 2 Sell 25) (asked m longerRoster bytes opens morning putSold (order 8 2 Sell 25) refl refl refl) 23 refl (inr (inr (inl refl)))
-      (group 1, long, (refl, put-not-zero, refl), (fill {o = order 7 1 Buy 50} 50 (omega arith) (fill {o = order 8 2 Sell 25} 25 (omega arith) none), record { lt = tt }))
+      (group 1, long, (refl, weighs-less, refl), (fill {o = order 7 1 Buy 50} 50 (omega arith) (fill {o = order 8 2 Sell 25} 25 (omega arith) none), record { lt = tt }))
 
   -- 24: nothing of order 7 and the 77 of N put it at −405,000, past 400,000 short
   put-bought : OrderRefused m longerRoster morning putBought (order 8 2 Buy 77) 24
   unfolding opened
   put-bought =
       refused m longerRoster bytes opens morning putBought (order 8 2 Buy 77) (asked m longerRoster bytes opens morning putBought (order 8 2 Buy 77) refl refl refl) 24 refl (inr (inr (inr refl)))
-      (group 1, short, (refl, put-not-zero, refl), (fill {o = order 7 1 Buy 50} 0 (omega arith) (fill {o = order 8 2 Buy 77} 77 (omega arith) none), record { lt = tt }))
+      (group 1, short, (refl, weighs-less, refl), (fill {o = order 7 1 Buy 50} 0 (omega arith) (fill {o = order 8 2 Buy 77} 77 (omega arith) none), record { lt = tt }))
 
   -- 23: order 7 raised, and counted once: all 63 of it put the group at 610,000
   raised-too-far : OrderRefused m longerRoster morning raisedTooFar (order 7 1 Buy 63) 23
   unfolding opened
   raised-too-far =
       refused m longerRoster bytes opens morning raisedTooFar (order 7 1 Buy 63) (asked m longerRoster bytes opens morning raisedTooFar (order 7 1 Buy 63) refl refl refl) 23 refl (inr (inr (inl refl)))
-      (group 1, long, (refl, not-zero, refl), (fill {o = order 7 1 Buy 63} 63 (omega arith) none, record { lt = tt }))
+      (group 1, long, (refl, weighs-more, refl), (fill {o = order 7 1 Buy 63} 63 (omega arith) none, record { lt = tt }))
 
   sold : (OrderAccepted m longerRoster morning putSoldToTheLimit (order 8 2 Sell 24) (instrument 2) short (pos 100) afternoon)
       × (OrderAccepted m longerRoster morning putSoldToTheLimit (order 8 2 Sell 24) (group 1) long (pos 600000) afternoon)
@@ -74,7 +71,7 @@ module _ (m : List ℕ) (bytes : Bytes m) (opens : openingAnswer m longerRoster 
   sold =
       let a = asked m longerRoster bytes opens morning putSoldToTheLimit (order 8 2 Sell 24) refl refl refl in (
         accepted m longerRoster bytes opens morning putSoldToTheLimit (order 8 2 Sell 24) (instrument 2) short (pos 100) afternoon a refl (refl, refl) refl refl,
-        accepted m longerRoster bytes opens morning putSoldToTheLimit (order 8 2 Sell 24) (group 1) long (pos 600000) afternoon a refl (refl, put-not-zero, refl) refl refl,
+        accepted m longerRoster bytes opens morning putSoldToTheLimit (order 8 2 Sell 24) (group 1) long (pos 600000) afternoon a refl (refl, weighs-less, refl) refl refl,
       )
 
   bought : (OrderAccepted m longerRoster morning putBoughtToTheLimit (order 8 2 Buy 76) (instrument 2) long (pos 100) afternoon)
@@ -83,7 +80,7 @@ module _ (m : List ℕ) (bytes : Bytes m) (opens : openingAnswer m longerRoster 
   bought =
       let a = asked m longerRoster bytes opens morning putBoughtToTheLimit (order 8 2 Buy 76) refl refl refl in (
         accepted m longerRoster bytes opens morning putBoughtToTheLimit (order 8 2 Buy 76) (instrument 2) long (pos 100) afternoon a refl (refl, refl) refl refl,
-        accepted m longerRoster bytes opens morning putBoughtToTheLimit (order 8 2 Buy 76) (group 1) short (pos 400000) afternoon a refl (refl, put-not-zero, refl) refl refl,
+        accepted m longerRoster bytes opens morning putBoughtToTheLimit (order 8 2 Buy 76) (group 1) short (pos 400000) afternoon a refl (refl, weighs-less, refl) refl refl,
       )
 
   raised : (OrderAccepted m longerRoster morning raisedToTheLimit (order 7 1 Buy 62) (instrument 1) long (pos 100) afternoon)
@@ -92,13 +89,13 @@ module _ (m : List ℕ) (bytes : Bytes m) (opens : openingAnswer m longerRoster 
   raised =
       let a = asked m longerRoster bytes opens morning raisedToTheLimit (order 7 1 Buy 62) refl refl refl in (
         accepted m longerRoster bytes opens morning raisedToTheLimit (order 7 1 Buy 62) (instrument 1) long (pos 100) afternoon a refl (refl, refl) refl refl,
-        accepted m longerRoster bytes opens morning raisedToTheLimit (order 7 1 Buy 62) (group 1) long (pos 600000) afternoon a refl (refl, not-zero, refl) refl refl,
+        accepted m longerRoster bytes opens morning raisedToTheLimit (order 7 1 Buy 62) (group 1) long (pos 600000) afternoon a refl (refl, weighs-more, refl) refl refl,
       )
 
   sold-at-once : OrderAccepted m longerRoster morning putSoldToTheLimit (order 8 2 Sell 24) (group 1) long (pos 600000) []
   unfolding opened
   sold-at-once =
-      accepted m longerRoster bytes opens morning putSoldToTheLimit (order 8 2 Sell 24) (group 1) long (pos 600000) [] (asked m longerRoster bytes opens morning putSoldToTheLimit (order 8 2 Sell 24) refl refl refl) refl (refl, put-not-zero, refl) refl refl
+      accepted m longerRoster bytes opens morning putSoldToTheLimit (order 8 2 Sell 24) (group 1) long (pos 600000) [] (asked m longerRoster bytes opens morning putSoldToTheLimit (order 8 2 Sell 24) refl refl refl) refl (refl, weighs-less, refl) refl refl
 
   -- after the group's line of 100 100 is accepted, all 70 of order 9 put the group at 920,000
   set-again : LimitSetAgain m longerRoster morning putSoldToTheLimit (order 8 2 Sell 24) (group 1) long (pos 600000) (afternoon ++ evening)

@@ -34,7 +34,7 @@ use Rattle.opening.specs.Questions.{rosterFrom, openingQuestions, openingAnswer
 use Rattle.opening.specs.Opening.{afterOpening}
 use Rattle.reading.specs.Reading.{readingQuestions, instrumentAnswer, groupAnswer, instrumentReport, groupReport, reported}
 use Rattle.desk.specs.Step.{eventQuestions, answerTo, after}
-use Rattle.desk.specs.Positions.{instrumentIn, groupIn}
+use Rattle.book.specs.Positions.{instrumentIn, groupIn}
 use Rattle.desk.specs.Days.{answersOver, memoryOver}
 use Rattle.desk.specs.Run.{eventsFor, answered, joined}
 use Rattle.desk.specs.Demands.{gate}
