@@ -15,7 +15,8 @@ use Rattle.book.specs.Table.{answer}
 use Rattle.book.specs.Kept.{Kept, begun}
 use Rattle.book.specs.Positions.{instrumentIn}
 use Rattle.book.specs.Days.{answersTo, endOf, decoded}
-use Rattle.book.specs.EventBytes.{limitBytes, line, groupLine, balanceBytes, balance, blockBytes, buy, replaceBytes, cancelBytes, fillBytes}
+use Rattle.book.specs.EventBytes.{line, groupLine, balance, buy}
+use Rattle.book.specs.EventBytes.{limitBytes, balanceBytes, blockBytes, replaceBytes, cancelBytes, fillBytes}
 use Rattle.book.specs.Rosters.{rosterIn}
 use Rattle.book.specs.Edges.{edgeTables, starredEdges, outcome, expected}
 use Rattle.book.proofs.Computed.{computes}

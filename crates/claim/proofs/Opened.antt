@@ -2,19 +2,18 @@
 use Prim.Native.Nat.{ℕ, _≤_}
 use mathlib.Core.Path.{_≡_}
 use mathlib.Core.Bool.{true}
-use mathlib.Core.List.{List, [], _∷_}
+use mathlib.Core.List.{List}
 use lib.ListN.{length}
 use borrow.Author.Tests.{le-leb}
 use Rattle.limits.specs.Questions.{allPass}
-use Rattle.book.specs.Table.{q}
-use Rattle.layout.specs.Rosters.{namesFit, weightsFit, longEnough}
-use Rattle.opening.specs.Questions.{rosterFrom, lengthsFit, openingQuestions, openingAnswer}
+use Rattle.layout.specs.Rosters.{longEnough}
+use Rattle.opening.specs.Questions.{openingQuestions, openingAnswer}
 use Rattle.desk.specs.Listing.{listingRoster}
-use Rattle.desk.proofs.Rosters.{reads}
+use Rattle.desk.proofs.Rosters.{rosterQuestions, reads}
 use Rattle.claim.specs.Days.{longerRoster}
 use Rattle.claim.proofs.Demands.{demand-2}
 
-pub opens-long : (m s : List ℕ) → 65536 ≤ length m → allPass (q 2 (lengthsFit s) ∷ q 3 (namesFit (rosterFrom s)) ∷ q 4 (weightsFit (rosterFrom s)) ∷ []) ≡ true → openingAnswer m s ≡ 0
+pub opens-long : (m s : List ℕ) → 65536 ≤ length m → allPass (rosterQuestions s) ≡ true → openingAnswer m s ≡ 0
 unfolding openingQuestions allPass longEnough
 opens-long m s enough rest = demand-2 .roster-accepted m s .1 (rw (le-leb 65536 (length m) enough) rest)
 

@@ -24,11 +24,13 @@ module _ (m s : List ℕ) (bytes : Bytes m) (opens : openingAnswer m s ≡ 0) wh
       let all = c .events ++ (c .order ∷ []) in
       let shown = shown-opened m s bytes opens in
       let are = bytes-apart (c .events) (c .order) (ap (λ x. x .bytes) h) in
-      let read = instrument-read r _ _ (shown-over r start begun all (ap (λ x. x .bytes) h) shown) 1 (c .instrument) (ap (λ x. x .account) h) (ap (λ x. x .instrument) h) in
+      let before = shown-over r start begun (c .events) (are .0) shown in
+      let at-end = shown-over r start begun all (ap (λ x. x .bytes) h) shown in
+      let read = instrument-read r _ _ at-end 1 (c .instrument) (ap (λ x. x .account) h) (ap (λ x. x .instrument) h) in
       record {
         opens = opens;
         accepted = answers-carried r start begun (c .events) (are .0) shown ∙ ap (λ x. x .answers) h;
-        answered = answer-shown r _ _ (c .order) (bytes-are (c .order) (are .1)) (shown-over r start begun (c .events) (are .0) shown) ∙ ap (λ x. x .answer) h;
+        answered = answer-shown r _ _ (c .order) (bytes-are (c .order) (are .1)) before ∙ ap (λ x. x .answer) h;
         readable = read .0;
         reported = read .1 ∙ ap (λ x. x .positions) h;
       }
@@ -37,7 +39,8 @@ module _ (m s : List ℕ) (bytes : Bytes m) (opens : openingAnswer m s ≡ 0) wh
   all-carried [] h = tt
   all-carried (c ∷ cs) h = (case-carried c cc, all-carried cs cc)
 
-edge-roster : (rosterFrom edgeRoster ≡ rosterIn edgeTables) × ((m : List ℕ) → 65536 ≤ length m → openingAnswer m edgeRoster ≡ 0)
+edge-roster : (rosterFrom edgeRoster ≡ rosterIn edgeTables)
+    × ((m : List ℕ) → 65536 ≤ length m → openingAnswer m edgeRoster ≡ 0)
 unfolding reads edgeRoster
 edge-roster = (roster-read edgeRoster, λ m long. roster-opens m edgeRoster long refl)
 

@@ -1,10 +1,9 @@
--- Document 01's listing, computed of the plain book in `book`, holds of a memory: an N refused by 23, an N accepted, the positions at the end.
+-- Document 01's listing, computed of the plain book in `book`, holds of a memory: what the memory shows is the plain book.
 use Prim.Native.Nat.{ℕ, _≤_}
 use mathlib.Core.Path.{_≡_, refl, _∙_}
 use mathlib.Core.Bool.{true}
 use mathlib.Core.List.{List}
 use lib.ListN.{length}
-use Rattle.ledger.specs.Roster.{Roster}
 use Rattle.book.specs.Decoding.{between}
 use Rattle.book.specs.Kept.{begun}
 use Rattle.book.specs.Days.{allBytes}
@@ -18,7 +17,8 @@ use Rattle.desk.proofs.Readings.{instrument-read, group-read, shown-ope
 use Rattle.desk.proofs.Carried.{answers-carried, shown-over}
 use Rattle.desk.proofs.Rosters.{roster-read, roster-opens, reads}
 
-listing-roster : (rosterFrom listingRoster ≡ rosterIn listingTables) × ((m : List ℕ) → 65536 ≤ length m → openingAnswer m listingRoster ≡ 0)
+listing-roster : (rosterFrom listingRoster ≡ rosterIn listingTables)
+    × ((m : List ℕ) → 65536 ≤ length m → openingAnswer m listingRoster ≡ 0)
 unfolding reads listingRoster
 listing-roster = (roster-read listingRoster, λ m long. roster-opens m listingRoster long refl)
 

@@ -8,14 +8,11 @@ use lib.IntN.{ℤ, pos}
 use lib.ListN.{length, getD}
 use native.Mathlib.Omega.{arith}
 use borrow.Author.Tests.{ltb-true, ltb-false, le-leb}
-use Rattle.integers.specs.TwosComplement.{signedOf, bitsOf}
-use Rattle.words.specs.Bytes.{number}
 use Rattle.words.specs.Fields.{u8At, u16At, i32At}
 use Rattle.ledger.specs.Roster.{Roster}
-use Rattle.limits.specs.Questions.{firstNo}
+use Rattle.limits.specs.Questions.{Question, firstNo}
 use Rattle.book.specs.Decoding.{between}
 use Rattle.book.specs.Table.{q}
-use Rattle.book.specs.EventBytes.{bytesOf}
 use Rattle.book.specs.Rosters.{Tables, rosterIn, weightBytes, rosterBytes}
 use Rattle.book.proofs.Computed.{computes}
 use Rattle.layout.specs.Rosters.{listed, every, sizesFit, namesFit, weightsFit, longEnough}
@@ -39,12 +36,19 @@ module _ {A : Type 0} (none : A) where
   value-at (suc n) f (suc k) t e = value-at n (λ j. f (suc j)) k t (rw (← compare·suc-suc (suc k) n) e)
 
   -- a table that says nothing of what is not on the roster
-  table-of : (n : ℕ) (f : ℕ → A) → _≡_ {A = ℕ → A} (λ k. cond (between 1 n k) (f k) none) (λ k. getD (none ∷ valuesOf n (λ j. f (suc j))) k none)
-  table-of n f = fun-ext at
-    where
-      at : (k : ℕ) → cond (between 1 n k) (f k) none ≡ getD (none ∷ valuesOf n (λ j. f (suc j))) k none
-      at zero = refl
-      at (suc k) = rw (le-leb 1 (suc k) (omega arith)) (value-at n (λ j. f (suc j)) k (ltb k n) refl)
+  module _ (n : ℕ) (f : ℕ → A) where
+    abbrev within : ℕ → A
+    within k = cond (between 1 n k) (f k) none
+
+    abbrev tabled : ℕ → A
+    tabled k = getD (none ∷ valuesOf n (λ j. f (suc j))) k none
+
+    table-of : within ≡ tabled
+    table-of = fun-ext at
+      where
+        at : (k : ℕ) → within k ≡ tabled k
+        at zero = refl
+        at (suc k) = rw (le-leb 1 (suc k) (omega arith)) (value-at n (λ j. f (suc j)) k (ltb k n) refl)
 
 -- the tables that the bytes of a roster say
 unfoldable pub tablesFrom : List ℕ → Tables
@@ -59,10 +63,13 @@ tablesFrom s =
       weights = valuesOf (pos 0) instruments (λ k. i32At s (4 + contracts + instruments + 4 * suc k));
     }
 
-module _ (accounts groups : ℕ) {c d i j : ℕ} {f g f′ g′ : ℕ → ℕ} {w w′ : ℕ → ℤ} where
-  same-roster : c ≡ d → i ≡ j → f ≡ g → f′ ≡ g′ → w ≡ w′
-      → _≡_ {A = Roster} (record { accounts = accounts; groups = groups; contracts = c; instruments = i; groupOf = f; contractOf = f′; weight = w })
-      (record { accounts = accounts; groups = groups; contracts = d; instruments = j; groupOf = g; contractOf = g′; weight = w′ })
+module _ (a g : ℕ) where
+  abbrev roster : ℕ → ℕ → (ℕ → ℕ) → (ℕ → ℕ) → (ℕ → ℤ) → Roster
+  roster c i f h w =
+      record { accounts = a; groups = g; contracts = c; instruments = i; groupOf = f; contractOf = h; weight = w }
+
+  same-roster : {c d i j : ℕ} {f g f′ g′ : ℕ → ℕ} {w w′ : ℕ → ℤ} → c ≡ d → i ≡ j → f ≡ g → f′ ≡ g′ → w ≡ w′
+      → roster c i f f′ w ≡ roster d j g g′ w′
   same-roster contracts instruments groupOf contractOf weight = rw (contracts, instruments, groupOf, contractOf, weight)
 
 pub roster-read : (s : List ℕ) → rosterFrom s ≡ rosterIn (tablesFrom s)
@@ -78,11 +85,14 @@ roster-read s =
     (table-of (pos 0) instruments (λ i. i32At s (4 + contracts + instruments + 4 * i)))
 
 -- a roster that passes questions 2 to 4 opens every memory that is long enough
-pub roster-opens : (m s : List ℕ) → 65536 ≤ length m → firstNo (q 2 (lengthsFit s) ∷ q 3 (namesFit (rosterFrom s)) ∷ q 4 (weightsFit (rosterFrom s)) ∷ []) ≡ 0 → openingAnswer m s ≡ 0
+abbrev pub rosterQuestions : List ℕ → List Question
+rosterQuestions s = q 2 (lengthsFit s) ∷ q 3 (namesFit (rosterFrom s)) ∷ q 4 (weightsFit (rosterFrom s)) ∷ []
+
+pub roster-opens : (m s : List ℕ) → 65536 ≤ length m → firstNo (rosterQuestions s) ≡ 0 → openingAnswer m s ≡ 0
 unfolding openingAnswer openingQuestions longEnough firstNo
 roster-opens m s long rest = rw (le-leb 65536 (length m) long) rest
 
 -- all that a roster and a day of bytes compute with
 unfoldable pub reads : Unit {0}
-unfolding computes rosterFrom tablesFrom listed lengthsFit rosterLength sizesFit namesFit weightsFit every rosterBytes weightBytes bytesOf bitsOf number u8At u16At i32At signedOf firstNo
+unfolding computes rosterFrom tablesFrom listed lengthsFit rosterLength sizesFit namesFit weightsFit every rosterBytes weightBytes i32At
 reads = tt
