@@ -27,7 +27,7 @@ use Rattle.desk.specs.Run.{Whole, answered}
 use Rattle.desk.specs.Demands.{OneOf, FirstFailed, Answers, gate}
 use Rattle.desk.proofs.Demands.{demand-1 as desk-demand-1, demand-2 as desk-demand-2, demand-3 as desk-demand-3}
 use Rattle.desk.proofs.RunList.{run-is-the-list, unsound-run}
-use Rattle.claim.specs.Claim.{Demand1, Demand2, Demand3, Run}
+use Rattle.claim.specs.Claim.{FirstNo, Demand1, Demand2, Demand3, Run}
 
 -- ---- demand 1
 listed : (n : ℕ) (ns : List ℕ) → OneOf n ns → List·Memᴰ n ns
@@ -47,19 +47,26 @@ demand-1 =
     }
 
 -- ---- demand 2
--- the first that fails, written out
-first-failed : (qs : List Question) (answer n : ℕ) → Answers qs answer → n ≢ 0 → (answer ≡ n) ↔ ((before : List Question) × (behind : List Question) × (qs ≡ before ++ (q n false ∷ behind)) × (allPass before ≡ true))
-first-failed qs answer n a other = (λ e. there (a .refused n other .0 e), λ x. a .refused n other .1 (back x))
+-- the first that fails, as `desk` says it and as the claim does
+pub failed-first : (qs : List Question) (n : ℕ) → FirstFailed qs n ↔ FirstNo qs n
+failed-first qs n = (there, back)
   where
     answered-no : (x : Question) → x .passes ≡ false → x .number ≡ n → x ≡ q n false
     answered-no x failed number = rw (← number, ← failed) refl
 
-    there : FirstFailed qs n → (before : List Question) × (behind : List Question) × (qs ≡ before ++ (q n false ∷ behind)) × (allPass before ≡ true)
-    there f = (f .before, f .behind, f .table ∙ ap (λ (x : Question). f .before ++ (x ∷ f .behind)) (answered-no (f .asked) (f .failed) (f .number)), f .passed)
+    there : FirstFailed qs n → FirstNo qs n
+    there f =
+        let no = answered-no (f .asked) (f .failed) (f .number) in
+        (f .before, f .behind, f .table ∙ ap (λ (x : Question). f .before ++ (x ∷ f .behind)) no, f .passed)
 
-    back : (before : List Question) × (behind : List Question) × (qs ≡ before ++ (q n false ∷ behind)) × (allPass before ≡ true) → FirstFailed qs n
+    back : FirstNo qs n → FirstFailed qs n
     back x =
         record { before = x .0; asked = q n false; behind = x .1; table = x .2; passed = x .3; failed = refl; number = refl }
+
+first-failed : (qs : List Question) (answer n : ℕ) → Answers qs answer → n ≢ 0 → (answer ≡ n) ↔ FirstNo qs n
+first-failed qs answer n a other =
+    let same = failed-first qs n in
+    (λ e. same .0 (a .refused n other .0 e), λ x. a .refused n other .1 (same .1 x))
 
 opening-numbers : (m s : List ℕ) → map (λ x. x .number) (openingQuestions m s) ≡ 1 ∷ 2 ∷ 3 ∷ 4 ∷ []
 unfolding openingQuestions

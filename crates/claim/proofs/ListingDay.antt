@@ -33,7 +33,7 @@ use Rattle.claim.proofs.Demands.{demand-2, demand-3, run}
 use Rattle.claim.proofs.Uses.{listed-passes}
 use Rattle.claim.proofs.Plainly.{plainly, answers-plainly}
 use Rattle.claim.proofs.Opened.{opened, opens-long}
-use Rattle.claim.proofs.Examples.{plainKept, kept-at, asked, refused, accepted}
+use Rattle.claim.proofs.Examples.{plainKept, kept-at, refused, accepted}
 
 -- ---- document 01's listing
 listing-opens : (m : List ℕ) → 65536 ≤ length m → openingAnswer m listingRoster ≡ 0
@@ -41,29 +41,6 @@ unfolding opened
 listing-opens m enough = opens-long m listingRoster enough refl
 
 module _ (m : List ℕ) (bytes : Bytes m) (opens : openingAnswer m listingRoster ≡ 0) where
-  listing-buy : (OrderAccepted m listingRoster (take 3 listingEvents) (buy 1 7 62) (order 7 1 Buy 62) (instrument 1) long (pos 100) (drop 4 listingEvents))
-      × (OrderAccepted m listingRoster (take 3 listingEvents) (buy 1 7 62) (order 7 1 Buy 62) (group 1) long (pos 600000) (drop 4 listingEvents))
-  unfolding opened
-  listing-buy =
-      let s = listingRoster in
-      let events = take 3 listingEvents in
-      let n = buy 1 7 62 in
-      let o = order 7 1 Buy 62 in
-      let later = drop 4 listingEvents in
-      let a = asked m s bytes opens events n o refl refl refl in (
-        accepted m s bytes opens events n o (instrument 1) long (pos 100) later a refl (refl, refl) refl refl,
-        accepted m s bytes opens events n o (group 1) long (pos 600000) later a refl (refl, weighs-more, refl) refl refl,
-      )
-
-  listing-sell : OrderRefused m listingRoster (take 4 listingEvents) (sell 2 8 1) (order 8 2 Sell 1) 23
-  unfolding opened
-  listing-sell =
-      let s = listingRoster in
-      let events = take 4 listingEvents in
-      let o = order 8 2 Sell 1 in
-      refused m s bytes opens events (sell 2 8 1) o (asked m s bytes opens events (sell 2 8 1) o refl refl refl) 23 refl (inr (inr (inl refl)))
-      (group 1, long, (refl, weighs-less, refl), (fill {o = order 7 1 Buy 62} 62 (omega arith) (fill {o = o} 1 (omega arith) none), record { lt = tt }))
-
   -- what is reported of an instrument, by demand 2, is what the book gives, by demand 3
   instrument-line : (i : ℕ) → between 1 (rosterFrom listingRoster .instruments) i ≡ true → (before : List ℤ) → reported (instrumentAnswer (memoryAt m listingRoster listingEvents) 1 i) (instrumentReport (memoryAt m listingRoster listingEvents) 1 i) before ≡ instrumentIn (rosterFrom listingRoster) (plainKept listingRoster listingEvents .book) 1 i
   unfolding opened instrumentReport positionIn potential ofInstrument
@@ -97,9 +74,12 @@ module _ (m : List ℕ) (bytes : Bytes m) (opens : openingAnswer m listingRoster
         opens = opens;
         answers = answered-so;
         run = in-one-run;
-        buy-of-instrument = listing-buy .0;
-        buy-of-group = listing-buy .1;
-        put-sold = listing-sell;
+        buy-of-instrument = accepted bytes opens (refl, refl, refl) refl (refl, refl) refl refl;
+        buy-of-group = accepted bytes opens (refl, refl, refl) refl (refl, weighs-more, refl) refl refl;
+        -- all 62 of order 7 and the 1 of N put the group at 605,000
+        put-sold =
+            refused bytes opens (refl, refl, refl) refl (inr (inr (inl refl))) (group 1) long (refl, weighs-less, refl)
+            (fill {o = order 7 1 Buy 62} 62 (omega arith) (fill {o = order 8 2 Sell 1} 1 (omega arith) none)) (record { lt = tt });
         first = instrument-line 1 refl;
         second = instrument-line 2 refl;
         ofGroup = group-line;

@@ -27,6 +27,7 @@ use Rattle.opening.specs.Questions.{rosterFrom}
 use Rattle.opening.specs.Opening.{afterOpening}
 use Rattle.desk.specs.Step.{eventQuestions, answerTo, after}
 use Rattle.desk.specs.Demands.{gate}
+use Rattle.claim.specs.Claim.{FirstNo}
 
 -- the memory m, opened with roster s, and what is kept of the events, after the events
 abbrev pub memoryAt : (m s : List ℕ) → List (List ℕ) → List ℕ
@@ -63,11 +64,7 @@ pub record OrderRefused (m s : List ℕ) (events : List (List ℕ)) (n : List �
       ⊎ ((answerTo (memoryAt m s events) n ≡ 22)
       ⊎ ((answerTo (memoryAt m s events) n ≡ 23) ⊎ (answerTo (memoryAt m s events) n ≡ 24)))
   -- demand 2: every question before it is answered yes
-  pub first-failed :
-      (before : List Question)
-      × (behind : List Question)
-      × (eventQuestions (memoryAt m s events) n ≡ before ++ (q number false ∷ behind))
-      × (allPass before ≡ true)
+  pub first-failed : FirstNo (eventQuestions (memoryAt m s events) n) number
   -- demand 1
   pub unchanged : after (memoryAt m s events) n ≡ memoryAt m s events
 
