@@ -1,11 +1,9 @@
 -- Document 01's listing from its bytes: the answers, and the positions at the end.
 use Prim.Native.Nat.{ℕ}
 use mathlib.Core.Path.{_≡_, refl}
-use mathlib.Core.Bool.{cond}
 use native.Mathlib.Omega.{arith}
 use lib.ListN.{take, getD, set}
 use mathlib.Core.List.{List, [], _∷_, _++_}
-use lib.Dec.{eqb}
 use lib.IntN.{pos, negsuc}
 use Rattle.ledger.specs.Roster.{Roster}
 use Rattle.ledger.specs.Positions.{instrument, group, long, potential}
@@ -23,7 +21,7 @@ use Rattle.book.specs.Positions.{instrumentIn, groupIn}
 use Rattle.book.specs.Rosters.{rosterIn}
 use Rattle.book.specs.Listing.{listingTables, listingEvents}
 use Rattle.book.specs.Demand3.{SomeFillingPasses}
-use Rattle.book.specs.Days.{answersTo, endOf, decoded, allBytes}
+use Rattle.book.specs.Days.{answersTo, endOf, decoded}
 use Rattle.book.proofs.Computed.{computes}
 
 abbrev pub listingRoster : Roster

@@ -5,16 +5,15 @@ use mathlib.Core.Logic.{inl, inr}
 use mathlib.Core.Bool.{true}
 use mathlib.Core.List.{List, [], _∷_, map, List·Memᴰ}
 use native.Mathlib.Omega.{arith}
-use lib.IntN.{ℤ, pos}
+use lib.IntN.{ℤ}
 use lib.ListN.{length, take, drop}
 use lib.Dec.{eqb}
 use borrow.Author.Tests.{eqb-true}
 use Rattle.words.specs.Bytes.{Bytes}
 use Rattle.ledger.specs.declared.order.Side.the-variants.{Buy, Sell}
-use Rattle.ledger.specs.Positions.{instrument, group, long, ofInstrument, potential}
+use Rattle.ledger.specs.Positions.{group, long, ofInstrument, potential}
 use Rattle.ledger.specs.Fillings.{none, fill}
-use Rattle.book.specs.EventBytes.{buy, sell, cancelBytes}
-use Rattle.book.specs.Market.{derivatives}
+use Rattle.book.specs.EventBytes.{cancelBytes}
 use Rattle.book.specs.Decoding.{between}
 use Rattle.book.specs.Kept.{RawEvent, begun}
 use Rattle.book.specs.Listing.{listingEvents}
@@ -27,7 +26,7 @@ use Rattle.book.specs.Positions.{instrumentIn, groupIn}
 use Rattle.desk.specs.Days.{answersOver, memoryOver}
 use Rattle.desk.specs.Run.{eventsFor, answered, joined}
 use Rattle.desk.specs.Listing.{listingRoster}
-use Rattle.claim.specs.Examples.{memoryAt, OrderRefused, OrderAccepted}
+use Rattle.claim.specs.Examples.{memoryAt}
 use Rattle.claim.specs.Days.{order, ListingDay, InEveryMemory}
 use Rattle.claim.proofs.Demands.{demand-2, demand-3, run}
 use Rattle.claim.proofs.Uses.{listed-passes}

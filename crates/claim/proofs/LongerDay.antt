@@ -14,12 +14,12 @@ use Rattle.ledger.specs.Fillings.{none, fill}
 use Rattle.book.specs.declared.LimitLine.the-variants.{OfGroup}
 use Rattle.book.specs.EventBytes.{groupLine, blockBytes, buy}
 use Rattle.book.specs.Kept.{RawEvent, begun}
-use Rattle.book.specs.LongerDay.{morning, tooLong, tooShort, putSold, putBought, raisedTooFar, putSoldToTheLimit, putBoughtToTheLimit, raisedToTheLimit, afternoon, evening}
+use Rattle.book.specs.LongerDay.{morning, putSoldToTheLimit, afternoon, evening}
 use Rattle.book.specs.Written.{written, writtenAll}
 use Rattle.book.proofs.LongerDay.{weighs-more, weighs-less}
 use Rattle.opening.specs.Questions.{rosterFrom, openingAnswer}
 use Rattle.opening.specs.Opening.{afterOpening}
-use Rattle.claim.specs.Examples.{OrderRefused, OrderAccepted, LimitSetAgain}
+use Rattle.claim.specs.Examples.{LimitSetAgain}
 use Rattle.claim.specs.Days.{orderOf, order, longerRoster, LongerDay, InEveryMemory}
 use Rattle.claim.proofs.Plainly.{plainly, answers-plainly}
 use Rattle.claim.proofs.Opened.{opened, opens-long}

@@ -2,7 +2,7 @@
 use Prim.Native.Nat.{ℕ}
 use mathlib.Core.Path.{_≡_}
 use mathlib.Core.Logic.{_⊎_}
-use mathlib.Core.Bool.{true, false}
+use mathlib.Core.Bool.{true}
 use mathlib.Core.List.{List, [], _∷_, _++_}
 use mathlib.Core.Option.{some}
 use lib.IntN.{ℤ}
@@ -14,12 +14,12 @@ use Rattle.ledger.specs.Fillings.{Filling, after as filledAfter}
 use Rattle.ledger.specs.Moves.{Moves}
 use Rattle.ledger.specs.Roster.{Roster}
 use Rattle.limits.specs.Lines.{limit}
-use Rattle.limits.specs.Questions.{Question, allPass}
+use Rattle.limits.specs.Questions.{allPass}
 use Rattle.book.specs.declared.LimitLine.{LimitLine}
 use Rattle.book.specs.declared.Event.the-variants.{Limit}
 use Rattle.book.specs.Market.{derivatives}
 use Rattle.book.specs.Books.{Book, work}
-use Rattle.book.specs.Table.{q, entered, questionsBefore}
+use Rattle.book.specs.Table.{entered, questionsBefore}
 use Rattle.book.specs.Kept.{RawEvent, said, Kept, begun, memoryAfter, keptAfter}
 use Rattle.book.specs.SetAgain.{nameOf, lineOver}
 use Rattle.book.specs.Written.{asBytes, written, writtenAll}

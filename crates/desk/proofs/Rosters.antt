@@ -1,6 +1,6 @@
 -- The roster that bytes say, as tables; and which rosters open a memory. All that a day computes with from its bytes on, as one name.
 use Prim.Native.Nat.{ℕ, zero, suc, _+_, _*_, _≤_, compare·suc-suc}
-use mathlib.Core.Path.{_≡_, refl, ap, _∙_, fun-ext}
+use mathlib.Core.Path.{_≡_, refl, ap, fun-ext}
 use mathlib.Core.Bool.{Bool, true, false, cond}
 use mathlib.Core.List.{List, [], _∷_}
 use lib.Dec.{ltb}
