@@ -16,14 +16,25 @@ use Rattle.book.specs.Market.{derivatives}
 use Rattle.book.specs.Decoding.{named, wellFormed, eventOf, decode}
 use Rattle.book.specs.OpenOrders.{find, insert, change, kept}
 use Rattle.book.specs.Books.{emptyBook, unsets, lineOf, groupLineOf, setLine, setBlock, newOrder, work, mark}
-use Rattle.book.specs.Table.{isEvent, accountKnown, itemKnown, figuresFit, notYetTrading, idOpen, quantityFits, entered, idFree, placeFree, questionsBefore, limitQuestions, answer}
+use Rattle.book.specs.Table.{isEvent, accountKnown, itemKnown, figuresFit, notYetTrading, idOpen, quantityFits, entered}
+use Rattle.book.specs.Table.{idFree, placeFree, questionsBefore, limitQuestions, answer}
 use Rattle.book.specs.Kept.{begun, keep, memoryAfter, keptAfter}
 use Rattle.book.specs.SetAgain.{lineSet, lineOver}
 use Rattle.book.specs.EventBytes.{bytesOf, figure, eventBytes}
 use Rattle.book.specs.Written.{asBytes}
-use Rattle.book.specs.Listing.{listingEvents}
-use Rattle.book.specs.LongerDay.{morning, afternoon, evening}
+use Rattle.book.specs.Positions.{potentialIn, instrumentIn, groupIn}
+use Rattle.book.specs.Rosters.{rosterIn}
+use Rattle.book.specs.Edges.{edgeTables, starredEdges}
+use Rattle.book.specs.Listing.{listingTables, listingEvents}
+use Rattle.book.specs.LongerDay.{longerTables, morning, afternoon, evening}
 
 unfoldable pub computes : Unit {0}
-unfolding number u8At u16At u64At i64At signedOf sumOver below remaining filledBy replacedTotal closes groupOfInstrument sideOf standsIn openOn ofInstrument groupPart sumGroup potential position fillMoves after lineInForce limit firstNo allPass limitsSet sizeFits movesInstrument movesGroup within positionQuestions derivatives one named wellFormed eventOf decode find insert change kept emptyBook unsets lineOf groupLineOf setLine setBlock newOrder work mark isEvent accountKnown itemKnown figuresFit notYetTrading idOpen quantityFits entered idFree placeFree questionsBefore limitQuestions answer begun keep memoryAfter keptAfter lineSet lineOver asBytes bytesOf figure eventBytes bitsOf listingEvents morning afternoon evening
+unfolding
+    number u8At u16At u64At i64At signedOf sumOver below remaining filledBy replacedTotal closes groupOfInstrument sideOf standsIn openOn
+    ofInstrument groupPart sumGroup potential position fillMoves after lineInForce limit firstNo allPass limitsSet sizeFits movesInstrument
+    movesGroup within positionQuestions derivatives one named wellFormed eventOf decode find insert change kept emptyBook unsets lineOf
+    groupLineOf setLine setBlock newOrder work mark isEvent accountKnown itemKnown figuresFit notYetTrading idOpen quantityFits entered
+    idFree placeFree questionsBefore limitQuestions answer begun keep memoryAfter keptAfter lineSet lineOver asBytes bytesOf figure
+    eventBytes bitsOf potentialIn instrumentIn groupIn rosterIn edgeTables starredEdges listingTables listingEvents longerTables morning
+    afternoon evening
 computes = tt

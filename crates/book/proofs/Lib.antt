@@ -1,6 +1,6 @@
 -- Laws of the plain book: sound books stay sound, positions stay within limits, demand 3 of any desk; and days that are computed.
-pub mod Days
 pub mod Edges
+pub mod Rosters
 pub mod Listing
 pub mod Puts
 pub mod SetAgainExamples

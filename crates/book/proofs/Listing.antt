@@ -1,11 +1,9 @@
 -- Document 01's listing from its bytes: the answers, and the positions at the end.
 use Prim.Native.Nat.{ℕ}
 use mathlib.Core.Path.{_≡_, refl}
-use mathlib.Core.Bool.{cond}
 use native.Mathlib.Omega.{arith}
 use lib.ListN.{take, getD, set}
 use mathlib.Core.List.{List, [], _∷_, _++_}
-use lib.Dec.{eqb}
 use lib.IntN.{pos, negsuc}
 use Rattle.ledger.specs.Roster.{Roster}
 use Rattle.ledger.specs.Positions.{instrument, group, long, potential}
@@ -18,34 +16,32 @@ use Rattle.limits.specs.Lines.{limit}
 use Rattle.book.specs.Market.{derivatives}
 use Rattle.book.specs.Decoding.{decode}
 use Rattle.book.specs.Books.{Book, work}
-use Rattle.book.specs.Kept.{begun}
-use Rattle.book.specs.Listing.{listingEvents}
+use Rattle.book.specs.Kept.{Kept, begun}
+use Rattle.book.specs.Positions.{instrumentIn, groupIn}
+use Rattle.book.specs.Rosters.{rosterIn}
+use Rattle.book.specs.Listing.{listingTables, listingEvents}
 use Rattle.book.specs.Demand3.{SomeFillingPasses}
-use Rattle.book.proofs.Days.{answersTo, endOf, instrumentLine, groupLineAt}
+use Rattle.book.specs.Days.{answersTo, endOf, decoded}
 use Rattle.book.proofs.Computed.{computes}
 
--- one account, group and contract, two instruments of weight 10000 and −5000
-unfoldable pub listingRoster : Roster
-listingRoster =
-    record { accounts = 1; groups = 1; contracts = 1; instruments = 2; groupOf = λ c. 1; contractOf = λ i. 1; weight = λ i. cond (eqb i 1) (pos 10000) (negsuc 4999) }
+abbrev pub listingRoster : Roster
+listingRoster = rosterIn listingTables
 
--- what the bytes say
-abbrev said : List (List ℕ) → List Event
-said [] = []
-said (e ∷ es) = decode e ∷ said es
+abbrev pub listingEnd : Kept
+listingEnd = endOf listingRoster begun (decoded listingEvents)
 
 -- the answers, from 1 on; then S, PCI and PVI of each instrument, and PCC and PVC
-pub listing : (answersTo listingRoster begun (said listingEvents) ≡ 0 ∷ 0 ∷ 0 ∷ 0 ∷ 23 ∷ 0 ∷ 0 ∷ 0 ∷ [])
-    × (instrumentLine listingRoster (endOf listingRoster begun (said listingEvents)) 1 1 ≡ pos 10 ∷ pos 10 ∷ negsuc 9 ∷ [])
-    × (instrumentLine listingRoster (endOf listingRoster begun (said listingEvents)) 1 2 ≡ pos 0 ∷ pos 4 ∷ pos 0 ∷ [])
-    × (groupLineAt listingRoster (endOf listingRoster begun (said listingEvents)) 1 1 ≡ pos 100000 ∷ negsuc 79999 ∷ [])
-unfolding computes listingRoster
+pub listing : (answersTo listingRoster begun (decoded listingEvents) ≡ 0 ∷ 0 ∷ 0 ∷ 0 ∷ 23 ∷ 0 ∷ 0 ∷ 0 ∷ [])
+    × (instrumentIn listingRoster (listingEnd .book) 1 1 ≡ pos 10 ∷ pos 10 ∷ negsuc 9 ∷ [])
+    × (instrumentIn listingRoster (listingEnd .book) 1 2 ≡ pos 0 ∷ pos 4 ∷ pos 0 ∷ [])
+    × (groupIn listingRoster (listingEnd .book) 1 1 ≡ pos 100000 ∷ negsuc 79999 ∷ [])
+unfolding computes
 listing = (refl, refl, refl, refl)
 
 -- ---- the fifth event, N, is refused by 23, and a filling shows why: all 62 of order 7 and the 1 of N put the group's
 -- position at 605,000 ten-thousandths, past its limit of 600,000
 abbrev before : List Event
-before = said (take 4 listingEvents)
+before = decoded (take 4 listingEvents)
 
 abbrev withSell : Book
 withSell = work (λ o. 1) (endOf listingRoster begun before .book) (decode (getD listingEvents 4 []))
@@ -58,12 +54,12 @@ abbrev sell-8 : Order
 sell-8 = record { id = 8; account = 1; instrument = 2; side = Sell; total = 1; filled = 0 }
 
 shown : SomeFillingPasses derivatives listingRoster withSell 1 (group 1) long
-unfolding computes listingRoster
+unfolding computes
 shown = (fill {o = buy-7} 62 (omega arith) (fill {o = sell-8} 1 (omega arith) none), record { lt = tt })
 
 -- without N no filling passes it: the potential position reaches the limit
 reached : potential (λ o. 1) listingRoster (endOf listingRoster begun before .book .orders) 1 (endOf listingRoster begun before .book .balanceOf 1) (group 1) long ≡ limit listingRoster (endOf listingRoster begun before .book .linesOf 1) (group 1) long
-unfolding computes listingRoster
+unfolding computes
 reached = refl
 
 -- ---- what is no event: one byte less or more, an id that is 0, a field that the kind does not name

@@ -2,10 +2,8 @@
 use Prim.Native.Nat.{ℕ, _≤_}
 use mathlib.Core.Path.{_≡_, refl}
 use mathlib.Core.Logic.{_≢_, inl, inr}
-use mathlib.Core.Bool.{Bool, true, false, cond}
 use mathlib.Core.List.{List, [], _∷_, _++_}
 use native.Mathlib.Omega.{arith}
-use lib.Dec.{eqb}
 use lib.ListN.{length}
 use lib.IntN.{pos, negsuc, natAbs}
 use Rattle.ledger.specs.declared.order.Order.{Order}
@@ -18,35 +16,28 @@ use Rattle.book.specs.Market.{derivatives}
 use Rattle.book.specs.Sound.{RosterFits, Sound}
 use Rattle.book.specs.Kept.{Desk, Kept, begun, memoryAfter}
 use Rattle.book.specs.Written.{written, writtenAll}
-use Rattle.book.specs.LongerDay.{morning, tooLong, tooShort, putSold, putBought, raisedTooFar, putSoldToTheLimit, putBoughtToTheLimit, raisedToTheLimit, afternoon, evening}
+use Rattle.book.specs.Rosters.{rosterIn}
+use Rattle.book.specs.LongerDay.{longerTables, morning, tooLong, tooShort, putSold, putBought, raisedTooFar, putSoldToTheLimit, putBoughtToTheLimit, raisedToTheLimit, afternoon, evening}
 use Rattle.book.proofs.Plain.{derivatives-unit, plain-sound}
 use Rattle.book.proofs.PlainPromise.{plainDesk, keptOf, Refused, Past, both-ways}
+use Rattle.book.proofs.Rosters.{at-each-number}
 use Rattle.book.proofs.Computed.{computes}
 
--- contract 1, of group 1, has instruments 1, of weight 10000, and 2, a put of weight −5000; contract 2, of group 2, has instrument 3
 abbrev pub longerRoster : Roster
-longerRoster =
-    record { accounts = 2; groups = 2; contracts = 2; instruments = 3; groupOf = λ c. c; contractOf = λ i. cond (eqb i 3) 2 1; weight = λ i. cond (eqb i 2) (negsuc 4999) (pos 10000) }
+longerRoster = rosterIn longerTables
 
 pub longer-fits : RosterFits longerRoster
+unfolding computes
 longer-fits =
     record {
       accounts = omega arith;
       groups = omega arith;
       contracts = omega arith;
       instruments = omega arith;
-      groupOf = λ c on. on;
-      contractOf = λ i on. of-contract (eqb i 3);
-      weight = λ i on. weighs (eqb i 2);
+      groupOf = at-each-number 0 (Numbered 2) (longerTables .groupOf) (omega arith, (omega arith, tt));
+      contractOf = at-each-number 0 (Numbered 2) (longerTables .contractOf) (omega arith, (omega arith, (omega arith, tt)));
+      weight = at-each-number (pos 0) (λ z. natAbs z ≤ 1000000) (longerTables .weights) (omega arith, (omega arith, (omega arith, tt)));
     }
-  where
-    of-contract : (t : Bool) → Numbered 2 (cond t 2 1)
-    of-contract true = omega arith
-    of-contract false = omega arith
-
-    weighs : (t : Bool) → natAbs (cond t (negsuc 4999) (pos 10000)) ≤ 1000000
-    weighs true = omega arith
-    weighs false = omega arith
 
 -- ---- the answers
 abbrev desk : Desk

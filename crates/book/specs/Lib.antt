@@ -10,6 +10,10 @@ pub mod Demand3
 pub mod Contract
 pub mod Answers
 pub mod EventBytes
+pub mod Positions
+pub mod Days
+pub mod Rosters
+pub mod Edges
 pub mod Listing
 pub mod Written
 pub mod LongerDay

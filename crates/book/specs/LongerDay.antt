@@ -1,11 +1,23 @@
 -- A day with puts, in bytes, longer than document 01's listing: each way of refusing an order for a position limit, an order that is
--- accepted at its limit, and what may come after it. Two accounts, groups and contracts. Contract 1, of group 1, has instruments 1, of
--- weight 10000, and 2, a put of weight −5000; contract 2, of group 2, has instrument 3, of weight 10000.
+-- accepted at its limit, and what may come after it.
 use Prim.Native.Nat.{ℕ}
 use mathlib.Core.List.{List, [], _∷_, _++_}
 use lib.IntN.{pos, negsuc, negℤ}
 use lib.ListN.{take}
 use Rattle.book.specs.EventBytes.{limitBytes, line, groupLine, balanceBytes, balance, blockBytes, buy, sell, replaceBytes, cancelBytes, fillBytes}
+use Rattle.book.specs.Rosters.{Tables}
+
+-- two accounts, groups and contracts; contract 1, of group 1, has instruments 1, of weight 10000, and 2, a put of weight −5000; contract
+-- 2, of group 2, has instrument 3, of weight 10000
+unfoldable pub longerTables : Tables
+longerTables =
+    record {
+      accounts = 2;
+      groups = 2;
+      groupOf = 1 ∷ 2 ∷ [];
+      contractOf = 1 ∷ 1 ∷ 2 ∷ [];
+      weights = pos 10000 ∷ negsuc 4999 ∷ pos 10000 ∷ [];
+    }
 
 -- account 1's lines of contract 1 and group 1; two contracts of instrument 1 short; buy 50 of it, id 7, so that PCI is 48 and PCC 48
 -- contracts

@@ -1,8 +1,8 @@
 -- The way back: each demand as the claim says it gives the demand as the crate desk says it, so neither can be weakened alone.
 use Prim.Native.Nat.{ℕ, _≤_, _<_}
-use mathlib.Core.Path.{_≡_, refl, sym, ap, _∙_}
+use mathlib.Core.Path.{_≡_, sym, ap, _∙_}
 use mathlib.Core.Logic.{_⊎_, inl, inr, ⊎-elim, _↔_, _≢_}
-use mathlib.Core.Bool.{true, false}
+use mathlib.Core.Bool.{true}
 use mathlib.Core.List.{List, [], _∷_, _++_, List·Memᴰ, List·Memᴰ·head, List·Memᴰ·tail}
 use lib.ListN.{length}
 use Rattle.ledger.specs.Derivatives.{one}
@@ -13,7 +13,6 @@ use Rattle.book.specs.declared.LimitLine.{LimitLine}
 use Rattle.book.specs.declared.Event.the-variants.{Limit}
 use Rattle.book.specs.Market.{derivatives}
 use Rattle.book.specs.Books.{work}
-use Rattle.book.specs.Table.{q}
 use Rattle.book.specs.Kept.{RawEvent, said, Kept, memoryAfter, keptAfter}
 use Rattle.book.specs.SetAgain.{nameOf, lineOver}
 use Rattle.book.specs.Demand3.{NotSetAgain}
@@ -22,8 +21,9 @@ use Rattle.book.proofs.NotSetAgainLaws.{not-set-again-iff}
 use Rattle.desk.specs.Step.{answerTo}
 use Rattle.desk.specs.Days.{answersOver, memoryOver}
 use Rattle.desk.specs.Run.{Whole, eventsFor, bytesOfEach, joined}
-use Rattle.desk.specs.Demands.{OneOf, FirstFailed, Answers, gate, Demand1 as DeskDemand1, Demand2 as DeskDemand2, Demand3 as DeskDemand3}
-use Rattle.claim.specs.Claim.{Demand1, Demand2, Demand3, Run}
+use Rattle.desk.specs.Demands.{OneOf, Answers, gate, Demand1 as DeskDemand1, Demand2 as DeskDemand2, Demand3 as DeskDemand3}
+use Rattle.claim.specs.Claim.{FirstNo, Demand1, Demand2, Demand3, Run}
+use Rattle.claim.proofs.Demands.{failed-first}
 
 -- ---- demand 1
 one-of : (n : ℕ) (ns : List ℕ) → List·Memᴰ n ns → OneOf n ns
@@ -42,21 +42,14 @@ back-1 d =
     }
 
 -- ---- demand 2
-answers-back : (qs : List Question) (answer : ℕ) → ((n : ℕ) → n ≢ 0 → (answer ≡ n) ↔ ((before : List Question) × (behind : List Question) × (qs ≡ before ++ (q n false ∷ behind)) × (allPass before ≡ true))) → ((answer ≡ 0) ↔ (allPass qs ≡ true)) → Answers qs answer
-answers-back qs answer refused accepted =
-    record {
-      refused = λ n other. (λ e. there n (refused n other .0 e), λ f. refused n other .1 (back n f));
-      accepted = accepted;
-    }
-  where
-    there : (n : ℕ) → (before : List Question) × (behind : List Question) × (qs ≡ before ++ (q n false ∷ behind)) × (allPass before ≡ true) → FirstFailed qs n
-    there n x = record { before = x .0; asked = q n false; behind = x .1; table = x .2; passed = x .3; failed = refl; number = refl }
-
-    asked-no : (n : ℕ) (x : Question) → x .passes ≡ false → x .number ≡ n → x ≡ q n false
-    asked-no n x failed number = rw (← number, ← failed) refl
-
-    back : (n : ℕ) → FirstFailed qs n → (before : List Question) × (behind : List Question) × (qs ≡ before ++ (q n false ∷ behind)) × (allPass before ≡ true)
-    back n f = (f .before, f .behind, f .table ∙ ap (λ (x : Question). f .before ++ (x ∷ f .behind)) (asked-no n (f .asked) (f .failed) (f .number)), f .passed)
+module _ (qs : List Question) (answer : ℕ) where
+  answers-back : ((n : ℕ) → n ≢ 0 → (answer ≡ n) ↔ FirstNo qs n) → ((answer ≡ 0) ↔ (allPass qs ≡ true)) → Answers qs answer
+  answers-back refused accepted =
+      let same = failed-first qs in
+      record {
+        refused = λ n other. (λ e. same n .1 (refused n other .0 e), λ f. refused n other .1 (same n .0 f));
+        accepted = accepted;
+      }
 
 pub back-2 : Demand2 → DeskDemand2
 back-2 d =

@@ -2,14 +2,14 @@
 use Prim.Native.Nat.{ℕ, suc, _≤_}
 use mathlib.Core.Path.{_≡_, refl, sym, ap, _∙_}
 use mathlib.Core.Logic.{_⊎_, inl, inr, ⊎-elim, _↔_, _≢_}
-use mathlib.Core.Bool.{true, false, cond}
+use mathlib.Core.Bool.{false, cond}
 use mathlib.Core.List.{List, [], _∷_, _++_, map, List·Memᴰ, List·Memᴰ·head, List·Memᴰ·tail}
 use mathlib.Core.Option.{Option, none, some}
 use native.Mathlib.Omega.{arith}
 use lib.ListN.{length, length-append, length-map}
 use Rattle.ledger.specs.declared.order.Order.{Order}
 use Rattle.limits.specs.Lines.{isSet}
-use Rattle.limits.specs.Questions.{Question, allPass}
+use Rattle.limits.specs.Questions.{Question}
 use Rattle.book.specs.Market.{derivatives}
 use Rattle.book.specs.Decoding.{decode}
 use Rattle.book.specs.Table.{q, entered}
@@ -27,7 +27,7 @@ use Rattle.desk.specs.Run.{Whole, answered}
 use Rattle.desk.specs.Demands.{OneOf, FirstFailed, Answers, gate}
 use Rattle.desk.proofs.Demands.{demand-1 as desk-demand-1, demand-2 as desk-demand-2, demand-3 as desk-demand-3}
 use Rattle.desk.proofs.RunList.{run-is-the-list, unsound-run}
-use Rattle.claim.specs.Claim.{Demand1, Demand2, Demand3, Run}
+use Rattle.claim.specs.Claim.{FirstNo, Demand1, Demand2, Demand3, Run}
 
 -- ---- demand 1
 listed : (n : ℕ) (ns : List ℕ) → OneOf n ns → List·Memᴰ n ns
@@ -47,19 +47,26 @@ demand-1 =
     }
 
 -- ---- demand 2
--- the first that fails, written out
-first-failed : (qs : List Question) (answer n : ℕ) → Answers qs answer → n ≢ 0 → (answer ≡ n) ↔ ((before : List Question) × (behind : List Question) × (qs ≡ before ++ (q n false ∷ behind)) × (allPass before ≡ true))
-first-failed qs answer n a other = (λ e. there (a .refused n other .0 e), λ x. a .refused n other .1 (back x))
+-- the first that fails, as `desk` says it and as the claim does
+pub failed-first : (qs : List Question) (n : ℕ) → FirstFailed qs n ↔ FirstNo qs n
+failed-first qs n = (there, back)
   where
     answered-no : (x : Question) → x .passes ≡ false → x .number ≡ n → x ≡ q n false
     answered-no x failed number = rw (← number, ← failed) refl
 
-    there : FirstFailed qs n → (before : List Question) × (behind : List Question) × (qs ≡ before ++ (q n false ∷ behind)) × (allPass before ≡ true)
-    there f = (f .before, f .behind, f .table ∙ ap (λ (x : Question). f .before ++ (x ∷ f .behind)) (answered-no (f .asked) (f .failed) (f .number)), f .passed)
+    there : FirstFailed qs n → FirstNo qs n
+    there f =
+        let no = answered-no (f .asked) (f .failed) (f .number) in
+        (f .before, f .behind, f .table ∙ ap (λ (x : Question). f .before ++ (x ∷ f .behind)) no, f .passed)
 
-    back : (before : List Question) × (behind : List Question) × (qs ≡ before ++ (q n false ∷ behind)) × (allPass before ≡ true) → FirstFailed qs n
+    back : FirstNo qs n → FirstFailed qs n
     back x =
         record { before = x .0; asked = q n false; behind = x .1; table = x .2; passed = x .3; failed = refl; number = refl }
+
+first-failed : (qs : List Question) (answer n : ℕ) → Answers qs answer → n ≢ 0 → (answer ≡ n) ↔ FirstNo qs n
+first-failed qs answer n a other =
+    let same = failed-first qs n in
+    (λ e. same .0 (a .refused n other .0 e), λ x. a .refused n other .1 (same .1 x))
 
 opening-numbers : (m s : List ℕ) → map (λ x. x .number) (openingQuestions m s) ≡ 1 ∷ 2 ∷ 3 ∷ 4 ∷ []
 unfolding openingQuestions

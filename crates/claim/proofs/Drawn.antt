@@ -5,7 +5,7 @@ use mathlib.Core.List.{List}
 use native.Mathlib.Omega.{arith}
 use lib.ListN.{length, getD, replicate}
 use Rattle.words.specs.Bytes.{Bytes}
-use Rattle.desk.specs.Edges.{starredEdges}
+use Rattle.book.proofs.Edges.{starred-answers}
 use Rattle.desk.proofs.Edges.{starred-edges}
 use Rattle.claim.specs.Days.{zeros, Drawn}
 use Rattle.claim.proofs.ListingDay.{listing-day}
@@ -32,10 +32,9 @@ unfolding zeros
 long-enough = subst (λ n. 65536 ≤ n) (sym (as-long 65536)) (omega arith)
 
 pub drawn : Drawn
-unfolding starredEdges
 drawn = (
   listing-day zeros are-bytes long-enough,
   longer-day zeros are-bytes long-enough,
   starred-edges zeros are-bytes long-enough,
-  refl,
+  starred-answers,
 )

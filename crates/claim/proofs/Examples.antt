@@ -24,7 +24,7 @@ use Rattle.book.specs.Table.{entered, questionsBefore, answer}
 use Rattle.book.specs.Kept.{RawEvent, said, Kept, begun, keep, keptAfter}
 use Rattle.book.specs.SetAgain.{nameOf, lineOver}
 use Rattle.book.specs.Written.{asBytes, written, writtenAll}
-use Rattle.book.proofs.Days.{endOf}
+use Rattle.book.specs.Days.{endOf}
 use Rattle.book.proofs.Plain.{plain}
 use Rattle.book.proofs.KeptLaws.{memory-of-more, kept-of-more, kept-joined}
 use Rattle.book.proofs.NotSetAgainLaws.{setsNone}
@@ -54,16 +54,28 @@ written-joined : (xs ys : List (List ℕ)) → writtenAll (xs ++ ys) ≡ written
 written-joined [] ys = refl
 written-joined (x ∷ xs) ys = ap (λ (l : List RawEvent). written x ∷ l) (written-joined xs ys)
 
+-- N after events enters or raises o, and passes every check before the position limits
+abbrev Asks : List ℕ → List (List ℕ) → List ℕ → Order → Type 0
+Asks s events n o =
+    let kept = plainKept s events in
+    (asBytes n ≡ n)
+    × (entered (kept .book) (said (written n)) ≡ some o)
+    × (allPass (questionsBefore derivatives (rosterFrom s) (kept .book) (kept .trading) (said (written n))) ≡ true)
+
+-- no accepted event of the later ones sets the limit of o's position again
+abbrev NoneSets : List ℕ → List (List ℕ) → List ℕ → Order → Place → List (List ℕ) → Type 0
+NoneSets s events n o p later =
+    let r = rosterFrom s in
+    let kept = plainKept s (events ++ (n ∷ [])) in
+    setsNone (plain derivatives r) derivatives r kept kept (o .account) p (writtenAll later) ≡ true
+
 module _ (m s : List ℕ) (bytes : Bytes m) (opens : openingAnswer m s ≡ 0) where
   pub kept-at : (events : List (List ℕ)) → keptAt m s events ≡ plainKept s events
   kept-at events = kept-plainly (rosterFrom s) (afterOpening m s) begun (plainly m s bytes opens) (writtenAll events)
 
   module _ (events : List (List ℕ)) (n : List ℕ) (o : Order) where
-    pub asked : asBytes n ≡ n
-        → entered (plainKept s events .book) (said (written n)) ≡ some o
-        → allPass (questionsBefore derivatives (rosterFrom s) (plainKept s events .book) (plainKept s events .trading) (said (written n))) ≡ true
-        → OrderAsked m s events n o
-    asked same enters passes =
+    asked : Asks s events n o → OrderAsked m s events n o
+    asked (same, enters, passes) =
         record { bytes = same; enters = rw (kept-at events) enters; passes = rw (kept-at events) passes }
 
     answered : asBytes n ≡ n → (number : ℕ) → plainAnswer s events n ≡ number → answerTo (memoryAt m s events) n ≡ number
@@ -71,10 +83,11 @@ module _ (m s : List ℕ) (bytes : Bytes m) (opens : openingAnswer m s ≡ 0) wh
         ap (answerTo (memoryAt m s events)) (sym same) ∙ plainly m s bytes opens (writtenAll events) (written n) ∙ rw (kept-at events) h
 
     -- refused: `shown` is a filling that passes the limit
-    pub refused : OrderAsked m s events n o → (number : ℕ) → plainAnswer s events n ≡ number → ForPositionLimit number
+    refused-at : Asks s events n o → (number : ℕ) → plainAnswer s events n ≡ number → ForPositionLimit number
         → SomeFillingPast (rosterFrom s) (work one (plainKept s events .book) (said (written n))) o
         → OrderRefused m s events n o number
-    refused a number computed which shown =
+    refused-at asks number computed which shown =
+        let a = asked asks in
         let answer-is = answered (a .bytes) number computed in
         let judged = demand-3 m s bytes opens (writtenAll events) .0 (written n) o (a .enters) (a .passes) .0 in
         let other = no-acceptance number which in
@@ -106,17 +119,18 @@ module _ (m s : List ℕ) (bytes : Bytes m) (opens : openingAnswer m s ≡ 0) wh
         rw (written-joined events (n ∷ later)) (kept-joined gate derivatives (afterOpening m s) begun (writtenAll events) (written n ∷ writtenAll later))
 
     module _ (p : Place) (w : Way) (figure : ℤ) (later : List (List ℕ)) where
-      none-sets : setsNone (plain derivatives (rosterFrom s)) derivatives (rosterFrom s) (plainKept s (events ++ (n ∷ []))) (plainKept s (events ++ (n ∷ []))) (o .account) p (writtenAll later) ≡ true → NoneSetsAgain m s (events ++ (n ∷ [])) later (o .account) p
+      none-sets : NoneSets s events n o p later → NoneSetsAgain m s (events ++ (n ∷ [])) later (o .account) p
       none-sets test =
           none-sets-again (rosterFrom s) (memoryAt m s (events ++ (n ∷ []))) (keptAt m s (events ++ (n ∷ [])))
           (plainly-after (rosterFrom s) (afterOpening m s) begun (plainly m s bytes opens) (writtenAll (events ++ (n ∷ []))))
           (o .account) p (writtenAll later) (rw (kept-at (events ++ (n ∷ []))) test)
 
-      pub accepted : OrderAsked m s events n o → plainAnswer s events n ≡ 0 → Moves (rosterFrom s) o p w
+      accepted-at : Asks s events n o → plainAnswer s events n ≡ 0 → Moves (rosterFrom s) o p w
           → limit (rosterFrom s) (plainKept s events .book .linesOf (o .account)) p w ≡ figure
-          → setsNone (plain derivatives (rosterFrom s)) derivatives (rosterFrom s) (plainKept s (events ++ (n ∷ []))) (plainKept s (events ++ (n ∷ []))) (o .account) p (writtenAll later) ≡ true
+          → NoneSets s events n o p later
           → OrderAccepted m s events n o p w figure later
-      accepted a computed moves figure-is test =
+      accepted-at asks computed moves figure-is test =
+          let a = asked asks in
           let zero = answered (a .bytes) 0 computed in
           let judged = demand-3 m s bytes opens (writtenAll events) .0 (written n) o (a .enters) (a .passes) .1 in
           let by : limit (rosterFrom s) (keptAt m s events .book .linesOf (o .account)) p w ≡ figure = rw (kept-at events) figure-is in
@@ -150,3 +164,21 @@ module _ (m s : List ℕ) (bytes : Bytes m) (opens : openingAnswer m s ≡ 0) wh
             set-again = λ none. none before e behind c l cut limits (there before e ∙ rw kept-is computed) (inl (rw kept-is under));
             past = rw (kept-at (events ++ (n ∷ later))) shown;
           }
+
+-- ---- the same, of the memory, the order and the position that are to be shown
+module _ {m s : List ℕ} {events : List (List ℕ)} {n : List ℕ} {o : Order} (bytes : Bytes m) (opens : openingAnswer m s ≡ 0) where
+  -- filled by f, the orders open with N and N itself put position p past its limit on side w
+  pub refused : Asks s events n o → {number : ℕ} → plainAnswer s events n ≡ number → ForPositionLimit number
+      → (let r = rosterFrom s in
+      let b = work one (plainKept s events .book) (said (written n)) in
+      (p : Place) (w : Way) → Moves r o p w
+      → (f : Filling (b .orders))
+      → limit r (b .linesOf (o .account)) p w <ℤ position r (filledAfter one (o .account) (b .balanceOf (o .account)) f) p w
+      → OrderRefused m s events n o number)
+  refused asks computed which p w moves f past = refused-at m s bytes opens events n o asks _ computed which (p, w, moves, (f, past))
+
+  pub accepted : Asks s events n o → plainAnswer s events n ≡ 0 → {p : Place} {w : Way} → Moves (rosterFrom s) o p w → {figure : ℤ}
+      → limit (rosterFrom s) (plainKept s events .book .linesOf (o .account)) p w ≡ figure
+      → {later : List (List ℕ)} → NoneSets s events n o p later
+      → OrderAccepted m s events n o p w figure later
+  accepted asks computed moves figure-is test = accepted-at m s bytes opens events n o _ _ _ _ asks computed moves figure-is test

@@ -6,6 +6,5 @@ pub mod Plainly
 pub mod Examples
 pub mod Opened
 pub mod ListingDay
-pub mod LaterOrders
 pub mod LongerDay
 pub mod Drawn

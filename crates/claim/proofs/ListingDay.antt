@@ -5,75 +5,50 @@ use mathlib.Core.Logic.{inl, inr}
 use mathlib.Core.Bool.{true}
 use mathlib.Core.List.{List, [], _∷_, map, List·Memᴰ}
 use native.Mathlib.Omega.{arith}
-use lib.IntN.{ℤ, pos}
+use lib.IntN.{ℤ}
 use lib.ListN.{length, take, drop}
 use lib.Dec.{eqb}
-use borrow.Author.Tests.{eqb-true, le-leb}
+use borrow.Author.Tests.{eqb-true}
 use Rattle.words.specs.Bytes.{Bytes}
 use Rattle.ledger.specs.declared.order.Side.the-variants.{Buy, Sell}
-use Rattle.ledger.specs.Positions.{instrument, group, long, ofInstrument, potential}
+use Rattle.ledger.specs.Positions.{group, long, ofInstrument, potential}
 use Rattle.ledger.specs.Fillings.{none, fill}
-use Rattle.limits.specs.Questions.{allPass}
-use Rattle.book.specs.EventBytes.{buy, sell, cancelBytes}
-use Rattle.book.specs.Market.{derivatives}
+use Rattle.book.specs.EventBytes.{cancelBytes}
 use Rattle.book.specs.Decoding.{between}
 use Rattle.book.specs.Kept.{RawEvent, begun}
 use Rattle.book.specs.Listing.{listingEvents}
 use Rattle.book.specs.Written.{written, writtenAll}
-use Rattle.layout.specs.Rosters.{every, sizesFit, namesFit, weightsFit, longEnough}
-use Rattle.opening.specs.Questions.{rosterFrom, rosterLength, lengthsFit, openingQuestions, openingAnswer}
+use Rattle.book.proofs.LongerDay.{weighs-more, weighs-less}
+use Rattle.opening.specs.Questions.{rosterFrom, openingAnswer}
 use Rattle.opening.specs.Opening.{afterOpening}
 use Rattle.reading.specs.Reading.{instrumentAnswer, groupAnswer, instrumentReport, groupReport, positionIn, reported}
-use Rattle.desk.specs.Positions.{potentialIn, instrumentIn, groupIn}
+use Rattle.book.specs.Positions.{instrumentIn, groupIn}
 use Rattle.desk.specs.Days.{answersOver, memoryOver}
 use Rattle.desk.specs.Run.{eventsFor, answered, joined}
 use Rattle.desk.specs.Listing.{listingRoster}
-use Rattle.claim.specs.Examples.{memoryAt, OrderRefused, OrderAccepted}
+use Rattle.claim.specs.Examples.{memoryAt}
 use Rattle.claim.specs.Days.{order, ListingDay, InEveryMemory}
 use Rattle.claim.proofs.Demands.{demand-2, demand-3, run}
 use Rattle.claim.proofs.Uses.{listed-passes}
 use Rattle.claim.proofs.Plainly.{plainly, answers-plainly}
-use Rattle.claim.proofs.Opened.{opened, not-zero, put-not-zero}
-use Rattle.claim.proofs.Examples.{plainKept, kept-at, asked, refused, accepted}
+use Rattle.claim.proofs.Opened.{opened, opens-long}
+use Rattle.claim.proofs.Examples.{plainKept, kept-at, refused, accepted}
 
 -- ---- document 01's listing
 listing-opens : (m : List ℕ) → 65536 ≤ length m → openingAnswer m listingRoster ≡ 0
-unfolding opened openingQuestions allPass longEnough lengthsFit rosterLength sizesFit namesFit weightsFit every
-listing-opens m enough = demand-2 .roster-accepted m listingRoster .1 (rw (le-leb 65536 (length m) enough) refl)
+unfolding opened
+listing-opens m enough = opens-long m listingRoster enough refl
 
 module _ (m : List ℕ) (bytes : Bytes m) (opens : openingAnswer m listingRoster ≡ 0) where
-  listing-buy : (OrderAccepted m listingRoster (take 3 listingEvents) (buy 1 7 62) (order 7 1 Buy 62) (instrument 1) long (pos 100) (drop 4 listingEvents))
-      × (OrderAccepted m listingRoster (take 3 listingEvents) (buy 1 7 62) (order 7 1 Buy 62) (group 1) long (pos 600000) (drop 4 listingEvents))
-  unfolding opened
-  listing-buy =
-      let s = listingRoster in
-      let events = take 3 listingEvents in
-      let n = buy 1 7 62 in
-      let o = order 7 1 Buy 62 in
-      let later = drop 4 listingEvents in
-      let a = asked m s bytes opens events n o refl refl refl in (
-        accepted m s bytes opens events n o (instrument 1) long (pos 100) later a refl (refl, refl) refl refl,
-        accepted m s bytes opens events n o (group 1) long (pos 600000) later a refl (refl, not-zero, refl) refl refl,
-      )
-
-  listing-sell : OrderRefused m listingRoster (take 4 listingEvents) (sell 2 8 1) (order 8 2 Sell 1) 23
-  unfolding opened
-  listing-sell =
-      let s = listingRoster in
-      let events = take 4 listingEvents in
-      let o = order 8 2 Sell 1 in
-      refused m s bytes opens events (sell 2 8 1) o (asked m s bytes opens events (sell 2 8 1) o refl refl refl) 23 refl (inr (inr (inl refl)))
-      (group 1, long, (refl, put-not-zero, refl), (fill {o = order 7 1 Buy 62} 62 (omega arith) (fill {o = o} 1 (omega arith) none), record { lt = tt }))
-
   -- what is reported of an instrument, by demand 2, is what the book gives, by demand 3
   instrument-line : (i : ℕ) → between 1 (rosterFrom listingRoster .instruments) i ≡ true → (before : List ℤ) → reported (instrumentAnswer (memoryAt m listingRoster listingEvents) 1 i) (instrumentReport (memoryAt m listingRoster listingEvents) 1 i) before ≡ instrumentIn (rosterFrom listingRoster) (plainKept listingRoster listingEvents .book) 1 i
-  unfolding opened instrumentReport positionIn potential ofInstrument derivatives
+  unfolding opened instrumentReport positionIn potential ofInstrument
   instrument-line i on before =
       let read = demand-3 m listingRoster bytes opens (writtenAll listingEvents) .3 1 i refl on in
       demand-2 .instrument-reported (memoryAt m listingRoster listingEvents) 1 i before (read .0) ∙ read .1 ∙ ap (λ k. instrumentIn (rosterFrom listingRoster) (k .book) 1 i) (kept-at m listingRoster bytes opens listingEvents)
 
   group-line : (before : List ℤ) → reported (groupAnswer (memoryAt m listingRoster listingEvents) 1 1) (groupReport (memoryAt m listingRoster listingEvents) 1 1) before ≡ groupIn (rosterFrom listingRoster) (plainKept listingRoster listingEvents .book) 1 1
-  unfolding opened groupReport positionIn potential ofInstrument derivatives
+  unfolding opened groupReport positionIn potential ofInstrument
   group-line before =
       let read = demand-3 m listingRoster bytes opens (writtenAll listingEvents) .4 1 1 refl refl in
       demand-2 .group-reported (memoryAt m listingRoster listingEvents) 1 1 before (read .0) ∙ read .1 ∙ ap (λ k. groupIn (rosterFrom listingRoster) (k .book) 1 1) (kept-at m listingRoster bytes opens listingEvents)
@@ -92,15 +67,18 @@ module _ (m : List ℕ) (bytes : Bytes m) (opens : openingAnswer m listingRoster
       (so .2 ∙ rw answered-so, rw (so .0) (so .1))
 
   all-of-it : ListingDay m
-  unfolding opened potentialIn instrumentIn groupIn
+  unfolding opened
   all-of-it =
       record {
         opens = opens;
         answers = answered-so;
         run = in-one-run;
-        buy-of-instrument = listing-buy .0;
-        buy-of-group = listing-buy .1;
-        put-sold = listing-sell;
+        buy-of-instrument = accepted bytes opens (refl, refl, refl) refl (refl, refl) refl refl;
+        buy-of-group = accepted bytes opens (refl, refl, refl) refl (refl, weighs-more, refl) refl refl;
+        -- all 62 of order 7 and the 1 of N put the group at 605,000
+        put-sold =
+            refused bytes opens (refl, refl, refl) refl (inr (inr (inl refl))) (group 1) long (refl, weighs-less, refl)
+            (fill {o = order 7 1 Buy 62} 62 (omega arith) (fill {o = order 8 2 Sell 1} 1 (omega arith) none)) (record { lt = tt });
         first = instrument-line 1 refl;
         second = instrument-line 2 refl;
         ofGroup = group-line;

@@ -1,26 +1,23 @@
--- What the days compute with.
-use Prim.Native.Nat.{ℕ}
+-- By demand 2 a roster that passes questions 2 to 4 opens a memory that is long enough; and what the days compute with.
+use Prim.Native.Nat.{ℕ, _≤_}
 use mathlib.Core.Path.{_≡_}
-use mathlib.Core.Logic.{_≢_}
-use native.Mathlib.Omega.{arith}
-use lib.IntN.{pos, negsuc}
-use Rattle.integers.specs.TwosComplement.{signedOf, bitsOf}
-use Rattle.words.specs.Bytes.{number}
-use Rattle.words.specs.Fields.{u8At, u16At, i32At}
-use Rattle.book.specs.EventBytes.{bytesOf}
-use Rattle.book.proofs.Computed.{computes}
-use Rattle.layout.specs.Rosters.{listed}
-use Rattle.opening.specs.Questions.{rosterFrom}
+use mathlib.Core.Bool.{true}
+use mathlib.Core.List.{List}
+use lib.ListN.{length}
+use borrow.Author.Tests.{le-leb}
+use Rattle.limits.specs.Questions.{allPass}
+use Rattle.layout.specs.Rosters.{longEnough}
+use Rattle.opening.specs.Questions.{openingQuestions, openingAnswer}
 use Rattle.desk.specs.Listing.{listingRoster}
+use Rattle.desk.proofs.Rosters.{rosterQuestions, reads}
 use Rattle.claim.specs.Days.{longerRoster}
+use Rattle.claim.proofs.Demands.{demand-2}
+
+pub opens-long : (m s : List ℕ) → 65536 ≤ length m → allPass (rosterQuestions s) ≡ true → openingAnswer m s ≡ 0
+unfolding openingQuestions allPass longEnough
+opens-long m s enough rest = demand-2 .roster-accepted m s .1 (rw (le-leb 65536 (length m) enough) rest)
 
 -- all that the two rosters compute with, beside what the events do
 unfoldable pub opened : Unit {0}
-unfolding computes rosterFrom listed i32At bitsOf bytesOf number u8At u16At signedOf listingRoster longerRoster
+unfolding reads listingRoster longerRoster
 opened = tt
-
-pub not-zero : pos 10000 ≢ pos 0
-not-zero e = let z : _≡_ {A = ℕ} 10000 0 = cc in omega arith
-
-pub put-not-zero : negsuc 4999 ≢ pos 0
-put-not-zero e = let z : _≡_ {A = ℕ} 0 1 = cc in omega arith

@@ -16,7 +16,7 @@ use Rattle.book.specs.Books.{work}
 use Rattle.book.specs.Table.{answer}
 use Rattle.book.specs.Kept.{RawEvent, said, Kept, begun, keep, memoryAfter, keptAfter}
 use Rattle.book.specs.SetAgain.{nameOf, lineOver}
-use Rattle.book.proofs.Days.{answersTo, endOf}
+use Rattle.book.specs.Days.{answersTo, endOf}
 use Rattle.book.proofs.Plain.{plain}
 use Rattle.book.proofs.KeptLaws.{memory-joined, kept-joined}
 use Rattle.book.proofs.SetAgainLaws.{set-by-that-limit}

@@ -24,6 +24,7 @@ use Rattle.opening.specs.Opening.{afterOpening}
 use Rattle.reading.specs.Reading.{readingQuestions, instrumentAnswer, groupAnswer}
 use Rattle.desk.specs.Step.{eventQuestions, answerTo, after}
 use Rattle.desk.specs.Demands.{gate}
+use Rattle.claim.specs.Claim.{FirstNo}
 use Rattle.claim.specs.Uses.{NumbersAndBytes, Determined, Refusals, Acceptances, Examples, StaysSound}
 use Rattle.claim.proofs.Demands.{demand-1, demand-2, demand-3, run}
 
@@ -68,19 +69,23 @@ numbers-and-bytes =
 -- a table's answer, as demand 2 says it
 abbrev AnsweredBy : List Question → ℕ → Type 0
 AnsweredBy qs answer =
-    ((n : ℕ) → n ≢ 0 → (answer ≡ n) ↔ ((before : List Question) × (behind : List Question) × (qs ≡ before ++ (q n false ∷ behind)) × (allPass before ≡ true)))
+    ((n : ℕ) → n ≢ 0 → (answer ≡ n) ↔ FirstNo qs n)
     × ((answer ≡ 0) ↔ (allPass qs ≡ true))
 
 -- all pass, or a first one fails
-split : (qs : List Question) → (allPass qs ≡ true) ⊎ ((n : ℕ) × (before : List Question) × (behind : List Question) × (qs ≡ before ++ (q n false ∷ behind)) × (allPass before ≡ true) × (firstNo qs ≡ n))
+abbrev Failed : List Question → Type 0
+Failed qs = (n : ℕ) × FirstNo qs n × (firstNo qs ≡ n)
+
+split : (qs : List Question) → (allPass qs ≡ true) ⊎ Failed qs
 unfolding allPass firstNo
 split [] = inl refl
 split (x ∷ qs) = by (x .passes) refl (split qs)
   where
-    by : (t : Bool) → x .passes ≡ t → (allPass qs ≡ true) ⊎ ((n : ℕ) × (before : List Question) × (behind : List Question) × (qs ≡ before ++ (q n false ∷ behind)) × (allPass before ≡ true) × (firstNo qs ≡ n)) → (allPass (x ∷ qs) ≡ true) ⊎ ((n : ℕ) × (before : List Question) × (behind : List Question) × (x ∷ qs ≡ before ++ (q n false ∷ behind)) × (allPass before ≡ true) × (firstNo (x ∷ qs) ≡ n))
+    by : (t : Bool) → x .passes ≡ t → (allPass qs ≡ true) ⊎ Failed qs → (allPass (x ∷ qs) ≡ true) ⊎ Failed (x ∷ qs)
     by true p (inl h) = inl (rw p h)
-    by true p (inr h) = inr (h .0, x ∷ h .1, h .2, ap (λ (l : List Question). x ∷ l) (h .3), rw p (h .4), rw p (h .5))
-    by false p rest = inr (x .number, [], qs, ap (λ t. q (x .number) t ∷ qs) p, refl, rw p refl)
+    by true p (inr (n, failed, answered)) =
+        inr (n, (x ∷ failed .0, failed .1, ap (λ (l : List Question). x ∷ l) (failed .2), rw p (failed .3)), rw p answered)
+    by false p rest = inr (x .number, ([], qs, ap (λ t. q (x .number) t ∷ qs) p, refl), rw p refl)
 
 -- the numbers of a table, none of them 0
 abbrev Numbers : List Question → Type 0
@@ -101,11 +106,12 @@ module _ (qs : List Question) (answer : ℕ) (by : AnsweredBy qs answer) where
       passed : allPass qs ≡ true → answer ≡ firstNo qs
       passed h = by .1 .1 h ∙ sym (pass-zero qs h)
 
-      failed : (n : ℕ) × (before : List Question) × (behind : List Question) × (qs ≡ before ++ (q n false ∷ behind)) × (allPass before ≡ true) × (firstNo qs ≡ n) → answer ≡ firstNo qs
-      failed h =
-          let there : List·Memᴰ (h .0) (map (λ x. x .number) qs) = number-there (q (h .0) false) qs (rw (h .3) (asked-there (h .1) (q (h .0) false) (h .2))) in
-          let other = eqb-false (h .0) 0 (not-true (eqb (h .0) 0) (listed-passes (λ n. not (eqb n 0)) (h .0) (map (λ x. x .number) qs) there numbers)) in
-          by .0 (h .0) other .1 (h .1, h .2, h .3, h .4) ∙ sym (h .5)
+      failed : Failed qs → answer ≡ firstNo qs
+      failed (n, first, answered) =
+          let asked : List·Memᴰ (q n false) qs = rw (first .2) (asked-there (first .0) (q n false) (first .1)) in
+          let there : List·Memᴰ n (map (λ x. x .number) qs) = number-there (q n false) qs asked in
+          let passes = listed-passes (λ k. not (eqb k 0)) n (map (λ x. x .number) qs) there numbers in
+          by .0 n (eqb-false n 0 (not-true (eqb n 0) passes)) .1 first ∙ sym answered
 
   answered-no : answer ≢ 0 → List·Memᴰ (q answer false) qs
   answered-no other =

@@ -34,7 +34,7 @@ use Rattle.opening.specs.Questions.{rosterFrom, openingQuestions, openingAnswer
 use Rattle.opening.specs.Opening.{afterOpening}
 use Rattle.reading.specs.Reading.{readingQuestions, instrumentAnswer, groupAnswer, instrumentReport, groupReport, reported}
 use Rattle.desk.specs.Step.{eventQuestions, answerTo, after}
-use Rattle.desk.specs.Positions.{instrumentIn, groupIn}
+use Rattle.book.specs.Positions.{instrumentIn, groupIn}
 use Rattle.desk.specs.Days.{answersOver, memoryOver}
 use Rattle.desk.specs.Run.{eventsFor, answered, joined}
 use Rattle.desk.specs.Demands.{gate}
@@ -56,27 +56,21 @@ pub record Demand1 : Type 0 where
 -- ---- 2. "The answer to a roster or an event is the first check that it fails, the EntryPoint LiNe phases among them, as document 01
 -- lists them, or an acceptance if it fails none, and every potential position reported is the one that the open orders and balances give."
 -- A table lists questions in document 01's order, each a number and whether it is answered yes; `q n false` is question n answered no.
+-- Question n is answered no, and each before it yes
+abbrev pub FirstNo : List Question → ℕ → Type 0
+FirstNo table n =
+    (before : List Question)
+    × (behind : List Question)
+    × (table ≡ before ++ (q n false ∷ behind))
+    × (allPass before ≡ true)
+
 pub record Demand2 : Type 0 where
   -- a roster is answered n, not 0, exactly where question n is answered no and each before it yes, and 0 exactly where each is answered yes
-  pub roster-refused :
-      (m s : List ℕ) (n : ℕ)
-      → n ≢ 0
-      → (openingAnswer m s ≡ n)
-      ↔ ((before : List Question)
-      × (behind : List Question)
-      × (openingQuestions m s ≡ before ++ (q n false ∷ behind))
-      × (allPass before ≡ true))
+  pub roster-refused : (m s : List ℕ) (n : ℕ) → n ≢ 0 → (openingAnswer m s ≡ n) ↔ FirstNo (openingQuestions m s) n
   pub roster-accepted : (m s : List ℕ) → (openingAnswer m s ≡ 0) ↔ (allPass (openingQuestions m s) ≡ true)
   pub roster-numbers : (m s : List ℕ) → map (λ x. x .number) (openingQuestions m s) ≡ 1 ∷ 2 ∷ 3 ∷ 4 ∷ []
   -- an event likewise; 21 to 24 are asked of an order that is entered, or raised
-  pub event-refused :
-      (m e : List ℕ) (n : ℕ)
-      → n ≢ 0
-      → (answerTo m e ≡ n)
-      ↔ ((before : List Question)
-      × (behind : List Question)
-      × (eventQuestions m e ≡ before ++ (q n false ∷ behind))
-      × (allPass before ≡ true))
+  pub event-refused : (m e : List ℕ) (n : ℕ) → n ≢ 0 → (answerTo m e ≡ n) ↔ FirstNo (eventQuestions m e) n
   pub event-accepted : (m e : List ℕ) → (answerTo m e ≡ 0) ↔ (allPass (eventQuestions m e) ≡ true)
   pub event-numbers :
       (m e : List ℕ)
@@ -85,24 +79,12 @@ pub record Demand2 : Type 0 where
       ∷ cond (isSet (entered (bookOf m) (decode e))) (21 ∷ 22 ∷ 23 ∷ 24 ∷ []) []
   -- a reading of an instrument's or a group's position likewise
   pub instrument-refused :
-      (m : List ℕ) (a i n : ℕ)
-      → n ≢ 0
-      → (instrumentAnswer m a i ≡ n)
-      ↔ ((before : List Question)
-      × (behind : List Question)
-      × (readingQuestions m (rosterOf m .instruments) a i ≡ before ++ (q n false ∷ behind))
-      × (allPass before ≡ true))
+      (m : List ℕ) (a i n : ℕ) → n ≢ 0 → (instrumentAnswer m a i ≡ n) ↔ FirstNo (readingQuestions m (rosterOf m .instruments) a i) n
   pub instrument-accepted :
       (m : List ℕ) (a i : ℕ)
       → (instrumentAnswer m a i ≡ 0) ↔ (allPass (readingQuestions m (rosterOf m .instruments) a i) ≡ true)
   pub group-refused :
-      (m : List ℕ) (a g n : ℕ)
-      → n ≢ 0
-      → (groupAnswer m a g ≡ n)
-      ↔ ((before : List Question)
-      × (behind : List Question)
-      × (readingQuestions m (rosterOf m .groups) a g ≡ before ++ (q n false ∷ behind))
-      × (allPass before ≡ true))
+      (m : List ℕ) (a g n : ℕ) → n ≢ 0 → (groupAnswer m a g ≡ n) ↔ FirstNo (readingQuestions m (rosterOf m .groups) a g) n
   pub group-accepted :
       (m : List ℕ) (a g : ℕ)
       → (groupAnswer m a g ≡ 0) ↔ (allPass (readingQuestions m (rosterOf m .groups) a g) ≡ true)

@@ -4,15 +4,15 @@ use mathlib.Core.Path.{_≡_}
 use mathlib.Core.List.{List, [], _∷_, _++_, map}
 use lib.IntN.{ℤ, pos, negsuc}
 use lib.ListN.{length, take, drop, replicate}
-use Rattle.integers.specs.TwosComplement.{bitsOf}
 use Rattle.words.specs.Bytes.{Bytes}
 use Rattle.ledger.specs.declared.order.Order.{Order}
 use Rattle.ledger.specs.declared.order.Side.{Side}
 use Rattle.ledger.specs.declared.order.Side.the-variants.{Buy, Sell}
 use Rattle.ledger.specs.Positions.{instrument, group, long, short}
-use Rattle.book.specs.EventBytes.{bytesOf, newBytes, buy, sell}
+use Rattle.book.specs.EventBytes.{newBytes, buy, sell}
+use Rattle.book.specs.Rosters.{rosterBytes}
 use Rattle.book.specs.Listing.{listingEvents}
-use Rattle.book.specs.LongerDay.{morning, tooLong, tooShort, putSold, putBought, raisedTooFar, putSoldToTheLimit, putBoughtToTheLimit, raisedToTheLimit, afternoon, evening, noon, late, ownLineSet, elsewhere, secondAccount}
+use Rattle.book.specs.LongerDay.{longerTables, morning, tooLong, tooShort, putSold, putBought, raisedTooFar, putSoldToTheLimit, putBoughtToTheLimit, raisedToTheLimit, afternoon, evening, noon, late, ownLineSet, elsewhere, secondAccount}
 use Rattle.book.specs.Written.{writtenAll}
 use Rattle.opening.specs.Questions.{openingAnswer}
 use Rattle.opening.specs.Opening.{afterOpening}
@@ -20,7 +20,8 @@ use Rattle.reading.specs.Reading.{instrumentAnswer, groupAnswer, instrumentRepo
 use Rattle.desk.specs.Days.{answersOver, memoryOver}
 use Rattle.desk.specs.Run.{eventsFor, answered, joined}
 use Rattle.desk.specs.Listing.{listingRoster}
-use Rattle.desk.specs.Edges.{AllHold, edgeRoster, starredEdges}
+use Rattle.book.specs.Edges.{starredEdges}
+use Rattle.desk.specs.Edges.{AllHold, edgeRoster}
 use Rattle.claim.specs.Examples.{memoryAt, OrderRefused, OrderAccepted, LimitSetAgain}
 
 abbrev pub orderOf : (account id item : ℕ) → Side → (total filled : ℕ) → Order
@@ -67,13 +68,8 @@ pub record ListingDay (m : List ℕ) : Type 0 where
       reported (groupAnswer end 1 1) (groupReport end 1 1) before ≡ pos 100000 ∷ negsuc 79999 ∷ [])
 
 -- ---- the longer day (crates/book/specs/LongerDay.antt)
--- two accounts, groups and contracts; contract 1, of group 1, has instruments 1 and 2, a put, and contract 2, of group 2, has instrument 3
 unfoldable pub longerRoster : List ℕ
-longerRoster =
-    bytesOf 2 2
-    ++ (bytesOf 2 2
-    ++ (bytesOf 2 2
-    ++ (bytesOf 2 3 ++ (1 ∷ 2 ∷ 1 ∷ 1 ∷ 2 ∷ (bytesOf 4 10000 ++ (bytesOf 4 (bitsOf 32 (negsuc 4999)) ++ bytesOf 4 10000))))))
+longerRoster = rosterBytes longerTables
 
 pub record LongerDay (m : List ℕ) : Type 0 where
   pub opens : openingAnswer m longerRoster ≡ 0
@@ -124,7 +120,7 @@ InEveryMemory Holds = (m : List ℕ) → Bytes m → 65536 ≤ length m → Hold
 unfoldable pub zeros : List ℕ
 zeros = replicate 65536 0
 
--- both days, and document 01's starred edges (crates/desk/specs/Edges.antt), nine of them, with these answers
+-- both days, and document 01's starred edges (crates/book/specs/Edges.antt), nine of them, with these answers
 abbrev pub Drawn : Type 0
 Drawn =
     ListingDay zeros

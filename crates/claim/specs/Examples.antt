@@ -2,7 +2,7 @@
 use Prim.Native.Nat.{ℕ}
 use mathlib.Core.Path.{_≡_}
 use mathlib.Core.Logic.{_⊎_}
-use mathlib.Core.Bool.{true, false}
+use mathlib.Core.Bool.{true}
 use mathlib.Core.List.{List, [], _∷_, _++_}
 use mathlib.Core.Option.{some}
 use lib.IntN.{ℤ}
@@ -14,12 +14,12 @@ use Rattle.ledger.specs.Fillings.{Filling, after as filledAfter}
 use Rattle.ledger.specs.Moves.{Moves}
 use Rattle.ledger.specs.Roster.{Roster}
 use Rattle.limits.specs.Lines.{limit}
-use Rattle.limits.specs.Questions.{Question, allPass}
+use Rattle.limits.specs.Questions.{allPass}
 use Rattle.book.specs.declared.LimitLine.{LimitLine}
 use Rattle.book.specs.declared.Event.the-variants.{Limit}
 use Rattle.book.specs.Market.{derivatives}
 use Rattle.book.specs.Books.{Book, work}
-use Rattle.book.specs.Table.{q, entered, questionsBefore}
+use Rattle.book.specs.Table.{entered, questionsBefore}
 use Rattle.book.specs.Kept.{RawEvent, said, Kept, begun, memoryAfter, keptAfter}
 use Rattle.book.specs.SetAgain.{nameOf, lineOver}
 use Rattle.book.specs.Written.{asBytes, written, writtenAll}
@@ -27,6 +27,7 @@ use Rattle.opening.specs.Questions.{rosterFrom}
 use Rattle.opening.specs.Opening.{afterOpening}
 use Rattle.desk.specs.Step.{eventQuestions, answerTo, after}
 use Rattle.desk.specs.Demands.{gate}
+use Rattle.claim.specs.Claim.{FirstNo}
 
 -- the memory m, opened with roster s, and what is kept of the events, after the events
 abbrev pub memoryAt : (m s : List ℕ) → List (List ℕ) → List ℕ
@@ -63,11 +64,7 @@ pub record OrderRefused (m s : List ℕ) (events : List (List ℕ)) (n : List �
       ⊎ ((answerTo (memoryAt m s events) n ≡ 22)
       ⊎ ((answerTo (memoryAt m s events) n ≡ 23) ⊎ (answerTo (memoryAt m s events) n ≡ 24)))
   -- demand 2: every question before it is answered yes
-  pub first-failed :
-      (before : List Question)
-      × (behind : List Question)
-      × (eventQuestions (memoryAt m s events) n ≡ before ++ (q number false ∷ behind))
-      × (allPass before ≡ true)
+  pub first-failed : FirstNo (eventQuestions (memoryAt m s events) n) number
   -- demand 1
   pub unchanged : after (memoryAt m s events) n ≡ memoryAt m s events
 

@@ -1,41 +1,35 @@
 -- What is computed of a plain book holds of a memory that shows it.
 use Prim.Native.Nat.{ℕ, zero, suc}
 use mathlib.Core.Path.{_≡_, refl}
-use mathlib.Core.Bool.{Bool, true, _&&_}
-use mathlib.Core.List.{List, [], _∷_}
+use mathlib.Core.Bool.{true}
+use mathlib.Core.List.{List, [], _∷_, _++_}
 use lib.Dec.{ltb}
 use native.Mathlib.Omega.{arith}
 use borrow.Author.Tests.{ltb-true}
 use Rattle.words.specs.Bytes.{Bytes}
 use Rattle.ledger.specs.Roster.{Roster}
-use Rattle.limits.proofs.Answers.{both-true}
-use Rattle.book.specs.declared.Event.{Event}
+use Rattle.limits.proofs.Answers.{both-true, and-true}
 use Rattle.book.specs.Market.{derivatives}
 use Rattle.book.specs.Decoding.{decode}
 use Rattle.book.specs.Table.{answer}
 use Rattle.book.specs.Kept.{RawEvent, Kept, keep, memoryAfter, keptAfter}
-use Rattle.book.proofs.Days.{answersTo, endOf}
+use Rattle.book.specs.Days.{answersTo, endOf, decoded, areBytes, allBytes}
 use Rattle.desk.specs.Step.{answerTo, after}
 use Rattle.desk.specs.Days.{answersOver, memoryOver}
 use Rattle.desk.proofs.Gate.{Shown, shown-after, answers-table}
 
 -- ---- bytes, computed
-abbrev pub areBytes : List ℕ → Bool
-areBytes [] = true
-areBytes (b ∷ bs) = ltb b 256 && areBytes bs
-
 pub bytes-are : (l : List ℕ) → areBytes l ≡ true → Bytes l
 bytes-are [] e i = omega arith
 bytes-are (b ∷ bs) e zero = ltb-true b 256 (both-true (ltb b 256) (areBytes bs) e .0)
 bytes-are (b ∷ bs) e (suc i) = bytes-are bs (both-true (ltb b 256) (areBytes bs) e .1) i
 
-abbrev pub allBytes : List (List ℕ) → Bool
-allBytes [] = true
-allBytes (e ∷ es) = areBytes e && allBytes es
-
-abbrev pub decoded : List (List ℕ) → List Event
-decoded [] = []
-decoded (e ∷ es) = decode e ∷ decoded es
+pub bytes-apart : (es : List (List ℕ)) (e : List ℕ) → allBytes (es ++ (e ∷ [])) ≡ true → (allBytes es ≡ true) × (areBytes e ≡ true)
+bytes-apart [] e h = (refl, both-true (areBytes e) true h .0)
+bytes-apart (x ∷ xs) e h =
+    let b = both-true (areBytes x) (allBytes (xs ++ (e ∷ []))) h in
+    let rest = bytes-apart xs e (b .1) in
+    (and-true (areBytes x) (allBytes xs) (b .0) (rest .0), rest .1)
 
 -- ---- the answers along a list, and the memory at its end
 module _ (r : Roster) where

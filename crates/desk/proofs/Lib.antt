@@ -6,6 +6,7 @@ pub mod Stepped
 pub mod Readings
 pub mod Demands
 pub mod Carried
+pub mod Rosters
 pub mod Edges
 pub mod Listing
 mod Cutting

@@ -15,7 +15,7 @@ use Rattle.opening.proofs.Opened.{bytes-after}
 use Rattle.reading.specs.Reading.{readingQuestions, instrumentAnswer, groupAnswer, instrumentReport, groupReport, positionIn}
 use Rattle.reading.proofs.Reports.{answered}
 use Rattle.soundness.proofs.SoundDesk.{sound-in}
-use Rattle.desk.specs.Positions.{potentialIn, instrumentIn, groupIn}
+use Rattle.book.specs.Positions.{potentialIn, instrumentIn, groupIn}
 use Rattle.desk.proofs.Opened.{held-opened, roster-after, view-after}
 use Rattle.desk.proofs.Gate.{Shown}
 

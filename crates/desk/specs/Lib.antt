@@ -1,5 +1,4 @@
 pub mod Step
-pub mod Positions
 pub mod Demands
 pub mod Days
 pub mod Edges

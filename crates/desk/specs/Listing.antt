@@ -1,24 +1,19 @@
 -- Document 01's listing: its roster in bytes, and what holds of it.
 use Prim.Native.Nat.{ℕ, _≤_}
 use mathlib.Core.Path.{_≡_}
-use mathlib.Core.List.{List, [], _∷_, _++_}
+use mathlib.Core.List.{List, [], _∷_}
 use lib.ListN.{length}
 use lib.IntN.{pos, negsuc}
-use Rattle.integers.specs.TwosComplement.{bitsOf}
 use Rattle.words.specs.Bytes.{Bytes}
 use Rattle.opening.specs.Questions.{openingAnswer}
 use Rattle.opening.specs.Opening.{afterOpening}
 use Rattle.reading.specs.Reading.{instrumentReport, groupReport}
-use Rattle.book.specs.EventBytes.{bytesOf}
-use Rattle.book.specs.Listing.{listingEvents}
+use Rattle.book.specs.Rosters.{rosterBytes}
+use Rattle.book.specs.Listing.{listingTables, listingEvents}
 use Rattle.desk.specs.Days.{answersOver, memoryOver}
 
--- one account, group and contract, two instruments of weight 10000 and −5000
 unfoldable pub listingRoster : List ℕ
-listingRoster =
-    bytesOf 2 1
-    ++ (bytesOf 2 1
-    ++ (bytesOf 2 1 ++ (bytesOf 2 2 ++ (1 ∷ 1 ∷ 1 ∷ (bytesOf 4 10000 ++ bytesOf 4 (bitsOf 32 (negsuc 4999)))))))
+listingRoster = rosterBytes listingTables
 
 -- the output: R and E lines, then I and G lines
 pub record ListingHolds (m : List ℕ) : Type 0 where

@@ -1,137 +1,26 @@
--- Each arm returns the number that the definition gives to its answer: 0 and 5 to 24.
-use mathlib.Core.Path.{sym, ap}
+-- Each arm returns the number of the case that it matched, and the argument is that case: their numbers are the same.
+use mathlib.Core.Path.{_≡_, sym, ap}
 use borrow.Author.Needs.{needs}
+use Rattle.book.specs.declared.Answer.{Answer}
 use Rattle.book.specs.Answers.{numberOf}
 use Rattle.desk.proofs.numbers.number_of.Statement.{statement}
 use Rattle.desk.proofs.numbers.number_of.Tie as tie
 
-returns : tie.Need-returns
-unfolding numberOf
-returns c = sym (ap numberOf (c .enum-told .given .1))
-
-returns-2 : tie.Need-returns-2
-unfolding numberOf
-returns-2 c = sym (ap numberOf (c .enum-told2 .given .1))
-
-returns-3 : tie.Need-returns-3
-unfolding numberOf
-returns-3 c = sym (ap numberOf (c .enum-told3 .given .1))
-
-returns-4 : tie.Need-returns-4
-unfolding numberOf
-returns-4 c = sym (ap numberOf (c .enum-told4 .given .1))
-
-returns-5 : tie.Need-returns-5
-unfolding numberOf
-returns-5 c = sym (ap numberOf (c .enum-told5 .given .1))
-
-returns-6 : tie.Need-returns-6
-unfolding numberOf
-returns-6 c = sym (ap numberOf (c .enum-told6 .given .1))
-
-returns-7 : tie.Need-returns-7
-unfolding numberOf
-returns-7 c = sym (ap numberOf (c .enum-told7 .given .1))
-
-returns-8 : tie.Need-returns-8
-unfolding numberOf
-returns-8 c = sym (ap numberOf (c .enum-told8 .given .1))
-
-returns-9 : tie.Need-returns-9
-unfolding numberOf
-returns-9 c = sym (ap numberOf (c .enum-told9 .given .1))
-
-returns-10 : tie.Need-returns-10
-unfolding numberOf
-returns-10 c = sym (ap numberOf (c .enum-told10 .given .1))
-
-returns-11 : tie.Need-returns-11
-unfolding numberOf
-returns-11 c = sym (ap numberOf (c .enum-told11 .given .1))
-
-returns-12 : tie.Need-returns-12
-unfolding numberOf
-returns-12 c = sym (ap numberOf (c .enum-told12 .given .1))
-
-returns-13 : tie.Need-returns-13
-unfolding numberOf
-returns-13 c = sym (ap numberOf (c .enum-told13 .given .1))
-
-returns-14 : tie.Need-returns-14
-unfolding numberOf
-returns-14 c = sym (ap numberOf (c .enum-told14 .given .1))
-
-returns-15 : tie.Need-returns-15
-unfolding numberOf
-returns-15 c = sym (ap numberOf (c .enum-told15 .given .1))
-
-returns-16 : tie.Need-returns-16
-unfolding numberOf
-returns-16 c = sym (ap numberOf (c .enum-told16 .given .1))
-
-returns-17 : tie.Need-returns-17
-unfolding numberOf
-returns-17 c = sym (ap numberOf (c .enum-told17 .given .1))
-
-returns-18 : tie.Need-returns-18
-unfolding numberOf
-returns-18 c = sym (ap numberOf (c .enum-told18 .given .1))
-
-returns-19 : tie.Need-returns-19
-unfolding numberOf
-returns-19 c = sym (ap numberOf (c .enum-told19 .given .1))
-
-returns-20 : tie.Need-returns-20
-unfolding numberOf
-returns-20 c = sym (ap numberOf (c .enum-told20 .given .1))
-
-returns-21 : tie.Need-returns-21
-unfolding numberOf
-returns-21 c = sym (ap numberOf (c .enum-told21 .given .1))
+same : {a b : Answer} → a ≡ b → numberOf b ≡ numberOf a
+same e = sym (ap numberOf e)
 
 pub number-of-spec : {M : Type 1} → statement M
+unfolding numberOf
 number-of-spec =
     tie.close
-    (tie.spec
-    (λ c. search needs)
-    (λ c. search needs)
-    (λ c. search needs)
-    (λ c. search needs)
-    (λ c. search needs)
-    (λ c. search needs)
-    (λ c. search needs)
-    (λ c. search needs)
-    (λ c. search needs)
-    (λ c. search needs)
-    (λ c. search needs)
-    (λ c. search needs)
-    (λ c. search needs)
-    (λ c. search needs)
-    (λ c. search needs)
-    (λ c. search needs)
-    (λ c. search needs)
-    (λ c. search needs)
-    (λ c. search needs)
-    (λ c. search needs)
-    (λ c. search needs)
-    returns
-    returns-2
-    returns-3
-    returns-4
-    returns-5
-    returns-6
-    returns-7
-    returns-8
-    returns-9
-    returns-10
-    returns-11
-    returns-12
-    returns-13
-    returns-14
-    returns-15
-    returns-16
-    returns-17
-    returns-18
-    returns-19
-    returns-20
-    returns-21)
+    (tie.spec (λ c. search needs) (λ c. search needs) (λ c. search needs) (λ c. search needs) (λ c. search needs) (λ c. search needs)
+    (λ c. search needs) (λ c. search needs) (λ c. search needs) (λ c. search needs) (λ c. search needs) (λ c. search needs)
+    (λ c. search needs) (λ c. search needs) (λ c. search needs) (λ c. search needs) (λ c. search needs) (λ c. search needs)
+    (λ c. search needs) (λ c. search needs) (λ c. search needs)
+    (λ c. same (c .enum-told .given .1)) (λ c. same (c .enum-told2 .given .1)) (λ c. same (c .enum-told3 .given .1))
+    (λ c. same (c .enum-told4 .given .1)) (λ c. same (c .enum-told5 .given .1)) (λ c. same (c .enum-told6 .given .1))
+    (λ c. same (c .enum-told7 .given .1)) (λ c. same (c .enum-told8 .given .1)) (λ c. same (c .enum-told9 .given .1))
+    (λ c. same (c .enum-told10 .given .1)) (λ c. same (c .enum-told11 .given .1)) (λ c. same (c .enum-told12 .given .1))
+    (λ c. same (c .enum-told13 .given .1)) (λ c. same (c .enum-told14 .given .1)) (λ c. same (c .enum-told15 .given .1))
+    (λ c. same (c .enum-told16 .given .1)) (λ c. same (c .enum-told17 .given .1)) (λ c. same (c .enum-told18 .given .1))
+    (λ c. same (c .enum-told19 .given .1)) (λ c. same (c .enum-told20 .given .1)) (λ c. same (c .enum-told21 .given .1)))
