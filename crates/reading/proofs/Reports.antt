@@ -1,9 +1,9 @@
 -- What a reader answers and reports.
 use Prim.Native.Nat.{ℕ, _≤_}
-use mathlib.Core.Path.{_≡_, sym, _∙_}
-use mathlib.Core.Logic.{_≢_}
+use mathlib.Core.Path.{_≡_, refl, sym, _∙_}
 use mathlib.Core.Bool.{Bool, true, false}
 use mathlib.Core.List.{List, [], _∷_}
+use native.Mathlib.Omega.{arith}
 use lib.IntN.{ℤ}
 use lib.ListN.{length}
 use borrow.Author.Tests.{eq-eqb, ne-eqb}
@@ -16,7 +16,11 @@ use Rattle.ledger.specs.Records.{ordersFrom}
 use Rattle.ledger.specs.Derivatives.{one}
 use Rattle.positions.specs.Answers.{InInstrument, InGroup}
 use Rattle.limits.specs.Questions.{firstNo}
+use Rattle.book.specs.declared.Answer.{Answer}
+use Rattle.book.specs.declared.Answer.the-variants.{Accepted}
+use Rattle.book.specs.Answers.{numberOf}
 use Rattle.book.specs.Decoding.{between}
+use Rattle.book.proofs.Refused.{Refusal, not-zero}
 use Rattle.book.specs.Market.{derivatives}
 use Rattle.book.proofs.Tables.{between-numbered}
 use Rattle.layout.specs.Layout.{rosterWord, countWord, balanceRow}
@@ -25,38 +29,61 @@ use Rattle.soundness.specs.Soundness.{soundDesk}
 use Rattle.soundness.proofs.SoundDesk.{sound-out}
 use Rattle.soundness.proofs.Bounded.{row-balance}
 use Rattle.soundness.proofs.Agreement.{words-potential}
-use Rattle.reading.specs.Reading.{Read, readingQuestions, positionIn, instrumentReport, groupReport, reported}
+use Rattle.reading.specs.declared.Item.{Item}
+use Rattle.reading.specs.Reading.{Read, itemsOf, numberIn, itemAnswer}
+use Rattle.reading.specs.Reading.{readingQuestions, positionIn, instrumentReport, groupReport, reported}
 
 -- ---- the answers
--- `items` and `n` are the roster's number of instruments or groups and the one asked for
-module _ (m : List ℕ) (items a n : ℕ) where
-  pub unsound : soundDesk m ≡ false → 5 ≡ firstNo (readingQuestions m items a n)
-  unfolding firstNo readingQuestions
+module _ (m : List ℕ) (a : ℕ) (item : Item) where
+  abbrev known : Bool
+  known = between 1 (rosterOf m .accounts) a
+
+  abbrev listed : Bool
+  listed = between 1 (itemsOf m item) (numberIn item)
+
+  pub unsound : soundDesk m ≡ false → 5 ≡ itemAnswer m a item
+  unfolding firstNo readingQuestions itemAnswer
   unsound h = rw h
 
-  module _ (sound : soundDesk m ≡ true) where
-    pub no-account : between 1 (rosterOf m .accounts) a ≡ false → 7 ≡ firstNo (readingQuestions m items a n)
-    unfolding firstNo readingQuestions
-    no-account h = rw (sound, h)
+  pub no-account : soundDesk m ≡ true → known ≡ false → 7 ≡ itemAnswer m a item
+  unfolding firstNo readingQuestions itemAnswer
+  no-account sound h = rw (sound, h)
 
-    module _ (known : between 1 (rosterOf m .accounts) a ≡ true) where
-      pub no-item : between 1 items n ≡ false → 8 ≡ firstNo (readingQuestions m items a n)
-      unfolding firstNo readingQuestions
-      no-item h = rw (sound, known, h)
+  pub no-item : soundDesk m ≡ true → known ≡ true → listed ≡ false → 8 ≡ itemAnswer m a item
+  unfolding firstNo readingQuestions itemAnswer
+  no-item sound k h = rw (sound, k, h)
 
-      pub answered : between 1 items n ≡ true → 0 ≡ firstNo (readingQuestions m items a n)
-      unfolding firstNo readingQuestions
-      answered h = rw (sound, known, h)
+  pub answered : soundDesk m ≡ true → known ≡ true → listed ≡ true → 0 ≡ itemAnswer m a item
+  unfolding firstNo readingQuestions itemAnswer
+  answered sound k h = rw (sound, k, h)
+
+  -- 0 is answered where each question is answered yes
+  pub allowed : itemAnswer m a item ≡ 0 → Read m a × Numbered (itemsOf m item) (numberIn item)
+  allowed zero = by (soundDesk m) known listed refl refl refl
+    where
+      by : (x y z : Bool) → soundDesk m ≡ x → known ≡ y → listed ≡ z → Read m a × Numbered (itemsOf m item) (numberIn item)
+      by true true true s k l =
+          (record { held = sound-out m s; account = between-numbered (rosterOf m .accounts) a k }, between-numbered (itemsOf m item) (numberIn item) l)
+      by true true false s k l = absurd (omega (arith, zero, no-item s k l))
+      by true false z s k l = absurd (omega (arith, zero, no-account s k))
+      by false y z s k l = absurd (omega (arith, zero, unsound s))
 
 -- ---- the report
-module _ (report before : List ℤ) {k answer : ℕ} (e : k ≡ answer) where
-  pub refuses : k ≢ 0 → (k ≡ answer) × (before ≡ reported answer report before)
-  unfolding reported
-  refuses h = (e, rw (ne-eqb answer 0 (λ z. h (e ∙ z))))
+-- with answer r, whose number is `answer`
+module _ {answer : ℕ} (r : Answer) (told : numberOf r ≡ answer) where
+  -- is accepted
+  pub is-zero : r ≡ Accepted → answer ≡ 0
+  unfolding numberOf
+  is-zero h = sym told ∙ rw h
 
-  pub accepts : k ≡ 0 → (now : List ℤ) → now ≡ report → (k ≡ answer) × (now ≡ reported answer report before)
+  pub accepts : r ≡ Accepted → (report before now : List ℤ) → now ≡ report → (0 ≡ answer) × (now ≡ reported answer report before)
   unfolding reported
-  accepts z now r = (e, r ∙ rw (eq-eqb answer 0 (sym e ∙ z)))
+  accepts h report before now e = (sym (is-zero h), e ∙ rw (eq-eqb answer 0 (is-zero h)))
+
+  -- or refused
+  pub refuses : Refusal r → (report before : List ℤ) → (numberOf r ≡ answer) × (before ≡ reported answer report before)
+  unfolding reported
+  refuses h report before = (told, rw (ne-eqb answer 0 (λ z. not-zero r h (told ∙ z))))
 
 -- ---- what the ledger answers over the desk's parts is the report
 module _ (m : List ℕ) (a : ℕ) (read : Read m a) where
@@ -79,6 +106,3 @@ sound-long m s = sound-out m s .long
 -- the test of `between`, asked of what was read
 pub asked : {t : Bool} {most′ : ℕ} (most n : ℕ) → t ≡ between 1 most′ n → most′ ≡ most → t ≡ between 1 most n
 asked most n e h = rw (← h) e
-
-pub reads : (m : List ℕ) (a : ℕ) → soundDesk m ≡ true → between 1 (rosterOf m .accounts) a ≡ true → Read m a
-reads m a s h = record { held = sound-out m s; account = between-numbered (rosterOf m .accounts) a h }
