@@ -21,7 +21,8 @@ use Rattle.order_list.specs.OrderList.{noOrder, orderIn, loadedTo, count
 use Rattle.order_list.proofs.Sums.{counted-none, counted-next}
 
 -- what stands at place p after o is stored at place n
-after-set : (orders : List Order) (n p : ℕ) (o w : Order) → n < length orders → (p ≡ n → o ≡ w) → (p ≢ n → orderIn orders p ≡ w) → orderIn (set orders n o) p ≡ w
+after-set : (orders : List Order) (n p : ℕ) (o w : Order) → n < length orders → (p ≡ n → o ≡ w) → (p ≢ n → orderIn orders p ≡ w)
+    → orderIn (set orders n o) p ≡ w
 after-set orders n p o w h same other = by (eqb p n) refl
   where
     by : (t : Bool) → eqb p n ≡ t → orderIn (set orders n o) p ≡ w
@@ -47,15 +48,18 @@ module _ (orders : List Order) (records : List ℕ) where
   unfolding loadedTo
   loaded-at zero p long h = absurd (omega arith)
   loaded-at (suc n) p long h =
-      after-set (loadedTo orders records n) n p (orderAt records n) (orderAt records p) (omega (arith, loaded-length n)) (λ e. ap (orderAt records) (sym e)) (λ other. loaded-at n p (omega arith) (omega (arith, other)))
+      after-set (loadedTo orders records n) n p (orderAt records n) (orderAt records p) (omega (arith, loaded-length n))
+      (λ e. ap (orderAt records) (sym e)) (λ other. loaded-at n p (omega arith) (omega (arith, other)))
 
   module _ (n : ℕ) (long : n ≤ length orders) (s : Side) (a i : ℕ) where
     -- what the places before p count for, with what is left of the records, makes the whole
-    counted-so-far : (p : ℕ) → p ≤ n → pos (countedTo (loadedTo orders records n) p s a i) +ℤ left records n s a i p ≡ left records n s a i 0
+    counted-so-far : (p : ℕ) → p ≤ n
+        → pos (countedTo (loadedTo orders records n) p s a i) +ℤ left records n s a i p ≡ left records n s a i 0
     counted-so-far zero h = rw (counted-none (loadedTo orders records n) s a i) (+ℤ-idl _)
     counted-so-far (suc p) h =
         let list = loadedTo orders records n in
-        let more = counted-more records n s a i (countedTo list p s a i) p (counted (orderIn list p) s a i) (orderIn list p) (omega arith) (loaded-at n p long (omega arith)) refl (counted-so-far p (omega arith)) in
+        let more = counted-more records n s a i (countedTo list p s a i) p (counted (orderIn list p) s a i) (orderIn list p) (omega arith)
+        (loaded-at n p long (omega arith)) refl (counted-so-far p (omega arith)) in
         rw (← add-one, ← counted-next list s a i p) more
 
     pub loaded-open : pos (countedTo (loadedTo orders records n) n s a i) ≡ openOn one (ordersFrom records 0 n) s a i

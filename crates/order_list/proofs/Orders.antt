@@ -1,4 +1,5 @@
--- What the walks share of an order and of the side, account and instrument that are asked for: their machine values, that these have the MIR types, and that what is owned is had for nothing.
+-- What the walks share of an order and of the side, account and instrument that are asked for: their machine values, that these have the
+-- MIR types, and that what is owned is had for nothing.
 use mathlib.Core.Path.{refl}
 use Prim.Native.Nat.{ℕ, _*_, _<_, _^_}
 use native.Mathlib.Omega.{arith}
@@ -79,7 +80,8 @@ open-ty = O′.mir
 abbrev pub open-val : Open → Val
 open-val r = LL.val O.the-type O′.the-laws r
 
-pub open-is : (r r′ : ℕ) → r < 2 ^ 64 → r′ < 2 ^ 64 → Is OpenR (record { buys = r; sells = r′ }) (open-val (record { buys = r; sells = r′ }) ∷ [])
+pub open-is : (r r′ : ℕ) → r < 2 ^ 64 → r′ < 2 ^ 64
+    → Is OpenR (record { buys = r; sells = r′ }) (open-val (record { buys = r; sells = r′ }) ∷ [])
 open-is r r′ h h′ = LL.owes O.the-type O′.the-laws (record { buys = r; sells = r′ }) ((refl, h), ((refl, h′), tt))
 
 -- the side, the account and the instrument that are asked for
@@ -118,9 +120,11 @@ module _ {M : Type 1} (𝓤 : URA M) (H : Heap 𝓤) (A : Atoms 𝓤) where
   open-lawful W = LL.lawful O.the-type O′.the-laws 𝓤 H A W
 
   -- what a side, an account and an instrument own is had for nothing
-  pub asked-made : Given 𝓤 H A → (s : Side) (a i : ℕ) → Is SideR s (side-val s ∷ []) → a < 2 ^ 64 → i < 2 ^ 64 → ent 𝓤 (emp 𝓤) (sem 𝓤 H A (owns asked-rows (s, (a, (i, tt))) (asked-vals s a i)))
+  pub asked-made : Given 𝓤 H A → (s : Side) (a i : ℕ) → Is SideR s (side-val s ∷ []) → a < 2 ^ 64 → i < 2 ^ 64
+      → ent 𝓤 (emp 𝓤) (sem 𝓤 H A (owns asked-rows (s, (a, (i, tt))) (asked-vals s a i)))
   asked-made W s a i s-is a-fits i-fits =
-      qed W [] ∵ nothing ! $ owned ! u64 (Is u64) (uint-makes 𝓤 H A W w64) i _ (refl, i-fits) $ fjoin ! $ owned ! u64 (Is u64) (uint-makes 𝓤 H A W w64) a _ (refl, a-fits) $ fjoin ! $
+      qed W [] ∵ nothing ! $ owned ! u64 (Is u64) (uint-makes 𝓤 H A W w64) i _ (refl, i-fits) $ fjoin ! $
+      owned ! u64 (Is u64) (uint-makes 𝓤 H A W w64) a _ (refl, a-fits) $ fjoin ! $
       owned ! SideR (Is SideR) side-makes s _ s-is $ fjoin ! $ done !
 
 -- where n orders have room, so has the place of one of them

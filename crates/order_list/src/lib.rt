@@ -93,9 +93,7 @@ pub fn listed_position(
 {
     let balance = Contracts(signed_word(balances, instrument as usize));
     let open = open_in(records, n, account, instrument);
-    position_by(
-        balance,
-        Contracts(open.buys as i64),
-        Contracts(open.sells as i64),
-    )
+    let buys = Contracts(open.buys as i64);
+    let sells = Contracts(open.sells as i64);
+    position_by(balance, buys, sells)
 }

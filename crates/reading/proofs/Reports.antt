@@ -62,8 +62,10 @@ module _ (m : List ℕ) (a : ℕ) (item : Item) where
   allowed zero = by (soundDesk m) known listed refl refl refl
     where
       by : (x y z : Bool) → soundDesk m ≡ x → known ≡ y → listed ≡ z → Read m a × Numbered (itemsOf m item) (numberIn item)
-      by true true true s k l =
-          (record { held = sound-out m s; account = between-numbered (rosterOf m .accounts) a k }, between-numbered (itemsOf m item) (numberIn item) l)
+      by true true true s k l = (
+        record { held = sound-out m s; account = between-numbered (rosterOf m .accounts) a k },
+        between-numbered (itemsOf m item) (numberIn item) l,
+      )
       by true true false s k l = absurd (omega (arith, zero, no-item s k l))
       by true false z s k l = absurd (omega (arith, zero, no-account s k))
       by false y z s k l = absurd (omega (arith, zero, unsound s))
@@ -87,17 +89,33 @@ module _ {answer : ℕ} (r : Answer) (told : numberOf r ≡ answer) where
 
 -- ---- what the ledger answers over the desk's parts is the report
 module _ (m : List ℕ) (a : ℕ) (read : Read m a) where
-  pub instrument-told : (i : ℕ) → Numbered (rosterOf m .instruments) i → (p : InstrumentPosition) → InInstrument (recordsOf m) (wordAt m countWord) (partOf m (balanceRow a) 33) a i p → p .balance .0 ∷ p .long .0 ∷ p .short .0 ∷ [] ≡ instrumentReport m a i
+  pub instrument-told : (i : ℕ) → Numbered (rosterOf m .instruments) i → (p : InstrumentPosition)
+      → InInstrument (recordsOf m) (wordAt m countWord) (partOf m (balanceRow a) 33) a i p
+      → p .balance .0 ∷ p .long .0 ∷ p .short .0 ∷ [] ≡ instrumentReport m a i
   unfolding instrumentReport positionIn openOrders derivatives potential
   instrument-told i on p told =
       let os = ordersFrom (recordsOf m) 0 (wordAt m countWord) in
-      rw (told .its-balance, row-balance m (read .held) a (read .account) i on, told .its-long, told .its-short, ← words-potential m (read .held) a (read .account) one os (instrument i) on long, ← words-potential m (read .held) a (read .account) one os (instrument i) on short)
+      rw (
+        told .its-balance,
+        row-balance m (read .held) a (read .account) i on,
+        told .its-long,
+        told .its-short,
+        ← words-potential m (read .held) a (read .account) one os (instrument i) on long,
+        ← words-potential m (read .held) a (read .account) one os (instrument i) on short,
+      )
 
-  pub group-told : (g : ℕ) (p : GroupPosition) → InGroup (recordsOf m) (wordAt m countWord) (partOf m (balanceRow a) 33) (partOf m rosterWord 76) a g p → p .long .0 ∷ p .short .0 ∷ [] ≡ groupReport m a g
+  pub group-told : (g : ℕ) (p : GroupPosition)
+      → InGroup (recordsOf m) (wordAt m countWord) (partOf m (balanceRow a) 33) (partOf m rosterWord 76) a g p
+      → p .long .0 ∷ p .short .0 ∷ [] ≡ groupReport m a g
   unfolding groupReport positionIn openOrders derivatives
   group-told g p told =
       let os = ordersFrom (recordsOf m) 0 (wordAt m countWord) in
-      rw (told .its-long, told .its-short, words-potential m (read .held) a (read .account) one os (group g) tt long, words-potential m (read .held) a (read .account) one os (group g) tt short)
+      rw (
+        told .its-long,
+        told .its-short,
+        words-potential m (read .held) a (read .account) one os (group g) tt long,
+        words-potential m (read .held) a (read .account) one os (group g) tt short,
+      )
 
 -- ---- what the questions tell
 pub sound-long : (m : List ℕ) → soundDesk m ≡ true → 65536 ≤ length m

@@ -110,7 +110,11 @@ fn answer_to(m: &[u8], account: u64, item: Item) -> Answer
 // S, PCI and PVI of an account and instrument to `report`.
 pub fn read_instrument(m: &[u8], account: u64, instrument: u64, report: &mut [i64; 3]) -> Answer
     ensures answer { λ r. ⌜ numberOf r ≡ instrumentAnswer (now (m .entry)) account instrument ⌝ }
-    ensures report { λ r. ⌜ now (report .exit) ≡ reported (instrumentAnswer (now (m .entry)) account instrument) (instrumentReport (now (m .entry)) account instrument) (now (report .entry)) ⌝ }
+    ensures report { λ r. ⌜
+        now (report .exit)
+        ≡ reported (instrumentAnswer (now (m .entry)) account instrument)
+        (instrumentReport (now (m .entry)) account instrument) (now (report .entry))
+        ⌝ }
 {
     let answer = answer_to(m, account, Item::Instrument(instrument));
     match answer {
@@ -126,7 +130,11 @@ pub fn read_instrument(m: &[u8], account: u64, instrument: u64, report: &mut [i6
 // PCC and PVC of an account and group, in ten-thousandths, to `report`.
 pub fn read_group(m: &[u8], account: u64, group: u64, report: &mut [i64; 2]) -> Answer
     ensures answer { λ r. ⌜ numberOf r ≡ groupAnswer (now (m .entry)) account group ⌝ }
-    ensures report { λ r. ⌜ now (report .exit) ≡ reported (groupAnswer (now (m .entry)) account group) (groupReport (now (m .entry)) account group) (now (report .entry)) ⌝ }
+    ensures report { λ r. ⌜
+        now (report .exit)
+        ≡ reported (groupAnswer (now (m .entry)) account group)
+        (groupReport (now (m .entry)) account group) (now (report .entry))
+        ⌝ }
 {
     let answer = answer_to(m, account, Item::Group(group));
     match answer {

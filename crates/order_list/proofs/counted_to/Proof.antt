@@ -43,7 +43,8 @@ use denote.Triple.Statement.{Contract, Triple}
 use denote.Triple.Spec.{Meets, tripleOf}
 use denote.Triple.Clauses.{ensured, lasts}
 use denote.Triple.Table.{entered, cited}
-use denote.Triple.Walked.{says, needs, Stays, stay-none-slice, stay-none, walkOf, Walks, ends-at, walked, goes-none-slice, goes-none, walk-meets}
+use denote.Triple.Walked.{says, needs, Stays, stay-none-slice, stay-none, walkOf, Walks, ends-at, walked, goes-none-slice, goes-none}
+use denote.Triple.Walked.{walk-meets}
 use Rattle.ledger.specs.declared.order.Order.{Order}
 use Rattle.ledger.specs.declared.order.Side.{Side}
 use Rattle.ledger.specs.Derivatives as defined
@@ -52,8 +53,10 @@ use Rattle.positions.proofs.counted as counted
 use Rattle.positions.proofs.counted.Symbol as counted-def
 use Rattle.positions.proofs.counted.Symbol.{name as #positions·counted}
 use Rattle.positions.proofs.counted.Met as counted-thm
-use Rattle.order_list.proofs.Orders.{OrderR, order-ty, order-name, order-val, order-tells, order-makes, order-lawful, order-copy, place-fits}
-use Rattle.order_list.proofs.Orders.{SideR, side-ty, side-val, side-tells, side-lawful, Asked, AskedVals, asked-rows, asked-vals, asked-made}
+use Rattle.order_list.proofs.Orders.{OrderR, order-ty, order-name, order-val, order-tells, order-makes, order-lawful, order-copy}
+use Rattle.order_list.proofs.Orders.{place-fits}
+use Rattle.order_list.proofs.Orders.{SideR, side-ty, side-val, side-tells, side-lawful, Asked, AskedVals, asked-rows, asked-vals}
+use Rattle.order_list.proofs.Orders.{asked-made}
 use Rattle.order_list.proofs.CountingUp.{Upto, Nearer, nearer-wf}
 use Rattle.order_list.proofs.Sums.{counted-none, counted-next, counted-below}
 use Rattle.order_list.proofs.counted_to.Key.{name as #order-list·counted-to}
@@ -153,11 +156,14 @@ module _ {M : Type 1} (𝓤 : URA M) (H : Heap 𝓤) (A : Atoms 𝓤) (W : Given
       abbrev State : ℕ → ℕ → List (Item 𝓤)
       State p m =
           ‵ (flft κ q) ∷ ‵ slice ∷ ‵ others ∷ ‵ ftrue
-          ∷ ‵ (froom order-ty l₁₂ 0) ∷ ‵ (fdies order-ty l₁₂) ∷ ‵ (froom tyPtr l₁₁ 0) ∷ ‵ (fdies tyPtr l₁₁) ∷ ‵ (froom u l₁₀ 0) ∷ ‵ (fdies u l₁₀)
-          ∷ ‵ (froom u l₉ 0) ∷ ‵ (fdies u l₉) ∷ ‵ (froom tyBool l₈ 0) ∷ ‵ (fdies tyBool l₈) ∷ ‵ (fat fullShare u l₇ 0 (vint w64 p)) ∷ ‵ (fdies u l₇)
+          ∷ ‵ (froom order-ty l₁₂ 0) ∷ ‵ (fdies order-ty l₁₂) ∷ ‵ (froom tyPtr l₁₁ 0) ∷ ‵ (fdies tyPtr l₁₁) ∷ ‵ (froom u l₁₀ 0) ∷ ‵
+          (fdies u l₁₀)
+          ∷ ‵ (froom u l₉ 0) ∷ ‵ (fdies u l₉) ∷ ‵ (froom tyBool l₈ 0) ∷ ‵ (fdies tyBool l₈) ∷ ‵ (fat fullShare u l₇ 0 (vint w64 p)) ∷ ‵
+          (fdies u l₇)
           ∷ ‵ (fat fullShare u l₆ 0 (vint w64 m)) ∷ ‵ (fdies u l₆) ∷ ‵ (fat fullShare u l₅ 0 (vint w64 i)) ∷ ‵ (fdies u l₅)
           ∷ ‵ (fat fullShare u l₄ 0 (vint w64 a)) ∷ ‵ (fdies u l₄) ∷ ‵ (fat fullShare side-ty l₃ 0 (side-val s)) ∷ ‵ (fdies side-ty l₃)
-          ∷ ‵ (fat fullShare u l₂ 0 (vint w64 n)) ∷ ‵ (fdies u l₂) ∷ ‵ (fat fullShare lent l₁ 0 (sliceVal (b, o) (length ys))) ∷ ‵ (fdies lent l₁)
+          ∷ ‵ (fat fullShare u l₂ 0 (vint w64 n)) ∷ ‵ (fdies u l₂) ∷ ‵ (fat fullShare lent l₁ 0 (sliceVal (b, o) (length ys))) ∷ ‵
+          (fdies lent l₁)
           ∷ ‵ (froom u l₀ 0) ∷ ‵ (fdies u l₀) ∷ []
 
       -- at place p the sum is that of the orders before it
@@ -180,7 +186,8 @@ module _ {M : Type 1} (𝓤 : URA M) (H : Heap 𝓤) (A : Atoms 𝓤) (W : Given
           -- where place p lies
           assigns ! (bin ! (load ! (from ! (stop !)) (look ! 14 refl)) (lit ! tt) (record { fits = at-fits }))
           (from ! (stop !)) (init ! 8 refl (tt, record { fits = at-fits })) $
-          assigns ! (bin ! (load ! (from ! (fld ! refl (stop !))) (look-in ! 26 (sub ! 0 refl (whole !)))) (load ! (from ! (stop !)) (look ! 8 refl)) tt)
+          assigns ! (bin ! (load ! (from ! (fld ! refl (stop !))) (look-in ! 26 (sub ! 0 refl (whole !))))
+          (load ! (from ! (stop !)) (look ! 8 refl)) tt)
           (from ! (stop !)) (init ! 6 refl (tt, tt)) $
           rewrite ! 6 (λ (z : ℕ). ‵ (fat fullShare tyPtr l₁₁ 0 (vptr b z))) (sym (place-is 48 o (p .0))) refl $
           -- a copy of the reference is looked into, and the order at place p is read
@@ -191,20 +198,24 @@ module _ {M : Type 1} (𝓤 : URA M) (H : Heap 𝓤) (A : Atoms 𝓤) (W : Given
           -- [place p; what it owns; the other places; what shuts; the fractured borrow; the slice; the others; true; _12; …; _0; …]
           assigns ! (of-opd ! (load ! (from ! (hop ! (look ! 10 refl) (stop !))) (look-raw ! 0 refl)))
           (from ! (stop !)) (init ! 8 refl (order-lawful 𝓤 H A W .typed here _ is .0)) $
-          elem-back ! OrderR t ys (p .0) noOrder (order-val here ∷ []) b o inside $ shuts-slice ! tt OrderR t ys b o $ move ! (1 ∷ []) $ drop ! $
+          elem-back ! OrderR t ys (p .0) noOrder (order-val here ∷ []) b o inside $ shuts-slice ! tt OrderR t ys b o $ move ! (1 ∷ []) $
+          drop ! $
           -- [the token; the slice; the others; true; _12; …; _0; …]
           use0 W (raw (Counted 𝓤 H A at-mem run .pre (to-counted here))) (goes here is) $
           calls-at ! (fmOf 𝓤 H (W .laws) 𝓣) (Counted 𝓤 H A at-mem run) known (to-counted here)
           (and-then ! (load ! (from ! (stop !)) (look ! 5 refl)) (and-then ! (load ! (from ! (stop !)) (look ! 23 refl))
-          (and-then ! (load ! (from ! (stop !)) (look ! 21 refl)) (and-then ! (load ! (from ! (stop !)) (look ! 19 refl)) (no-more !))))) (λ w.
-          use1 W (later (some (λ (r : ℕ). (‵ ftrue ⊛ ‵ (u64 .own r (w ∷ []))) ⊛ raw (Ensured 𝓤 H A at-mem run here (s, (a, (i, tt))) r)))) (id⊢ 𝓤 _) $
+          (and-then ! (load ! (from ! (stop !)) (look ! 21 refl)) (and-then ! (load ! (from ! (stop !)) (look ! 19 refl)) (no-more !)))))
+          (λ w.
+          use1 W (later (some (λ (r : ℕ). (‵ ftrue ⊛ ‵ (u64 .own r (w ∷ []))) ⊛ raw (Ensured 𝓤 H A at-mem run here (s, (a, (i, tt))) r))))
+          (id⊢ 𝓤 _) $
           await ! tt $ pick ! (λ r. split ! $ move ! (1 ∷ []) $
           use1 W (raw (fact 𝓤 (r ≡ counts))) (counted-of 𝓤 H A at-mem run here s a i r) $ heard ! (r ≡ counts) (λ e. split ! $ drop ! $
           peeks ! u64 (Is u64) (shows 𝓤 H A u64) r (w ∷ []) (λ r-is.
           -- [the result's; the token; the slice; the others; true; _12; …; _0; …]
           land ! (from ! (stop !)) (init ! 11 refl (uint-lawful 𝓤 H A W w64 .typed r _ r-is .0)) $
           rewrite ! 11 (λ (v : Val). ‵ (fat fullShare u l₉ 0 v)) (ap only (r-is .0) ∙ ap (vint w64) e) refl $ drop ! $
-          assigns ! (bin ! (load ! (from ! (stop !)) (look ! 16 refl)) (load ! (from ! (stop !)) (look ! 10 refl)) (record { fits = sum-fits }))
+          assigns ! (bin ! (load ! (from ! (stop !)) (look ! 16 refl)) (load ! (from ! (stop !)) (look ! 10 refl))
+          (record { fits = sum-fits }))
           (from ! (stop !)) (store ! 16 refl (tt, record { fits = sum-fits })) $
           assigns-last ! (bin ! (load ! (from ! (stop !)) (look ! 14 refl)) (lit ! tt) (record { fits = next-fits }))
           (from ! (stop !)) (store ! 14 refl (tt, record { fits = next-fits })) $
@@ -243,7 +254,8 @@ module _ {M : Type 1} (𝓤 : URA M) (H : Heap 𝓤) (A : Atoms 𝓤) (W : Given
           (from ! (stop !)) (init ! 12 refl (tt, tt)) $
           rewrite ! 12 (λ (t : Bool). ‵ (fat fullShare tyBool l₈ 0 (vbool t))) over refl $
           leaves-loop ! (load ! (from ! (stop !)) (look ! 12 refl)) $ exec ! C Λ En steps.t-4 (atRet En Post) $
-          assigns ! (of-opd ! (load ! (from ! (stop !)) (look ! 16 refl))) (from ! (stop !)) (init ! 28 refl (tt, record { fits = sum-fits })) $
+          assigns ! (of-opd ! (load ! (from ! (stop !)) (look ! 16 refl))) (from ! (stop !))
+          (init ! 28 refl (tt, record { fits = sum-fits })) $
           returns ! (look ! 28 refl) $ forget ! 12 refl $ forget ! 14 refl $ forget ! 16 refl $ forget ! 18 refl $ forget ! 20 refl $
           forget ! 22 refl $ forget ! 24 refl $ forget ! 26 refl $ forget ! 28 refl $
           move ! (28 ∷ 29 ∷ []) $ free1 ! $ move ! (26 ∷ 27 ∷ []) $ free1 ! $ move ! (24 ∷ 25 ∷ []) $ free1 ! $

@@ -184,7 +184,8 @@ module _ {M : Type 1} (𝓤 : URA M) (H : Heap 𝓤) (A : Atoms 𝓤) (W : Given
           split ! $ move ! (3 ∷ 0 ∷ []) $ use2 W (raw (Load 𝓤 H A at-mem run .pre (to-load (p .0)))) (goes-load (p .0) l) $
           -- [`load`'s pre; the records; the list's token; the list; the others; true; _8; …; _0; …]
           calls-at ! (fmOf 𝓤 H (W .laws) 𝓣) (Load 𝓤 H A at-mem run) known (to-load (p .0))
-          (and-then ! (load ! (from ! (stop !)) (look ! 18 refl)) (and-then ! (load ! (from ! (stop !)) (look ! 14 refl)) (no-more !))) (λ w.
+          (and-then ! (load ! (from ! (stop !)) (look ! 18 refl)) (and-then ! (load ! (from ! (stop !)) (look ! 14 refl)) (no-more !)))
+          (λ w.
           use1 W (later (some (λ (r : Order). ((‵ (flft κ′ q′) ⊛ ‵ ftrue) ⊛ ‵ (OrderR .own r (w ∷ [])))
           ⊛ raw (Ensured 𝓤 H A at-mem run κ′ y (p .0) r)))) (id⊢ 𝓤 _) $ await ! tt $ pick ! (λ r.
           split ! $ move ! (1 ∷ []) $ use1 W (raw (fact 𝓤 (r ≡ v))) (loaded-of 𝓤 H A at-mem run κ′ y (p .0) r) $
@@ -195,20 +196,25 @@ module _ {M : Type 1} (𝓤 : URA M) (H : Heap 𝓤) (A : Atoms 𝓤) (W : Given
           -- [the records' token; the records; the list's token; the list; the others; true; _8; …; _0; …]: where place p lies
           assigns ! (bin ! (load ! (from ! (stop !)) (look ! 14 refl)) (lit ! tt) (record { fits = at-fits }))
           (from ! (stop !)) (init ! 8 refl (tt, record { fits = at-fits })) $
-          assigns ! (bin ! (load ! (from ! (fld ! refl (stop !))) (look-in ! 20 (sub ! 0 refl (whole !)))) (load ! (from ! (stop !)) (look ! 8 refl)) tt)
+          assigns ! (bin ! (load ! (from ! (fld ! refl (stop !))) (look-in ! 20 (sub ! 0 refl (whole !))))
+          (load ! (from ! (stop !)) (look ! 8 refl)) tt)
           (from ! (stop !)) (init ! 6 refl (tt, tt)) $
           rewrite ! 6 (λ (z : ℕ). ‵ (fat fullShare tyPtr l₈ 0 (vptr b z))) (sym (place-is 48 o (p .0))) refl $
           -- the list is opened, place p is taken out, stored to and put back
           move ! (3 ∷ []) $ fsplit ! $ drop ! $ fsplit ! $ move ! (0 ∷ 1 ∷ 4 ∷ []) $ opens-slice ! tt OrderR zs b o $
           elem-out ! OrderR (Is OrderR) (shows 𝓤 H A OrderR) (λ z. order-val z ∷ []) order-tells fullShare zs (p .0) v b o inside (λ _.
-          -- [place p; what it owns; the other places; the open borrow; obs; auth; the records' token; the records; the others; true; _8; …; _0; …]
+          -- [place p; what it owns; the other places; the open borrow; obs; auth; the records' token; the records; the others; true; _8;
+          -- …; _0; …]
           assigns ! (of-opd ! (load ! (from ! (stop !)) (look ! 14 refl))) (from ! (hop ! (look ! 10 refl) (stop !)))
           (store-raw ! 0 refl (order-lawful 𝓤 H A W .typed v _ is .0)) $
           move ! (1 ∷ []) $ drop ! $ owned ! OrderR (Is OrderR) (order-makes 𝓤 H A) v _ is $ move ! (1 ∷ 0 ∷ []) $
           elem-put ! OrderR fullShare zs (p .0) v (w ∷ []) b o inside $
           closes-slice ! tt OrderR zs (set zs (p .0) v) (length-set zs (p .0) v) b o $
-          fjoin ! $ pureI ! (at-slice OrderR (x (set zs (p .0) v)) (vals .0)) (tt, (tt, tt))
-          (ap (λ (m : ℕ). sliceVal (b, o) m ∷ []) (sym (length-set zs (p .0) v ∙ len)), subst (Room OrderR) (sym (length-set zs (p .0) v ∙ len)) room) $
+          fjoin ! $ pureI ! (at-slice OrderR (x (set zs (p .0) v)) (vals .0)) (tt, (tt, tt)) (
+            ap (λ (m : ℕ). sliceVal (b, o) m ∷ []) (sym (length-set zs (p .0) v ∙ len)),
+            subst (Room OrderR)
+                (sym (length-set zs (p .0) v ∙ len)) room,
+          ) $
           fjoin ! $ rewrite ! 0 (λ (l′ : List Order). ‵ (list l′)) (loaded-next ys ms (p .0)) refl $ move ! (1 ∷ 2 ∷ 0 ∷ []) $
           assigns-last ! (bin ! (load ! (from ! (stop !)) (look ! 14 refl)) (lit ! tt) (record { fits = next-fits }))
           (from ! (stop !)) (store ! 14 refl (tt, record { fits = next-fits })) $
@@ -246,7 +252,8 @@ module _ {M : Type 1} (𝓤 : URA M) (H : Heap 𝓤) (A : Atoms 𝓤) (W : Given
           rewrite ! 12 (λ (t : Bool). ‵ (fat fullShare tyBool l₅ 0 (vbool t))) over refl $
           leaves-loop ! (load ! (from ! (stop !)) (look ! 12 refl)) $ exec ! C Λ En steps.t-3 (atRet En Post) $
           assigns ! (of-opd ! (unit-lit !)) (from ! (stop !)) (init ! 22 refl (tt, tt)) $
-          returns ! (look ! 22 refl) $ forget ! 12 refl $ forget ! 14 refl $ forget ! 16 refl $ forget ! 18 refl $ forget ! 20 refl $ forget ! 22 refl $
+          returns ! (look ! 22 refl) $ forget ! 12 refl $ forget ! 14 refl $ forget ! 16 refl $ forget ! 18 refl $ forget ! 20 refl $
+          forget ! 22 refl $
           move ! (22 ∷ 23 ∷ []) $ free1 ! $ move ! (20 ∷ 21 ∷ []) $ free1 ! $ move ! (18 ∷ 19 ∷ []) $ free1 ! $
           move ! (16 ∷ 17 ∷ []) $ free1 ! $ move ! (14 ∷ 15 ∷ []) $ free1 ! $ move ! (12 ∷ 13 ∷ []) $ free1 ! $
           move ! (10 ∷ 11 ∷ []) $ free1 ! $ move ! (8 ∷ 9 ∷ []) $ free1 ! $ move ! (6 ∷ 7 ∷ []) $ free1 ! $ free0 ! $
@@ -272,7 +279,8 @@ module _ {M : Type 1} (𝓤 : URA M) (H : Heap 𝓤) (A : Atoms 𝓤) (W : Given
         alloc1 ! (λ l₀. alloc1 ! (λ l₁. alloc1 ! (λ l₂. alloc1 ! (λ l₃. alloc1 ! (λ l₄. alloc1 ! (λ l₅. alloc1 ! (λ l₆.
         alloc1 ! (λ l₇. alloc1 ! (λ l₈. alloc0 ! $ params1 ! $
         pass1 ! (init ! 14 refl (tt, (tt, (record { fits = room .0 }, tt)))) $
-        pass1 ! (init ! 12 refl (tt, (tt, (record { fits = bytes-fit }, tt)))) $ pass1 ! (init ! 10 refl (tt, record { fits = n-fits })) $ pass0 ! $
+        pass1 ! (init ! 12 refl (tt, (tt, (record { fits = bytes-fit }, tt)))) $ pass1 ! (init ! 10 refl (tt, record { fits = n-fits })) $
+        pass0 ! $
         assigns ! (of-opd ! (lit ! tt)) (from ! (stop !)) (init ! 8 refl (tt, record { fits = omega arith })) $
         move ! (18 ∷ 19 ∷ []) $ split3 ! $ move ! (3 ∷ []) $ fsplit3 ! $ move ! (3 ∷ 4 ∷ 0 ∷ 1 ∷ 2 ∷ []) $
         rewrite ! 2 (λ (zs : List Order). ‵ (list zs)) (sym (loaded-none ys ms)) refl $

@@ -15,7 +15,8 @@ use Rattle.reading.proofs.answer_to.Tie as tie
 sound : (c : tie.Else1) → soundDesk (c .before .before .before .args .m .now) ≡ true
 sound c = said-yes _ _ (c .before .is-sound .ensures) (c .if1 .left)
 
-known : (c : tie.Else2) → let a = c .before .before .before .before .before .before .args in between 1 (rosterOf (a .m .now) .accounts) (a .account) ≡ true
+known : (c : tie.Else2)
+    → let a = c .before .before .before .before .before .before .args in between 1 (rosterOf (a .m .now) .accounts) (a .account) ≡ true
 known c =
     let a = c .before .before .before .before .before .before .args in
     said-yes _ _ (asked _ (a .account) (c .before .between .ensures) (c .before .before .accounts .ensures)) (c .if2 .left)

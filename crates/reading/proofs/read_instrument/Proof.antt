@@ -1,4 +1,4 @@
--- `answer_to` asks the questions; where it accepts, the account and the instrument are on a sound desk's roster, and the report is `instrument_report`'s.
+-- `answer_to` asks the questions; where it accepts, both numbers are on a sound desk's roster, and the report is `instrument_report`'s.
 use borrow.Author.Needs.{needs}
 use Rattle.book.specs.Answers.{numberOf}
 use Rattle.reading.specs.Reading.{itemAnswer, instrumentAnswer}
