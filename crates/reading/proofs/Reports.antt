@@ -34,41 +34,40 @@ use Rattle.reading.specs.Reading.{Read, itemsOf, numberIn, itemAnswer}
 use Rattle.reading.specs.Reading.{readingQuestions, positionIn, instrumentReport, groupReport, reported}
 
 -- ---- the answers
-module _ (m : List ℕ) (a : ℕ) (item : Item) where
-  abbrev known : Bool
-  known = between 1 (rosterOf m .accounts) a
-
-  abbrev listed : Bool
-  listed = between 1 (itemsOf m item) (numberIn item)
-
-  pub unsound : soundDesk m ≡ false → 5 ≡ itemAnswer m a item
-  unfolding firstNo readingQuestions itemAnswer
+-- `items` and `n` are the roster's number of instruments or groups and the one asked for
+module _ (m : List ℕ) (items a n : ℕ) where
+  pub unsound : soundDesk m ≡ false → 5 ≡ firstNo (readingQuestions m items a n)
+  unfolding firstNo readingQuestions
   unsound h = rw h
 
-  pub no-account : soundDesk m ≡ true → known ≡ false → 7 ≡ itemAnswer m a item
-  unfolding firstNo readingQuestions itemAnswer
-  no-account sound h = rw (sound, h)
+  module _ (sound : soundDesk m ≡ true) where
+    pub no-account : between 1 (rosterOf m .accounts) a ≡ false → 7 ≡ firstNo (readingQuestions m items a n)
+    unfolding firstNo readingQuestions
+    no-account h = rw (sound, h)
 
-  pub no-item : soundDesk m ≡ true → known ≡ true → listed ≡ false → 8 ≡ itemAnswer m a item
-  unfolding firstNo readingQuestions itemAnswer
-  no-item sound k h = rw (sound, k, h)
+    module _ (known : between 1 (rosterOf m .accounts) a ≡ true) where
+      pub no-item : between 1 items n ≡ false → 8 ≡ firstNo (readingQuestions m items a n)
+      unfolding firstNo readingQuestions
+      no-item h = rw (sound, known, h)
 
-  pub answered : soundDesk m ≡ true → known ≡ true → listed ≡ true → 0 ≡ itemAnswer m a item
-  unfolding firstNo readingQuestions itemAnswer
-  answered sound k h = rw (sound, k, h)
+      pub answered : between 1 items n ≡ true → 0 ≡ firstNo (readingQuestions m items a n)
+      unfolding firstNo readingQuestions
+      answered h = rw (sound, known, h)
 
   -- 0 is answered where each question is answered yes
-  pub allowed : itemAnswer m a item ≡ 0 → Read m a × Numbered (itemsOf m item) (numberIn item)
-  allowed zero = by (soundDesk m) known listed refl refl refl
+  all-yes : firstNo (readingQuestions m items a n) ≡ 0 → Read m a × Numbered items n
+  all-yes zero = by (soundDesk m) (between 1 (rosterOf m .accounts) a) (between 1 items n) refl refl refl
     where
-      by : (x y z : Bool) → soundDesk m ≡ x → known ≡ y → listed ≡ z → Read m a × Numbered (itemsOf m item) (numberIn item)
-      by true true true s k l = (
-        record { held = sound-out m s; account = between-numbered (rosterOf m .accounts) a k },
-        between-numbered (itemsOf m item) (numberIn item) l,
-      )
-      by true true false s k l = absurd (omega (arith, zero, no-item s k l))
-      by true false z s k l = absurd (omega (arith, zero, no-account s k))
-      by false y z s k l = absurd (omega (arith, zero, unsound s))
+      by : (x y z : Bool) → soundDesk m ≡ x → between 1 (rosterOf m .accounts) a ≡ y → between 1 items n ≡ z → Read m a × Numbered items n
+      by true true true s k h =
+          (record { held = sound-out m s; account = between-numbered (rosterOf m .accounts) a k }, between-numbered items n h)
+      by true true false s k h = absurd (omega (arith, zero, no-item s k h))
+      by true false z s k h = absurd (omega (arith, zero, no-account s k))
+      by false y z s k h = absurd (omega (arith, zero, unsound s))
+
+pub allowed : (m : List ℕ) (a : ℕ) (item : Item) → itemAnswer m a item ≡ 0 → Read m a × Numbered (itemsOf m item) (numberIn item)
+unfolding itemAnswer
+allowed m a item = all-yes m (itemsOf m item) a (numberIn item)
 
 -- ---- the report
 -- with answer r, whose number is `answer`

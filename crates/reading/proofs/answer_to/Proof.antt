@@ -7,6 +7,7 @@ use Rattle.book.specs.Decoding.{between}
 use Rattle.layout.specs.View.{rosterOf}
 use Rattle.soundness.specs.Soundness.{soundDesk}
 use Rattle.soundness.proofs.Asked.{said-no, said-yes}
+use Rattle.reading.specs.Reading.{itemAnswer}
 use Rattle.reading.proofs.Reports.{unsound, no-account, no-item, answered, sound-long, asked}
 use Rattle.reading.proofs.answer_to.Statement.{statement}
 use Rattle.reading.proofs.answer_to.Tie as tie
@@ -22,27 +23,27 @@ known c =
     said-yes _ _ (asked _ (a .account) (c .before .between .ensures) (c .before .before .accounts .ensures)) (c .if2 .left)
 
 returns : tie.Need-returns
-unfolding numberOf
-returns c = unsound _ _ _ (said-no _ _ (c .before .is-sound .ensures) (c .if1 .taken))
+unfolding numberOf itemAnswer
+returns c = unsound _ _ _ _ (said-no _ _ (c .before .is-sound .ensures) (c .if1 .taken))
 
 returns-2 : tie.Need-returns-2
-unfolding numberOf
+unfolding numberOf itemAnswer
 returns-2 c =
     let a = c .before .before .before .before .before .before .args in
-    no-account _ _ _ (sound (c .before .before .before))
+    no-account _ _ _ _ (sound (c .before .before .before))
     (said-no _ _ (asked _ (a .account) (c .before .between .ensures) (c .before .before .accounts .ensures)) (c .if2 .taken))
 
 returns-3 : tie.Need-returns-3
-unfolding numberOf
+unfolding numberOf itemAnswer
 returns-3 c =
     let two = c .before .before in
-    no-item _ _ _ (sound (two .before .before .before)) (known two) (said-no _ _ (c .before .on-roster .ensures) (c .if3 .taken))
+    no-item _ _ _ _ (sound (two .before .before .before)) (known two) (said-no _ _ (c .before .on-roster .ensures) (c .if3 .taken))
 
 returns-4 : tie.Need-returns-4
-unfolding numberOf
+unfolding numberOf itemAnswer
 returns-4 c =
     let two = c .before .before in
-    answered _ _ _ (sound (two .before .before .before)) (known two) (said-yes _ _ (c .before .on-roster .ensures) (c .if3 .left))
+    answered _ _ _ _ (sound (two .before .before .before)) (known two) (said-yes _ _ (c .before .on-roster .ensures) (c .if3 .left))
 
 pub answer-to-spec : {M : Type 1} → statement M
 answer-to-spec =
