@@ -16,7 +16,7 @@ use base.Logic.{SProp, ent, emp, exE, snd∗, id⊢}
 use base.Fml.{Lft, GName, Share, Fml, ftrue, fat, froom, fdies, flft}
 use prog.Memory.{Memory}
 use prog.Routine.{Routine}
-use prog.Wp.{Heap, Out, Env, Calls, Loops, Wp, WpFn, Tables, afterTurn, afterBlock, afterSeq, atReturn}
+use prog.Wp.{Heap, Env, WpFn, Tables, afterTurn}
 use ghost.Atoms.{Atoms, sem}
 use contract.Monad.{Fun, fact}
 use contract.Running.{givenOf, tables, tablesOf}
@@ -24,7 +24,7 @@ use sound.WpLaws.{fmOf, WpFn-mono}
 use types.Kit.{Given, Item, ‵, raw, _⊛_, some, later, ⋆, Sq, runs, anyQ, atRet, _$_, _∵_, !, qed, by, move, keep, drop}
 use types.Kit.{use0, use1, split, join, pick, rewrite, fsplit, fjoin, suffices, frame, await, done}
 use types.Run.{look, look-raw, store, init, forget, stop, hop, fld, from, load, lit, of-opd, bin, and-then, no-more}
-use types.Run.{assigns, assigns-last, land, first, blocks, stays, leaves-loop, exec, Below, again, loops, returns}
+use types.Run.{assigns, assigns-last, land, stays, leaves-loop, exec, again, returns}
 use types.Run.{enter, alloc1, alloc0, params1, pass1, pass0, free1, free0}
 use types.Part.{whole, sub, look-in}
 use denote.Exit.{yes}
@@ -57,7 +57,7 @@ use Rattle.order_list.proofs.Orders.{OrderR, order-ty, order-name, orde
 use Rattle.order_list.proofs.Orders.{place-fits}
 use Rattle.order_list.proofs.Orders.{SideR, side-ty, side-val, side-tells, side-lawful, Asked, AskedVals, asked-rows, asked-vals}
 use Rattle.order_list.proofs.Orders.{asked-made}
-use Rattle.order_list.proofs.CountingUp.{Upto, Nearer, nearer-wf}
+use Rattle.order_list.proofs.CountingUp.{Upto, Nearer, Turn, counts-up}
 use Rattle.order_list.proofs.Sums.{counted-none, counted-next, counted-below}
 use Rattle.order_list.proofs.counted_to.Key.{name as #order-list·counted-to}
 use Rattle.order_list.proofs.counted_to as counted-to
@@ -142,12 +142,6 @@ module _ {M : Type 1} (𝓤 : URA M) (H : Heap 𝓤) (A : Atoms 𝓤) (W : Given
 
     module _ (𝓣 : Tables 𝓤 H) (known : Triple 𝓤 (𝓣 .C #positions·counted) (Counted 𝓤 H A at-mem run))
         (l₀ l₁ l₂ l₃ l₄ l₅ l₆ l₇ l₈ l₉ l₁₀ l₁₁ l₁₂ : ℕ) where
-      abbrev C : Calls 𝓤 H
-      C = 𝓣 .C
-
-      abbrev Λ : Loops 𝓤 H
-      Λ = 𝓣 .Λ
-
       abbrev En : Env 𝓤 H
       En =
           (u, l₀) ∷ (lent, l₁) ∷ (u, l₂) ∷ (side-ty, l₃) ∷ (u, l₄) ∷ (u, l₅) ∷ (u, l₆) ∷ (u, l₇) ∷ (tyBool, l₈) ∷ (u, l₉)
@@ -170,13 +164,10 @@ module _ {M : Type 1} (𝓤 : URA M) (H : Heap 𝓤) (A : Atoms 𝓤) (W : Given
       abbrev At : Upto n → List (Item 𝓤)
       At p = State (p .0) (sum (p .0))
 
-      -- a turn ends nearer to n, or the loop is left and the rest of the body runs
-      abbrev Turned : Upto n → Out → SProp 𝓤
-      Turned p =
-          afterTurn 𝓤 H (Below 𝓤 H A (Nearer n) At p)
-          (afterBlock 𝓤 H (afterSeq 𝓤 H (Wp 𝓤 H C Λ En steps.t-4 (atReturn 𝓤 H En Post)) (atReturn 𝓤 H En Post)))
+      abbrev Turns : Upto n → Type 1
+      Turns = Turn n 𝓤 H A W 𝓣 En Post steps.turn-1 steps.t-4 At
 
-      more : (p : Upto n) → ltb (p .0) n ≡ true → Sq W (At p) (runs C Λ En steps.turn-1 (anyQ (Turned p)))
+      more : (p : Upto n) → ltb (p .0) n ≡ true → Turns p
       unfolding afterTurn
       more p less =
           assigns ! (bin ! (load ! (from ! (stop !)) (look ! 14 refl)) (load ! (from ! (stop !)) (look ! 24 refl)) tt)
@@ -247,13 +238,13 @@ module _ {M : Type 1} (𝓤 : URA M) (H : Heap 𝓤) (A : Atoms 𝓤) (W : Given
           sum-fits : sum (p .0) + counts < 2 ^ 64
           sum-fits = omega (arith, counted-next ys s a i (p .0), counted-below ys s a i (p .0 + 1) n (next .1), small)
 
-      ends : (p : Upto n) → ltb (p .0) n ≡ false → Sq W (At p) (runs C Λ En steps.turn-1 (anyQ (Turned p)))
+      ends : (p : Upto n) → ltb (p .0) n ≡ false → Turns p
       unfolding afterTurn
       ends p over =
           assigns ! (bin ! (load ! (from ! (stop !)) (look ! 14 refl)) (load ! (from ! (stop !)) (look ! 24 refl)) tt)
           (from ! (stop !)) (init ! 12 refl (tt, tt)) $
           rewrite ! 12 (λ (t : Bool). ‵ (fat fullShare tyBool l₈ 0 (vbool t))) over refl $
-          leaves-loop ! (load ! (from ! (stop !)) (look ! 12 refl)) $ exec ! C Λ En steps.t-4 (atRet En Post) $
+          leaves-loop ! (load ! (from ! (stop !)) (look ! 12 refl)) $ exec ! (𝓣 .C) (𝓣 .Λ) En steps.t-4 (atRet En Post) $
           assigns ! (of-opd ! (load ! (from ! (stop !)) (look ! 16 refl))) (from ! (stop !))
           (init ! 28 refl (tt, record { fits = sum-fits })) $
           returns ! (look ! 28 refl) $ forget ! 12 refl $ forget ! 14 refl $ forget ! 16 refl $ forget ! 18 refl $ forget ! 20 refl $
@@ -271,15 +262,8 @@ module _ {M : Type 1} (𝓤 : URA M) (H : Heap 𝓤) (A : Atoms 𝓤) (W : Given
           sum-fits : sum (p .0) < 2 ^ 64
           sum-fits = omega (arith, counted-below ys s a i (p .0) n (p .1), small)
 
-      turns : (p : Upto n) → Sq W (At p) (runs C Λ En steps.turn-1 (anyQ (Turned p)))
-      turns p = by-test (ltb (p .0) n) refl
-        where
-          by-test : (t : Bool) → ltb (p .0) n ≡ t → Sq W (At p) (runs C Λ En steps.turn-1 (anyQ (Turned p)))
-          by-test true e = more p e
-          by-test false e = ends p e
-
-      starts : Sq W (At (0, omega arith)) (runs C Λ En steps.t-3 (atRet En Post))
-      starts = first ! $ blocks ! $ loops ! 𝓣 (Nearer n) (nearer-wf n) At turns (0, omega arith)
+      starts : Sq W (At (0, omega arith)) (runs (𝓣 .C) (𝓣 .Λ) En steps.t-3 (atRet En Post))
+      starts = counts-up n 𝓤 H A W 𝓣 En Post steps.turn-1 steps.t-4 At more ends
 
     abbrev passed : List Val
     passed = sliceVal (b, o) (length ys) ∷ vint w64 n ∷ side-val s ∷ vint w64 a ∷ vint w64 i ∷ []

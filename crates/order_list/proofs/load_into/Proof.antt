@@ -16,7 +16,7 @@ use base.Logic.{SProp, ent, sep, exE, snd∗, id⊢}
 use base.Fml.{Lft, GName, Share, Fml, ftrue, fat, froom, fdies, flft}
 use prog.Memory.{Memory}
 use prog.Routine.{Routine}
-use prog.Wp.{Heap, Out, Env, Calls, Loops, Wp, WpFn, Tables, afterTurn, afterBlock, afterSeq, atReturn}
+use prog.Wp.{Heap, Env, WpFn, Tables, afterTurn}
 use ghost.Atoms.{Atoms, sem}
 use contract.Monad.{Fun, fact}
 use contract.Running.{givenOf, tables, tablesOf}
@@ -25,7 +25,7 @@ use sound.WpLaws.{fmOf, WpFn-mono}
 use types.Kit.{Given, Item, ‵, raw, _⊛_, some, later, ⋆, Sq, runs, anyQ, atRet, _$_, _∵_, !, qed, by, move, keep, drop}
 use types.Kit.{use1, use2, split, split3, join, pick, rewrite, fsplit, fsplit3, fjoin, fjoin3, feqI, suffices, frame, await, done}
 use types.Run.{look, store, store-raw, init, forget, stop, hop, fld, from, load, lit, unit-lit, of-opd, bin, and-then, no-more}
-use types.Run.{assigns, assigns-last, land, first, blocks, stays, leaves-loop, exec, Below, again, loops, returns}
+use types.Run.{assigns, assigns-last, land, stays, leaves-loop, exec, again, returns}
 use types.Run.{enter, alloc1, alloc0, params1, pass1, pass0, free1, free0}
 use types.Part.{whole, sub, look-in}
 use denote.Exit.{yes}
@@ -55,7 +55,7 @@ use Rattle.ledger.proofs.records.load.Symbol.{name as #ledger·load}
 use Rattle.ledger.proofs.records.load.Met as load-thm
 use Rattle.order_list.specs.OrderList.{loadedTo}
 use Rattle.order_list.proofs.Orders.{OrderR, order-ty, order-name, order-val, order-tells, order-makes, order-lawful, place-fits}
-use Rattle.order_list.proofs.CountingUp.{Upto, Nearer, nearer-wf}
+use Rattle.order_list.proofs.CountingUp.{Upto, Nearer, Turn, counts-up}
 use Rattle.order_list.proofs.Loading.{loaded-none, loaded-next, loaded-length}
 use Rattle.order_list.proofs.load_into.Key.{name as #order-list·load-into}
 use Rattle.order_list.proofs.load_into as load-into
@@ -144,12 +144,6 @@ module _ {M : Type 1} (𝓤 : URA M) (H : Heap 𝓤) (A : Atoms 𝓤) (W : Given
         fjoin ! $ move ! (1 ∷ 0 ∷ []) $ fjoin ! $ done !
 
     module _ (𝓣 : Tables 𝓤 H) (known : Triple 𝓤 (𝓣 .C #ledger·load) (Load 𝓤 H A at-mem run)) (l₀ l₁ l₂ l₃ l₄ l₅ l₆ l₇ l₈ : ℕ) where
-      abbrev C : Calls 𝓤 H
-      C = 𝓣 .C
-
-      abbrev Λ : Loops 𝓤 H
-      Λ = 𝓣 .Λ
-
       abbrev En : Env 𝓤 H
       En = (tyUnit, l₀) ∷ (lent, l₁) ∷ (bytes, l₂) ∷ (u, l₃) ∷ (u, l₄) ∷ (tyBool, l₅) ∷ (order-ty, l₆) ∷ (u, l₇) ∷ (tyPtr, l₈) ∷ []
 
@@ -166,13 +160,10 @@ module _ {M : Type 1} (𝓤 : URA M) (H : Heap 𝓤) (A : Atoms 𝓤) (W : Given
       abbrev At : Upto n → List (Item 𝓤)
       At p = State (p .0) (loadedTo ys ms (p .0))
 
-      -- a turn ends nearer to n, or the loop is left and the rest of the body runs
-      abbrev Turned : Upto n → Out → SProp 𝓤
-      Turned p =
-          afterTurn 𝓤 H (Below 𝓤 H A (Nearer n) At p)
-          (afterBlock 𝓤 H (afterSeq 𝓤 H (Wp 𝓤 H C Λ En steps.t-3 (atReturn 𝓤 H En Post)) (atReturn 𝓤 H En Post)))
+      abbrev Turns : Upto n → Type 1
+      Turns = Turn n 𝓤 H A W 𝓣 En Post steps.turn-1 steps.t-3 At
 
-      more : (p : Upto n) → ltb (p .0) n ≡ true → Sq W (At p) (runs C Λ En steps.turn-1 (anyQ (Turned p)))
+      more : (p : Upto n) → ltb (p .0) n ≡ true → Turns p
       unfolding afterTurn
       more p less =
           assigns ! (bin ! (load ! (from ! (stop !)) (look ! 14 refl)) (load ! (from ! (stop !)) (look ! 16 refl)) tt)
@@ -244,13 +235,13 @@ module _ {M : Type 1} (𝓤 : URA M) (H : Heap 𝓤) (A : Atoms 𝓤) (W : Given
           next-fits : p .0 + 1 < 2 ^ 64
           next-fits = omega (arith, l, n-fits)
 
-      ends : (p : Upto n) → ltb (p .0) n ≡ false → Sq W (At p) (runs C Λ En steps.turn-1 (anyQ (Turned p)))
+      ends : (p : Upto n) → ltb (p .0) n ≡ false → Turns p
       unfolding afterTurn
       ends p over =
           assigns ! (bin ! (load ! (from ! (stop !)) (look ! 14 refl)) (load ! (from ! (stop !)) (look ! 16 refl)) tt)
           (from ! (stop !)) (init ! 12 refl (tt, tt)) $
           rewrite ! 12 (λ (t : Bool). ‵ (fat fullShare tyBool l₅ 0 (vbool t))) over refl $
-          leaves-loop ! (load ! (from ! (stop !)) (look ! 12 refl)) $ exec ! C Λ En steps.t-3 (atRet En Post) $
+          leaves-loop ! (load ! (from ! (stop !)) (look ! 12 refl)) $ exec ! (𝓣 .C) (𝓣 .Λ) En steps.t-3 (atRet En Post) $
           assigns ! (of-opd ! (unit-lit !)) (from ! (stop !)) (init ! 22 refl (tt, tt)) $
           returns ! (look ! 22 refl) $ forget ! 12 refl $ forget ! 14 refl $ forget ! 16 refl $ forget ! 18 refl $ forget ! 20 refl $
           forget ! 22 refl $
@@ -262,12 +253,8 @@ module _ {M : Type 1} (𝓤 : URA M) (H : Heap 𝓤) (A : Atoms 𝓤) (W : Given
           end : p .0 ≡ n
           end = omega (arith, ltb-false (p .0) n over, p .1)
 
-      turns : (p : Upto n) → Sq W (At p) (runs C Λ En steps.turn-1 (anyQ (Turned p)))
-      turns p = by-test (ltb (p .0) n) refl
-        where
-          by-test : (t : Bool) → ltb (p .0) n ≡ t → Sq W (At p) (runs C Λ En steps.turn-1 (anyQ (Turned p)))
-          by-test true e = more p e
-          by-test false e = ends p e
+      starts : Sq W (At (0, omega arith)) (runs (𝓣 .C) (𝓣 .Λ) En steps.t-2 (atRet En Post))
+      starts = counts-up n 𝓤 H A W 𝓣 En Post steps.turn-1 steps.t-3 At more ends
 
     walk : (𝓣 : Tables 𝓤 H) → Triple 𝓤 (𝓣 .C #ledger·load) (Load 𝓤 H A at-mem run)
         → ent 𝓤 (onEntry 𝓤 H A load-into.signature (κ, (κ′, tt)) (q, (q′, tt)) arg vals)
@@ -284,8 +271,7 @@ module _ {M : Type 1} (𝓤 : URA M) (H : Heap 𝓤) (A : Atoms 𝓤) (W : Given
         assigns ! (of-opd ! (lit ! tt)) (from ! (stop !)) (init ! 8 refl (tt, record { fits = omega arith })) $
         move ! (18 ∷ 19 ∷ []) $ split3 ! $ move ! (3 ∷ []) $ fsplit3 ! $ move ! (3 ∷ 4 ∷ 0 ∷ 1 ∷ 2 ∷ []) $
         rewrite ! 2 (λ (zs : List Order). ‵ (list zs)) (sym (loaded-none ys ms)) refl $
-        first ! $ blocks ! $ loops ! 𝓣 (Nearer n) (nearer-wf n) (At 𝓣 known l₀ l₁ l₂ l₃ l₄ l₅ l₆ l₇ l₈)
-        (turns 𝓣 known l₀ l₁ l₂ l₃ l₄ l₅ l₆ l₇ l₈) (0, omega arith))))))))))
+        starts 𝓣 known l₀ l₁ l₂ l₃ l₄ l₅ l₆ l₇ l₈)))))))))
 
 module _ {M : Type 1} (𝓤 : URA M) (H : Heap 𝓤) (A : Atoms 𝓤) (W : Given 𝓤 H A) (mem : Memory → SProp 𝓤) (run : Routine → Fun 𝓤)
     (𝓣 : Tables 𝓤 H) (known : Triple 𝓤 (𝓣 .C #ledger·load) (Load 𝓤 H A mem run)) where

@@ -15,7 +15,7 @@ use base.Logic.{SProp, ent, sep, exE, snd∗, id⊢}
 use base.Fml.{Lft, GName, Share, Fml, ftrue, fsep, fat, froom, fdies, flft, flent}
 use prog.Memory.{Memory}
 use prog.Routine.{Routine}
-use prog.Wp.{Heap, Env, Calls, Loops, WpFn, Tables}
+use prog.Wp.{Heap, Env, WpFn, Tables}
 use ghost.Atoms.{Atoms, sem}
 use contract.Monad.{Fun, fact}
 use contract.Running.{givenOf, tables, tablesOf}
@@ -218,12 +218,6 @@ module _ {M : Type 1} (𝓤 : URA M) (H : Heap 𝓤) (A : Atoms 𝓤) (W : Given
     module _ (𝓣 : Tables 𝓤 H) (known-load : Triple 𝓤 (𝓣 .C #order-list·load-into) (LoadInto 𝓤 H A mem run))
         (known-count : Triple 𝓤 (𝓣 .C #order-list·counted-to) (CountedTo 𝓤 H A mem run))
         (l₀ l₁ l₂ l₃ l₄ l₅ l₆ l₇ l₈ l₉ l₁₀ l₁₁ l₁₂ l₁₃ l₁₄ : ℕ) where
-      abbrev C : Calls 𝓤 H
-      C = 𝓣 .C
-
-      abbrev Λ : Loops 𝓤 H
-      Λ = 𝓣 .Λ
-
       abbrev En : Env 𝓤 H
       En =
           (open-ty, l₀) ∷ (bytes, l₁) ∷ (u, l₂) ∷ (u, l₃) ∷ (u, l₄) ∷ (order-ty, l₅) ∷ (list-type, l₆) ∷ (shared, l₇) ∷ (u, l₈) ∷ (u, l₉)
@@ -246,7 +240,7 @@ module _ {M : Type 1} (𝓤 : URA M) (H : Heap 𝓤) (A : Atoms 𝓤) (W : Given
 
       -- the list is lent once for both calls of `counted_to`
       counting : (zs : List Order) → Is (ListR 256) zs (list-val zs ∷ []) → zs ≡ listed ms n
-          → Sq W (State zs) (runs C Λ En steps.t-7 (atRet En Post))
+          → Sq W (State zs) (runs (𝓣 .C) (𝓣 .Λ) En steps.t-7 (atRet En Post))
       counting zs is e =
           assigns ! (addr ! (from ! (stop !))) (from ! (stop !)) (init ! 5 refl (tt, tt)) $
           assigns ! (agg ! (and-then ! (load ! (from ! (stop !)) (look ! 5 refl)) (and-then ! (lit ! tt) (no-more !))))
@@ -320,7 +314,7 @@ module _ {M : Type 1} (𝓤 : URA M) (H : Heap 𝓤) (A : Atoms 𝓤) (W : Given
           found r r′ = record { buys = r; sells = r′ }
 
       loading : (xs : List Order) → Is (ListR 256) xs (list-val xs ∷ []) → loadedTo xs ms n ≡ listed ms n
-          → Sq W (State xs) (runs C Λ En steps.t-4 (atRet En Post))
+          → Sq W (State xs) (runs (𝓣 .C) (𝓣 .Λ) En steps.t-4 (atRet En Post))
       loading xs is start =
           assigns ! (addr ! (from ! (stop !))) (from ! (stop !)) (init ! 9 refl (tt, tt)) $
           assigns ! (agg ! (and-then ! (load ! (from ! (stop !)) (look ! 9 refl)) (and-then ! (lit ! tt) (no-more !))))
