@@ -1,6 +1,5 @@
 mod Orders
-mod Turns
-mod Again
+mod CountingUp
 mod Local
 mod Sums
 mod Loading

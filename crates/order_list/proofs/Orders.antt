@@ -1,4 +1,5 @@
--- What the walks share of an order and of the side, account and instrument that are asked for: their machine values, that these have the MIR types, and that what is owned is had for nothing.
+-- What the walks share of an order and of the side, account and instrument that are asked for: their machine values, that these have the
+-- MIR types, and that what is owned is had for nothing.
 use mathlib.Core.Path.{refl}
 use Prim.Native.Nat.{ℕ, _*_, _<_, _^_}
 use native.Mathlib.Omega.{arith}
@@ -25,6 +26,11 @@ use Rattle.ledger.proofs.order.Order.Laws as T′
 use Rattle.ledger.specs.declared.order.Side.{Side}
 use Rattle.ledger.proofs.order.Side as S
 use Rattle.ledger.proofs.order.Side.Laws as S′
+use Rattle.ledger.specs.declared.order.Side.the-variants.{Buy, Sell}
+use Rattle.order_list.specs.OrderList.{noOrder}
+use Rattle.order_list.specs.declared.Open.{Open}
+use Rattle.order_list.proofs.Open as O
+use Rattle.order_list.proofs.Open.Laws as O′
 
 abbrev pub OrderR : RattleType
 OrderR = T.the-row
@@ -53,6 +59,30 @@ side-val s = EL.val S.the-type S′.the-laws s
 
 pub side-tells : Tells SideR (Is SideR) (λ s. side-val s ∷ [])
 side-tells = EL.tells S.the-type S′.the-laws
+
+pub side-is : (s : Side) → Is SideR s (side-val s ∷ [])
+side-is Buy = EL.owes S.the-type S′.the-laws Buy tt
+side-is Sell = EL.owes S.the-type S′.the-laws Sell tt
+
+-- the order of a free place
+pub free-is : Is OrderR noOrder (order-val noOrder ∷ [])
+free-is =
+    LL.owes T.the-type T′.the-laws noOrder
+    ((refl, omega arith), ((refl, omega arith), ((refl, omega arith), (side-is Buy, ((refl, omega arith), ((refl, omega arith), tt))))))
+
+-- B and V, which are answered
+abbrev pub OpenR : RattleType
+OpenR = O.the-row
+
+abbrev pub open-ty : Ty
+open-ty = O′.mir
+
+abbrev pub open-val : Open → Val
+open-val r = LL.val O.the-type O′.the-laws r
+
+pub open-is : (r r′ : ℕ) → r < 2 ^ 64 → r′ < 2 ^ 64
+    → Is OpenR (record { buys = r; sells = r′ }) (open-val (record { buys = r; sells = r′ }) ∷ [])
+open-is r r′ h h′ = LL.owes O.the-type O′.the-laws (record { buys = r; sells = r′ }) ((refl, h), ((refl, h′), tt))
 
 -- the side, the account and the instrument that are asked for
 abbrev pub Asked : Type 0
@@ -83,10 +113,18 @@ module _ {M : Type 1} (𝓤 : URA M) (H : Heap 𝓤) (A : Atoms 𝓤) where
   pub side-lawful : Given 𝓤 H A → Lawful 𝓤 H A SideR
   side-lawful W = EL.lawful S.the-type S′.the-laws 𝓤 H A W tt
 
+  pub open-makes : Makes 𝓤 H A OpenR (Is OpenR)
+  open-makes = LL.makes O.the-type O′.the-plain 𝓤 H A
+
+  pub open-lawful : Given 𝓤 H A → Lawful 𝓤 H A OpenR
+  open-lawful W = LL.lawful O.the-type O′.the-laws 𝓤 H A W
+
   -- what a side, an account and an instrument own is had for nothing
-  pub asked-made : Given 𝓤 H A → (s : Side) (a i : ℕ) → Is SideR s (side-val s ∷ []) → a < 2 ^ 64 → i < 2 ^ 64 → ent 𝓤 (emp 𝓤) (sem 𝓤 H A (owns asked-rows (s, (a, (i, tt))) (asked-vals s a i)))
+  pub asked-made : Given 𝓤 H A → (s : Side) (a i : ℕ) → Is SideR s (side-val s ∷ []) → a < 2 ^ 64 → i < 2 ^ 64
+      → ent 𝓤 (emp 𝓤) (sem 𝓤 H A (owns asked-rows (s, (a, (i, tt))) (asked-vals s a i)))
   asked-made W s a i s-is a-fits i-fits =
-      qed W [] ∵ nothing ! $ owned ! u64 (Is u64) (uint-makes 𝓤 H A W w64) i _ (refl, i-fits) $ fjoin ! $ owned ! u64 (Is u64) (uint-makes 𝓤 H A W w64) a _ (refl, a-fits) $ fjoin ! $
+      qed W [] ∵ nothing ! $ owned ! u64 (Is u64) (uint-makes 𝓤 H A W w64) i _ (refl, i-fits) $ fjoin ! $
+      owned ! u64 (Is u64) (uint-makes 𝓤 H A W w64) a _ (refl, a-fits) $ fjoin ! $
       owned ! SideR (Is SideR) side-makes s _ s-is $ fjoin ! $ done !
 
 -- where n orders have room, so has the place of one of them

@@ -7,7 +7,7 @@ use native.Mathlib.Omega.{arith}
 use Rattle.ledger.specs.declared.order.Order.{Order}
 use Rattle.ledger.specs.declared.order.Side.{Side}
 use Rattle.ledger.specs.Derivatives.{counted}
-use Rattle.order_list.specs.Places.{orderIn, countedTo}
+use Rattle.order_list.specs.OrderList.{orderIn, countedTo}
 
 module _ (orders : List Order) (s : Side) (a i : ℕ) where
   pub counted-none : countedTo orders 0 s a i ≡ 0

@@ -1,9 +1,9 @@
 -- What a reader answers and reports.
 use Prim.Native.Nat.{ℕ, _≤_}
-use mathlib.Core.Path.{_≡_, sym, _∙_}
-use mathlib.Core.Logic.{_≢_}
+use mathlib.Core.Path.{_≡_, refl, sym, _∙_}
 use mathlib.Core.Bool.{Bool, true, false}
 use mathlib.Core.List.{List, [], _∷_}
+use native.Mathlib.Omega.{arith}
 use lib.IntN.{ℤ}
 use lib.ListN.{length}
 use borrow.Author.Tests.{eq-eqb, ne-eqb}
@@ -16,7 +16,11 @@ use Rattle.ledger.specs.Records.{ordersFrom}
 use Rattle.ledger.specs.Derivatives.{one}
 use Rattle.positions.specs.Answers.{InInstrument, InGroup}
 use Rattle.limits.specs.Questions.{firstNo}
+use Rattle.book.specs.declared.Answer.{Answer}
+use Rattle.book.specs.declared.Answer.the-variants.{Accepted}
+use Rattle.book.specs.Answers.{numberOf}
 use Rattle.book.specs.Decoding.{between}
+use Rattle.book.proofs.Refused.{Refusal, not-zero}
 use Rattle.book.specs.Market.{derivatives}
 use Rattle.book.proofs.Tables.{between-numbered}
 use Rattle.layout.specs.Layout.{rosterWord, countWord, balanceRow}
@@ -25,7 +29,9 @@ use Rattle.soundness.specs.Soundness.{soundDesk}
 use Rattle.soundness.proofs.SoundDesk.{sound-out}
 use Rattle.soundness.proofs.Bounded.{row-balance}
 use Rattle.soundness.proofs.Agreement.{words-potential}
-use Rattle.reading.specs.Reading.{Read, readingQuestions, positionIn, instrumentReport, groupReport, reported}
+use Rattle.reading.specs.declared.Item.{Item}
+use Rattle.reading.specs.Reading.{Read, itemsOf, numberIn, itemAnswer}
+use Rattle.reading.specs.Reading.{readingQuestions, positionIn, instrumentReport, groupReport, reported}
 
 -- ---- the answers
 -- `items` and `n` are the roster's number of instruments or groups and the one asked for
@@ -48,29 +54,67 @@ module _ (m : List ℕ) (items a n : ℕ) where
       unfolding firstNo readingQuestions
       answered h = rw (sound, known, h)
 
--- ---- the report
-module _ (report before : List ℤ) {k answer : ℕ} (e : k ≡ answer) where
-  pub refuses : k ≢ 0 → (k ≡ answer) × (before ≡ reported answer report before)
-  unfolding reported
-  refuses h = (e, rw (ne-eqb answer 0 (λ z. h (e ∙ z))))
+  -- 0 is answered where each question is answered yes
+  all-yes : firstNo (readingQuestions m items a n) ≡ 0 → Read m a × Numbered items n
+  all-yes zero = by (soundDesk m) (between 1 (rosterOf m .accounts) a) (between 1 items n) refl refl refl
+    where
+      by : (x y z : Bool) → soundDesk m ≡ x → between 1 (rosterOf m .accounts) a ≡ y → between 1 items n ≡ z → Read m a × Numbered items n
+      by true true true s k h =
+          (record { held = sound-out m s; account = between-numbered (rosterOf m .accounts) a k }, between-numbered items n h)
+      by true true false s k h = absurd (omega (arith, zero, no-item s k h))
+      by true false z s k h = absurd (omega (arith, zero, no-account s k))
+      by false y z s k h = absurd (omega (arith, zero, unsound s))
 
-  pub accepts : k ≡ 0 → (now : List ℤ) → now ≡ report → (k ≡ answer) × (now ≡ reported answer report before)
+pub allowed : (m : List ℕ) (a : ℕ) (item : Item) → itemAnswer m a item ≡ 0 → Read m a × Numbered (itemsOf m item) (numberIn item)
+unfolding itemAnswer
+allowed m a item = all-yes m (itemsOf m item) a (numberIn item)
+
+-- ---- the report
+-- with answer r, whose number is `answer`
+module _ {answer : ℕ} (r : Answer) (told : numberOf r ≡ answer) where
+  -- is accepted
+  pub is-zero : r ≡ Accepted → answer ≡ 0
+  unfolding numberOf
+  is-zero h = sym told ∙ rw h
+
+  pub accepts : r ≡ Accepted → (report before now : List ℤ) → now ≡ report → (0 ≡ answer) × (now ≡ reported answer report before)
   unfolding reported
-  accepts z now r = (e, r ∙ rw (eq-eqb answer 0 (sym e ∙ z)))
+  accepts h report before now e = (sym (is-zero h), e ∙ rw (eq-eqb answer 0 (is-zero h)))
+
+  -- or refused
+  pub refuses : Refusal r → (report before : List ℤ) → (numberOf r ≡ answer) × (before ≡ reported answer report before)
+  unfolding reported
+  refuses h report before = (told, rw (ne-eqb answer 0 (λ z. not-zero r h (told ∙ z))))
 
 -- ---- what the ledger answers over the desk's parts is the report
 module _ (m : List ℕ) (a : ℕ) (read : Read m a) where
-  pub instrument-told : (i : ℕ) → Numbered (rosterOf m .instruments) i → (p : InstrumentPosition) → InInstrument (recordsOf m) (wordAt m countWord) (partOf m (balanceRow a) 33) a i p → p .balance .0 ∷ p .long .0 ∷ p .short .0 ∷ [] ≡ instrumentReport m a i
+  pub instrument-told : (i : ℕ) → Numbered (rosterOf m .instruments) i → (p : InstrumentPosition)
+      → InInstrument (recordsOf m) (wordAt m countWord) (partOf m (balanceRow a) 33) a i p
+      → p .balance .0 ∷ p .long .0 ∷ p .short .0 ∷ [] ≡ instrumentReport m a i
   unfolding instrumentReport positionIn openOrders derivatives potential
   instrument-told i on p told =
       let os = ordersFrom (recordsOf m) 0 (wordAt m countWord) in
-      rw (told .its-balance, row-balance m (read .held) a (read .account) i on, told .its-long, told .its-short, ← words-potential m (read .held) a (read .account) one os (instrument i) on long, ← words-potential m (read .held) a (read .account) one os (instrument i) on short)
+      rw (
+        told .its-balance,
+        row-balance m (read .held) a (read .account) i on,
+        told .its-long,
+        told .its-short,
+        ← words-potential m (read .held) a (read .account) one os (instrument i) on long,
+        ← words-potential m (read .held) a (read .account) one os (instrument i) on short,
+      )
 
-  pub group-told : (g : ℕ) (p : GroupPosition) → InGroup (recordsOf m) (wordAt m countWord) (partOf m (balanceRow a) 33) (partOf m rosterWord 76) a g p → p .long .0 ∷ p .short .0 ∷ [] ≡ groupReport m a g
+  pub group-told : (g : ℕ) (p : GroupPosition)
+      → InGroup (recordsOf m) (wordAt m countWord) (partOf m (balanceRow a) 33) (partOf m rosterWord 76) a g p
+      → p .long .0 ∷ p .short .0 ∷ [] ≡ groupReport m a g
   unfolding groupReport positionIn openOrders derivatives
   group-told g p told =
       let os = ordersFrom (recordsOf m) 0 (wordAt m countWord) in
-      rw (told .its-long, told .its-short, words-potential m (read .held) a (read .account) one os (group g) tt long, words-potential m (read .held) a (read .account) one os (group g) tt short)
+      rw (
+        told .its-long,
+        told .its-short,
+        words-potential m (read .held) a (read .account) one os (group g) tt long,
+        words-potential m (read .held) a (read .account) one os (group g) tt short,
+      )
 
 -- ---- what the questions tell
 pub sound-long : (m : List ℕ) → soundDesk m ≡ true → 65536 ≤ length m
@@ -79,6 +123,3 @@ sound-long m s = sound-out m s .long
 -- the test of `between`, asked of what was read
 pub asked : {t : Bool} {most′ : ℕ} (most n : ℕ) → t ≡ between 1 most′ n → most′ ≡ most → t ≡ between 1 most n
 asked most n e h = rw (← h) e
-
-pub reads : (m : List ℕ) (a : ℕ) → soundDesk m ≡ true → between 1 (rosterOf m .accounts) a ≡ true → Read m a
-reads m a s h = record { held = sound-out m s; account = between-numbered (rosterOf m .accounts) a h }

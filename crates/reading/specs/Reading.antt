@@ -13,6 +13,8 @@ use Rattle.book.specs.Table.{q}
 use Rattle.layout.specs.View.{rosterOf, balancesOf, openOrders}
 use Rattle.soundness.specs.Soundness.{soundDesk}
 use Rattle.soundness.specs.Held.{Held}
+use Rattle.reading.specs.declared.Item.{Item}
+use Rattle.reading.specs.declared.Item.the-variants.{Instrument, Group}
 
 -- refused by 5, 7 and 8 in that order; `items` is how many instruments or groups there are
 unfoldable pub readingQuestions : List ℕ → ℕ → ℕ → ℕ → List Question
@@ -24,6 +26,19 @@ instrumentAnswer m a i = firstNo (readingQuestions m (rosterOf m .instruments) a
 
 unfoldable pub groupAnswer : List ℕ → ℕ → ℕ → ℕ
 groupAnswer m a g = firstNo (readingQuestions m (rosterOf m .groups) a g)
+
+-- how many items of its kind there are, and its number among them
+abbrev pub itemsOf : List ℕ → Item → ℕ
+itemsOf m (Instrument i) = rosterOf m .instruments
+itemsOf m (Group g) = rosterOf m .groups
+
+abbrev pub numberIn : Item → ℕ
+numberIn (Instrument i) = i
+numberIn (Group g) = g
+
+-- the answer to a reading of an instrument or a group
+unfoldable pub itemAnswer : List ℕ → ℕ → Item → ℕ
+itemAnswer m a item = firstNo (readingQuestions m (itemsOf m item) a (numberIn item))
 
 -- the potential position that the desk's open orders and balances give
 unfoldable pub positionIn : List ℕ → ℕ → Place → Way → ℤ

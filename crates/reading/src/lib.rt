@@ -1,8 +1,12 @@
 // Reading positions from a desk's memory, which changes nothing in it.
 ghost use mathlib.Core.Path.{_≡_};
+ghost use Prim.Native.Nat.{_≤_};
+ghost use lib.ListN.{length};
 ghost use Rattle.ledger.specs.Roster.{Numbered};
 ghost use Rattle.book.specs.Answers.{numberOf};
 ghost use Rattle.layout.specs.View.{rosterOf};
+ghost use Rattle.book.specs.Decoding.{between};
+ghost use Rattle.reading.specs.Reading.{itemsOf, numberIn, itemAnswer};
 ghost use Rattle.reading.specs.Reading.{Read, instrumentAnswer, groupAnswer, instrumentReport, groupReport, reported};
 use book::Answer;
 use layout::orders::records;
@@ -20,6 +24,12 @@ use soundness::roster::groups;
 use soundness::roster::instruments;
 use words::part;
 use words::word;
+
+// What positions are read of.
+pub enum Item {
+    Instrument(u64),
+    Group(u64),
+}
 
 // The number of contracts, and of weighted ten-thousandths.
 fn contracts(x: Contracts) -> i64
@@ -70,10 +80,20 @@ fn group_report(m: &[u8], account: u64, group: u64) -> [i64; 2]
     [long, short]
 }
 
-// S, PCI and PVI of an account and instrument to `report`.
-pub fn read_instrument(m: &[u8], account: u64, instrument: u64, report: &mut [i64; 3]) -> Answer
-    ensures answer { λ r. ⌜ numberOf r ≡ instrumentAnswer (now (m .entry)) account instrument ⌝ }
-    ensures report { λ r. ⌜ now (report .exit) ≡ reported (instrumentAnswer (now (m .entry)) account instrument) (instrumentReport (now (m .entry)) account instrument) (now (report .entry)) ⌝ }
+// Is the item on the roster?
+fn on_roster(m: &[u8], item: Item) -> bool
+    requires { ⌜ 65536 ≤ length (now m) ⌝ }
+    ensures { λ r. ⌜ r ≡ between 1 (itemsOf (now (m .entry)) item) (numberIn item) ⌝ }
+{
+    match item {
+        Item::Instrument(i) => between(1, instruments(m), i),
+        Item::Group(g) => between(1, groups(m), g),
+    }
+}
+
+// Questions 5, 7 and 8, in that order.
+fn answer_to(m: &[u8], account: u64, item: Item) -> Answer
+    ensures { λ r. ⌜ numberOf r ≡ itemAnswer (now (m .entry)) account item ⌝ }
 {
     if !is_sound(m) {
         return Answer::NoSoundDesk;
@@ -81,29 +101,48 @@ pub fn read_instrument(m: &[u8], account: u64, instrument: u64, report: &mut [i6
     if !between(1, accounts(m), account) {
         return Answer::UnknownAccount;
     }
-    if !between(1, instruments(m), instrument) {
+    if !on_roster(m, item) {
         return Answer::UnknownItem;
     }
-    let positions = instrument_report(m, account, instrument);
-    *report = positions;
     Answer::Accepted
+}
+
+// S, PCI and PVI of an account and instrument to `report`.
+pub fn read_instrument(m: &[u8], account: u64, instrument: u64, report: &mut [i64; 3]) -> Answer
+    ensures answer { λ r. ⌜ numberOf r ≡ instrumentAnswer (now (m .entry)) account instrument ⌝ }
+    ensures report { λ r. ⌜
+        now (report .exit)
+        ≡ reported (instrumentAnswer (now (m .entry)) account instrument)
+        (instrumentReport (now (m .entry)) account instrument) (now (report .entry))
+        ⌝ }
+{
+    let answer = answer_to(m, account, Item::Instrument(instrument));
+    match answer {
+        Answer::Accepted => {
+            let positions = instrument_report(m, account, instrument);
+            *report = positions;
+            Answer::Accepted
+        }
+        no => no,
+    }
 }
 
 // PCC and PVC of an account and group, in ten-thousandths, to `report`.
 pub fn read_group(m: &[u8], account: u64, group: u64, report: &mut [i64; 2]) -> Answer
     ensures answer { λ r. ⌜ numberOf r ≡ groupAnswer (now (m .entry)) account group ⌝ }
-    ensures report { λ r. ⌜ now (report .exit) ≡ reported (groupAnswer (now (m .entry)) account group) (groupReport (now (m .entry)) account group) (now (report .entry)) ⌝ }
+    ensures report { λ r. ⌜
+        now (report .exit)
+        ≡ reported (groupAnswer (now (m .entry)) account group)
+        (groupReport (now (m .entry)) account group) (now (report .entry))
+        ⌝ }
 {
-    if !is_sound(m) {
-        return Answer::NoSoundDesk;
+    let answer = answer_to(m, account, Item::Group(group));
+    match answer {
+        Answer::Accepted => {
+            let positions = group_report(m, account, group);
+            *report = positions;
+            Answer::Accepted
+        }
+        no => no,
     }
-    if !between(1, accounts(m), account) {
-        return Answer::UnknownAccount;
-    }
-    if !between(1, groups(m), group) {
-        return Answer::UnknownItem;
-    }
-    let positions = group_report(m, account, group);
-    *report = positions;
-    Answer::Accepted
 }

@@ -1,3 +1,4 @@
+-- The desk is sound, so `group_position`'s bounds hold of its parts; what it gives is the report of the desk's memory.
 use borrow.Author.Needs.{needs}
 use mir.Syntax.{w64}
 use mir.ValLaws.{toZ-ofZ}
@@ -11,15 +12,27 @@ group-position-requires : tie.Need-group-position-requires
 group-position-requires c κs =
     let orders = c .before .before .before in
     let read = orders .before .before .pre in
-    rw (orders .records .ensures, c .before .before .word .ensures, c .before .part .ensures, c .part2 .ensures) (group-bounds _ (read .held) _ (read .account))
+    rw (orders .records .ensures, c .before .before .word .ensures, c .before .part .ensures, c .part2 .ensures)
+    (group-bounds _ (read .held) _ (read .account))
 
 returns : tie.Need-returns
 returns c =
     let at = c .before .before in
     let start = at .before .before .before .before .before .before in
-    rw (toZ-ofZ w64 (c .before .weighted .result) (record { sfits = c .before .weighted .ok }), c .before .weighted .ensures, toZ-ofZ w64 (c .weighted2 .result) (record { sfits = c .weighted2 .ok }), c .weighted2 .ensures)
+    rw (
+      toZ-ofZ w64 (c .before .weighted .result) (record { sfits = c .before .weighted .ok }),
+      c .before .weighted .ensures,
+      toZ-ofZ w64 (c .weighted2 .result) (record { sfits = c .weighted2 .ok }),
+      c .weighted2 .ensures,
+    )
     (group-told _ _ (start .pre) _ (at .group-position .result)
-    (rw (← at .before .before .before .before .records .ensures, ← at .before .before .before .word .ensures, ← at .before .before .part .ensures, ← at .before .part2 .ensures) (at .group-position .ensures)))
+    (rw (
+      ← at .before .before .before .before .records .ensures,
+      ← at .before .before .before .word .ensures,
+      ← at .before .before .part .ensures,
+      ← at .before .part2 .ensures,
+    )
+    (at .group-position .ensures)))
 
 pub group-report-spec : {M : Type 1} → statement M
 group-report-spec =

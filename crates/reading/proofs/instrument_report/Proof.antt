@@ -1,3 +1,4 @@
+-- The desk is sound, so `listed_position`'s bounds hold of its parts; what it gives is the report of the desk's memory.
 use borrow.Author.Needs.{needs}
 use mir.Syntax.{w64}
 use mir.ValLaws.{toZ-ofZ}
@@ -11,15 +12,25 @@ listed-position-requires : tie.Need-listed-position-requires
 listed-position-requires c κs =
     let orders = c .before .before in
     let read = orders .before .before .pre in
-    rw (orders .records .ensures, c .before .word .ensures, c .part .ensures) (held-count _ (read .0 .held), instrument-bounds _ (read .0 .held) _ (read .0 .account) _ (read .1))
+    rw (orders .records .ensures, c .before .word .ensures, c .part .ensures)
+    (held-count _ (read .0 .held), instrument-bounds _ (read .0 .held) _ (read .0 .account) _ (read .1))
 
 returns : tie.Need-returns
 returns c =
     let at = c .before .before .before in
     let start = at .before .before .before .before .before in
-    rw (toZ-ofZ w64 (c .before .before .contracts .result) (record { sfits = c .before .before .contracts .ok }), c .before .before .contracts .ensures, toZ-ofZ w64 (c .before .contracts2 .result) (record { sfits = c .before .contracts2 .ok }), c .before .contracts2 .ensures, toZ-ofZ w64 (c .contracts3 .result) (record { sfits = c .contracts3 .ok }), c .contracts3 .ensures)
+    let first = c .before .before in
+    rw (
+      toZ-ofZ w64 (first .contracts .result) (record { sfits = first .contracts .ok }),
+      first .contracts .ensures,
+      toZ-ofZ w64 (c .before .contracts2 .result) (record { sfits = c .before .contracts2 .ok }),
+      c .before .contracts2 .ensures,
+      toZ-ofZ w64 (c .contracts3 .result) (record { sfits = c .contracts3 .ok }),
+      c .contracts3 .ensures,
+    )
     (instrument-told _ _ (start .pre .0) _ (start .pre .1) (at .listed-position .result)
-    (rw (← at .before .before .before .records .ensures, ← at .before .before .word .ensures, ← at .before .part .ensures) (at .listed-position .ensures)))
+    (rw (← at .before .before .before .records .ensures, ← at .before .before .word .ensures, ← at .before .part .ensures)
+    (at .listed-position .ensures)))
 
 pub instrument-report-spec : {M : Type 1} → statement M
 instrument-report-spec =

@@ -9,12 +9,12 @@ use Rattle.ledger.specs.Records.{orderAt}
 use Rattle.ledger.specs.Derivatives.{counted}
 
 -- what stands at a free place: an order of which nothing remains
-abbrev pub none : Order
-none = record { id = 0; account = 0; instrument = 0; side = Buy; total = 0; filled = 0 }
+abbrev pub noOrder : Order
+noOrder = record { id = 0; account = 0; instrument = 0; side = Buy; total = 0; filled = 0 }
 
 -- the order at place p
 abbrev pub orderIn : List Order → ℕ → Order
-orderIn orders p = getD orders p none
+orderIn orders p = getD orders p noOrder
 
 -- the list with the orders of the first n records at its first n places
 unfoldable pub loadedTo : List Order → List ℕ → ℕ → List Order
