@@ -40,11 +40,11 @@ fn side_byte(side: Side) -> usize
 }
 
 // TCI for Buy, TVI for Sell.
-pub fn largest_order(line: &[u8], side: Side) -> u64
+pub fn largest_order(line: &[u8], side: Side) -> Contracts
     requires { ⌜ 16 ≤ length (now line) ⌝ }
-    ensures { λ r. ⌜ r ≡ largestOrder side (lineAt (now (line .entry)) 0) ⌝ }
+    ensures { λ r. ⌜ r .0 ≡ pos (largestOrder side (lineAt (now (line .entry)) 0)) ⌝ }
 {
-    u32_at(line, side_byte(side)) as u64
+    Contracts::of(u32_at(line, side_byte(side)) as u64)
 }
 
 // LCI for Buy, LVI for Sell.
@@ -52,7 +52,7 @@ pub fn largest_position(line: &[u8], side: Side) -> Contracts
     requires { ⌜ 16 ≤ length (now line) ⌝ }
     ensures { λ r. ⌜ r .0 ≡ pos (largestPosition (wayOf side) (lineAt (now (line .entry)) 0)) ⌝ }
 {
-    Contracts(u32_at(line, 8 + side_byte(side)) as i64)
+    Contracts::of(u32_at(line, 8 + side_byte(side)) as u64)
 }
 
 // LCC for Buy, LVC for Sell.
@@ -60,5 +60,5 @@ pub fn largest_of_group(line: &[u8], side: Side) -> Contracts
     requires { ⌜ 8 ≤ length (now line) ⌝ }
     ensures { λ r. ⌜ r .0 ≡ pos (largestOfGroup (wayOf side) (groupLineAt (now (line .entry)) 0)) ⌝ }
 {
-    Contracts(u32_at(line, side_byte(side)) as i64)
+    Contracts::of(u32_at(line, side_byte(side)) as u64)
 }

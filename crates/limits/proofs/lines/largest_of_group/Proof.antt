@@ -1,9 +1,8 @@
+-- The four bytes at the side's place in the group line are its largest position.
 use mathlib.Core.Path.{_∙_, ap}
 use native.Mathlib.Omega.{arith}
 use borrow.Author.Needs.{needs}
 use lib.IntN.{pos}
-use mir.Syntax.{w64}
-use mir.ValLaws.{toZ-pos}
 use Rattle.words.specs.Fields.{u32At}
 use Rattle.limits.proofs.LinesRead.{side-below, group-figure}
 use Rattle.limits.proofs.lines.largest_of_group.Statement.{statement}
@@ -14,11 +13,18 @@ u32-at-requires c κs = omega (arith, c .side-byte .ensures, side-below (c .befo
 
 returns : tie.Need-returns
 returns c =
-    let s = c .before .before in
+    let read = c .before in
+    let s = read .before .before in
     let a = s .before .args in
-    toZ-pos w64 (c .u32-at .result) (omega (arith, c .u32-at .ok))
-    ∙ ap pos (c .u32-at .ensures ∙ ap (u32At (a .line .now)) (c .before .side-byte .ensures) ∙ group-figure (a .line .now) (λ i. s .shared-slice-known .given i .fits) (a .side))
+    let figure = group-figure (a .line .now) (λ i. s .shared-slice-known .given i .fits) (a .side) in
+    c .of .ensures ∙ ap pos (read .u32-at .ensures ∙ ap (u32At (a .line .now)) (read .before .side-byte .ensures) ∙ figure)
 
 pub largest-of-group-spec : {M : Type 1} → statement M
 largest-of-group-spec =
-    tie.close (tie.spec (λ c κs. search needs) u32-at-requires (λ c. search needs) returns)
+    tie.close
+    (tie.spec
+    (λ c κs. search needs)
+    u32-at-requires
+    (λ c. search needs)
+    (λ c κs. omega (arith, c .u32-at .ok))
+    returns)
