@@ -1,7 +1,11 @@
+-- What remains of the order that the event names counted, and nothing of it does any more.
+use mathlib.Core.Path.{refl, _∙_, ap}
+use native.Mathlib.Omega.{arith}
 use borrow.Author.Needs.{needs}
-use Rattle.working.proofs.Told.{records}
+use lib.IntN.{pos}
+use Rattle.working.proofs.Told.{records, told}
 use Rattle.working.proofs.Changing.{loadable}
-use Rattle.sums.proofs.Shifts.{cancel-shifted}
+use Rattle.sums.proofs.Shifts.{remaining-small, cancel-shifted}
 use Rattle.sums.proofs.cancelled.Statement.{statement}
 use Rattle.sums.proofs.cancelled.Tie as tie
 
@@ -10,12 +14,28 @@ load-order-requires c κs =
     let ready = c .before .pre in
     loadable _ _ _ (records _ (ready .held)) (ready .named)
 
-returns : tie.Need-returns
-returns c =
+of-requires : tie.Need-of-requires
+of-requires c κs =
     let loaded = c .before in
     let known = loaded .before in
+    let ready = known .before .pre in
+    let found = told _ (ready .held) _ (ready .accepted) in
+    let small = remaining-small _ _ _ _ (λ i. known .shared-slice-known .given i .fits) (ready .held) (loaded .load-order .ensures) found (ready .named) in
+    omega (arith, c .remaining .ensures, small)
+
+returns : tie.Need-returns
+returns c =
+    let loaded = c .before .before in
+    let known = loaded .before in
     let start = known .before in
-    cancel-shifted _ _ _ _ (λ i. known .shared-slice-known .given i .fits) (start .pre .held) (loaded .load-order .ensures) (start .pre) _ (c .remaining .ensures)
+    record {
+      before = _;
+      after = 0;
+      is-before = c .of .ensures ∙ ap pos (c .before .remaining .ensures);
+      is-after = refl;
+      shifted = cancel-shifted _ _ _ _ (λ i. known .shared-slice-known .given i .fits) (start .pre .held) (loaded .load-order .ensures) (start .pre);
+    }
 
 pub cancelled-spec : {M : Type 1} → statement M
-cancelled-spec = tie.close (tie.spec load-order-requires (λ c κs. search needs) returns)
+cancelled-spec =
+    tie.close (tie.spec load-order-requires (λ c κs. search needs) of-requires returns)
