@@ -1,5 +1,5 @@
 -- The cells after a shift: the order's own cell moves with it, and no other.
-use Prim.Native.Nat.{ℕ, _+_, _-_, _≤_, _<_}
+use Prim.Native.Nat.{ℕ, _+_, _*_, _-_, _≤_, _<_}
 use mathlib.Core.Path.{_≡_, refl, _∙_, sym, ap}
 use mathlib.Core.Logic.{_≢_}
 use mathlib.Core.List.{List}
@@ -31,6 +31,10 @@ module _ (s : Side) (a i : ℕ) (o : Order) (n : ℕ) where
 
   added-apart : ¬ Stands s a i o → addedOn n o s a i ≡ pos 0
   added-apart apart = sym (same-amount n o s a i) ∙ amount-apart one s a i o n apart
+
+-- the cell of an order, as the code counts it
+pub own-spot : (o : Order) (j : ℕ) → j ≡ cell (o .side) (o .instrument) → o .account * 64 + j ≡ ownCell row o
+own-spot o j e = rw e
 
 -- what a cell holds after a shift, counted in contracts
 pub settled : (c a b : ℕ) → b ≤ c + a → (x y : ℤ) → x ≡ pos c +ℤ pos a → y ≡ x +ℤ negℤ (pos b) → y ≡ pos (c + a - b)

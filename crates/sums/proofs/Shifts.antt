@@ -34,14 +34,14 @@ use Rattle.book.proofs.Plain.{derivatives-unit}
 use Rattle.book.proofs.Shifts.{new-shift, replace-shift, cancel-shift, fill-shift}
 use Rattle.layout.specs.View.{rosterOf, openOrders, bookOf, view}
 use Rattle.layout.specs.Judged.{judged}
-use Rattle.layout.specs.Stores.{orderIn}
+use Rattle.layout.specs.Stores.{orderIn, Records}
 use Rattle.soundness.specs.Held.{Held}
 use Rattle.soundness.proofs.Bounded.{held-readable}
 use Rattle.working.specs.Working.{Ready, worked}
 use Rattle.working.proofs.Small.{Sized}
-use Rattle.working.proofs.Told.{Found, told}
+use Rattle.working.proofs.Told.{Found, records, told}
 use Rattle.working.proofs.ViewWorked.{view-worked}
-use Rattle.working.proofs.Changing.{named-found}
+use Rattle.working.proofs.Changing.{named-found, loadable}
 use Rattle.working.proofs.Handing.{ready-as}
 use Rattle.sums.specs.declared.Shift.{Shift as ByContracts}
 use Rattle.sums.specs.Shifted.{Shifted, Shifts}
@@ -136,6 +136,9 @@ new-shifts {m} {s} {a} {i} {id} {p} {n} bytes word ready r made =
     }
 
 -- ---- the order in record p is the one that the event names
+pub named-loadable : (m : List ℕ) (id p : ℕ) → Held m → placeFrom 0 id (openOrders m) ≡ At p → Records m × (p < 256)
+named-loadable m id p held = loadable m id p (records m held)
+
 module _ (m : List ℕ) (id p : ℕ) (o : Order) (bytes : Bytes m) (held : Held m) (loaded : o ≡ orderIn m p) where
   found : placeFrom 0 id (openOrders m) ≡ At p → find id (openOrders m) ≡ some o
   found named = named-found m id p named ∙ ap some (sym loaded)
@@ -153,8 +156,8 @@ module _ (m : List ℕ) (id p : ℕ) (o : Order) (bytes : Bytes m) (held : Held 
   instrument : OrderFits (rosterOf m) o → Numbered 32 (o .instrument)
   instrument f = (f .instrument .0, omega (arith, f .instrument .1, held-readable m held .instruments))
 
-  pub remaining-small : (f : Found m id) → placeFrom 0 id (openOrders m) ≡ At p → remaining o ≤ 1000000
-  remaining-small f named = omega (arith, remaining-most o, fits f named .total .1)
+  pub remaining-small : Found m id → placeFrom 0 id (openOrders m) ≡ At p → (r : ℕ) → r ≡ remaining o → r ≤ 1000000
+  remaining-small f named r e = omega (arith, remaining-most o, fits f named .total .1)
 
   -- what counts of the order goes from x to y
   abbrev ShiftsTo : Event → ℕ → ℕ → Type 0

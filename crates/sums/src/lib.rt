@@ -60,9 +60,10 @@ fn cancelled(m: &[u8], id: u64, place: usize) -> Shift
     ensures { λ r. ⌜ Shifts r (openOrders (now (m .entry))) (openOrders (worked (now (m .entry)) (Cancel id))) ⌝ }
 {
     let o = load_order(m, place);
+    let counted = o.remaining();
     Shift {
         order: o,
-        before: Contracts::of(o.remaining()),
+        before: Contracts::of(counted),
         after: Contracts(0),
     }
 }

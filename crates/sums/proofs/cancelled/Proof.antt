@@ -3,25 +3,17 @@ use mathlib.Core.Path.{refl, _∙_, ap}
 use native.Mathlib.Omega.{arith}
 use borrow.Author.Needs.{needs}
 use lib.IntN.{pos}
-use Rattle.working.proofs.Told.{records, told}
-use Rattle.working.proofs.Changing.{loadable}
-use Rattle.sums.proofs.Shifts.{remaining-small, cancel-shifted}
+use Rattle.working.proofs.Told.{told}
+use Rattle.sums.proofs.Shifts.{named-loadable, remaining-small, cancel-shifted}
 use Rattle.sums.proofs.cancelled.Statement.{statement}
 use Rattle.sums.proofs.cancelled.Tie as tie
 
-load-order-requires : tie.Need-load-order-requires
-load-order-requires c κs =
-    let ready = c .before .pre in
-    loadable _ _ _ (records _ (ready .held)) (ready .named)
-
 of-requires : tie.Need-of-requires
 of-requires c κs =
-    let loaded = c .before in
-    let known = loaded .before in
+    let known = c .before .before in
     let ready = known .before .pre in
-    let found = told _ (ready .held) _ (ready .accepted) in
-    let small = remaining-small _ _ _ _ (λ i. known .shared-slice-known .given i .fits) (ready .held) (loaded .load-order .ensures) found (ready .named) in
-    omega (arith, c .remaining .ensures, small)
+    let t = told _ (ready .held) _ (ready .accepted) in
+    omega (arith, remaining-small _ _ _ _ (λ i. known .shared-slice-known .given i .fits) (ready .held) (c .before .load-order .ensures) t (ready .named) _ (c .remaining .ensures))
 
 returns : tie.Need-returns
 returns c =
@@ -38,4 +30,4 @@ returns c =
 
 pub cancelled-spec : {M : Type 1} → statement M
 cancelled-spec =
-    tie.close (tie.spec load-order-requires (λ c κs. search needs) of-requires returns)
+    tie.close (tie.spec (λ c κs. let ready = c .before .pre in named-loadable _ _ _ (ready .held) (ready .named)) (λ c κs. search needs) of-requires returns)

@@ -3,25 +3,17 @@ use mathlib.Core.Path.{_∙_, ap}
 use native.Mathlib.Omega.{arith}
 use borrow.Author.Needs.{needs}
 use lib.IntN.{pos, natAbs}
-use Rattle.working.proofs.Told.{records, told}
-use Rattle.working.proofs.Changing.{loadable}
-use Rattle.sums.proofs.Shifts.{remaining-small, fill-most, fill-left, fill-shifted}
+use Rattle.working.proofs.Told.{told}
+use Rattle.sums.proofs.Shifts.{named-loadable, remaining-small, fill-most, fill-left, fill-shifted}
 use Rattle.sums.proofs.filled.Statement.{statement}
 use Rattle.sums.proofs.filled.Tie as tie
 
-load-order-requires : tie.Need-load-order-requires
-load-order-requires c κs =
-    let ready = c .before .pre in
-    loadable _ _ _ (records _ (ready .held)) (ready .named)
-
 of-requires : tie.Need-of-requires
 of-requires c κs =
-    let loaded = c .before in
-    let known = loaded .before in
+    let known = c .before .before in
     let ready = known .before .pre in
     let t = told _ (ready .held) _ (ready .accepted) in
-    let small = remaining-small _ _ _ _ (λ i. known .shared-slice-known .given i .fits) (ready .held) (loaded .load-order .ensures) (t .0) (ready .named) in
-    omega (arith, c .remaining .ensures, small)
+    omega (arith, remaining-small _ _ _ _ (λ i. known .shared-slice-known .given i .fits) (ready .held) (c .before .load-order .ensures) (t .0) (ready .named) _ (c .remaining .ensures))
 
 less-requires : tie.Need-less-requires
 less-requires c κs =
@@ -30,8 +22,8 @@ less-requires c κs =
     let start = known .before in
     let t = told _ (start .pre .held) _ (start .pre .accepted) in
     let most = fill-most _ _ _ _ (λ i. known .shared-slice-known .given i .fits) (start .pre .held) (loaded .load-order .ensures) (start .pre) (start .fits .quantity) in
-    let small = remaining-small _ _ _ _ (λ i. known .shared-slice-known .given i .fits) (start .pre .held) (loaded .load-order .ensures) (t .0) (start .pre .named) in
-    omega (arith, ap natAbs (c .of .ensures), c .before .remaining .ensures, most, small)
+    let small = remaining-small _ _ _ _ (λ i. known .shared-slice-known .given i .fits) (start .pre .held) (loaded .load-order .ensures) (t .0) (start .pre .named) _ (c .before .remaining .ensures) in
+    omega (arith, ap natAbs (c .of .ensures), most, small, c .before .remaining .ensures)
 
 returns : tie.Need-returns
 returns c =
@@ -50,4 +42,4 @@ returns c =
 
 pub filled-spec : {M : Type 1} → statement M
 filled-spec =
-    tie.close (tie.spec load-order-requires (λ c κs. search needs) of-requires less-requires returns)
+    tie.close (tie.spec (λ c κs. let ready = c .before .pre in named-loadable _ _ _ (ready .held) (ready .named)) (λ c κs. search needs) of-requires less-requires returns)

@@ -9,7 +9,7 @@ use Rattle.integers.specs.Parts.{signed}
 use Rattle.positions.proofs.Gathering.{ownCell}
 use Rattle.soundness.specs.Cells.{row}
 use Rattle.soundness.proofs.Bounded.{unfilled-small}
-use Rattle.sums.proofs.Keeping.{settled, own-inside, own-small, enough, kept}
+use Rattle.sums.proofs.Keeping.{own-spot, settled, own-inside, own-small, enough, kept}
 use Rattle.sums.proofs.keep.Statement.{statement}
 use Rattle.sums.proofs.keep.Tie as tie
 
@@ -17,7 +17,7 @@ use Rattle.sums.proofs.keep.Tie as tie
 spot : (c : tie.After-cell) →
     let o = c .before .before .shift-of .result .order in
     o .account * 64 + c .cell .result ≡ ownCell row o
-spot c = rw (c .cell .ensures)
+spot c = own-spot (c .before .before .shift-of .result .order) _ (c .cell .ensures)
 
 inside : (c : tie.After-cell) → c .before .before .shift-of .result .order .account * 64 + c .cell .result < length (c .before .before .before .before .before .args .cells .now)
 inside c =

@@ -7,27 +7,19 @@ use Rattle.ledger.specs.Orders.{remaining}
 use Rattle.book.specs.declared.Event.the-variants.{Replace}
 use Rattle.layout.specs.View.{openOrders}
 use Rattle.working.specs.Working.{worked}
-use Rattle.working.proofs.Told.{records, told}
+use Rattle.working.proofs.Told.{told}
 use Rattle.working.proofs.Rooms.{cast-fits}
-use Rattle.working.proofs.Changing.{loadable}
 use Rattle.sums.specs.Shifted.{Shifted}
-use Rattle.sums.proofs.Shifts.{remaining-small, replace-shifted}
+use Rattle.sums.proofs.Shifts.{named-loadable, remaining-small, replace-shifted}
 use Rattle.sums.proofs.replaced.Statement.{statement}
 use Rattle.sums.proofs.replaced.Tie as tie
 
-load-order-requires : tie.Need-load-order-requires
-load-order-requires c κs =
-    let ready = c .before .pre in
-    loadable _ _ _ (records _ (ready .held)) (ready .named)
-
 of-requires : tie.Need-of-requires
 of-requires c κs =
-    let loaded = c .before in
-    let known = loaded .before in
+    let known = c .before .before in
     let ready = known .before .pre in
     let t = told _ (ready .held) _ (ready .accepted) in
-    let small = remaining-small _ _ _ _ (λ i. known .shared-slice-known .given i .fits) (ready .held) (loaded .load-order .ensures) (t .0) (ready .named) in
-    omega (arith, c .remaining .ensures, small)
+    omega (arith, remaining-small _ _ _ _ (λ i. known .shared-slice-known .given i .fits) (ready .held) (c .before .load-order .ensures) (t .0) (ready .named) _ (c .remaining .ensures))
 
 cast-replaced-total : tie.Need-cast-replaced-total
 cast-replaced-total c =
@@ -62,7 +54,7 @@ pub replaced-spec : {M : Type 1} → statement M
 replaced-spec =
     tie.close
     (tie.spec
-    load-order-requires
+    (λ c κs. let ready = c .before .pre in named-loadable _ _ _ (ready .held) (ready .named))
     (λ c κs. search needs)
     of-requires
     cast-replaced-total

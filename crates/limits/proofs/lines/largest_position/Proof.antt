@@ -1,35 +1,15 @@
--- The four bytes at the side's place in the line's second word are its largest position.
-use Prim.Native.Nat.{ℕ, _+_}
+-- The side's figure in the line's second word is its largest position.
 use mathlib.Core.Path.{_∙_, ap}
-use native.Mathlib.Omega.{arith}
 use borrow.Author.Needs.{needs}
 use lib.IntN.{pos}
-use Rattle.words.specs.Fields.{u32At}
-use Rattle.limits.proofs.LinesRead.{side-below, position-figure}
+use Rattle.limits.proofs.LinesRead.{position-figure}
 use Rattle.limits.proofs.lines.largest_position.Statement.{statement}
 use Rattle.limits.proofs.lines.largest_position.Tie as tie
 
-add-u32-at : tie.Need-add-u32-at
-add-u32-at c = omega (arith, c .side-byte .ensures, side-below (c .before .before .args .side))
-
-u32-at-requires : tie.Need-u32-at-requires
-u32-at-requires c κs = omega (arith, c .side-byte .ensures, side-below (c .before .before .args .side))
-
 returns : tie.Need-returns
 returns c =
-    let read = c .before in
-    let s = read .before .before in
-    let a = s .before .args in
-    let figure = position-figure (a .line .now) (λ i. s .shared-slice-known .given i .fits) (a .side) in
-    c .of .ensures ∙ ap pos (read .u32-at .ensures ∙ ap (λ (k : ℕ). u32At (a .line .now) (8 + k)) (read .before .side-byte .ensures) ∙ figure)
+    let known = c .before in
+    c .side-figure .ensures ∙ ap pos (position-figure _ (λ i. known .shared-slice-known .given i .fits) (known .before .args .side))
 
 pub largest-position-spec : {M : Type 1} → statement M
-largest-position-spec =
-    tie.close
-    (tie.spec
-    (λ c κs. search needs)
-    add-u32-at
-    u32-at-requires
-    (λ c. search needs)
-    (λ c κs. omega (arith, c .u32-at .ok))
-    returns)
+largest-position-spec = tie.close (tie.spec (λ c κs. search needs) returns)
