@@ -3,12 +3,14 @@ use Prim.Native.Nat.{ℕ, _≤_}
 use mathlib.Core.Path.{_≡_, _∙_, sym, ap}
 use mathlib.Core.List.{List}
 use native.Mathlib.Omega.{arith}
+use lib.IntN.{ℤ, pos, natAbs}
+use lib.ListN.{length}
 use Rattle.words.specs.Words.{partOf}
 use Rattle.ledger.specs.declared.order.Order.{Order}
 use Rattle.ledger.specs.Roster.{Numbered}
 use Rattle.ledger.specs.Records.{balancesIn, rosterIn}
 use Rattle.ledger.specs.Derivatives.{one}
-use Rattle.positions.specs.Gathered.{Gathered as OfAccount}
+use Rattle.positions.specs.Gathered.{Gathered}
 use Rattle.positions.proofs.Weighing.{cells-small}
 use Rattle.limits.specs.Lines.{Lines}
 use Rattle.limits.specs.Questions.{firstNo}
@@ -50,36 +52,44 @@ module _ (m : List ℕ) (after : List Order) (o : Order) where
       ∙ e
 
 -- ---- 21 to 24
-module _ (m : List ℕ) (cells : List ℕ) (o : Order) (added : ℕ) (s : Sizable m o added) (g : Sums cells (openOrders m)) where
+module _ (m : List ℕ) (cells : List ℕ) (o : Order) (z : ℤ) (n : ℕ) (s : Sizable m o n) (more : z ≡ pos n) (g : Sums cells (openOrders m)) where
   account : Numbered 16 (o .account)
   account = (s .on .account .0, omega (arith, s .on .account .1, held-readable m (s .on .held) .accounts))
 
-  own : OfAccount (cellsOf cells (o .account)) (openOrders m) (o .account)
+  own : (length (cellsOf cells (o .account)) ≡ 65) × Gathered (cellsOf cells (o .account)) 0 (openOrders m) (o .account)
   own = gathered-of cells (o .account) (openOrders m) g account
 
-  pub event-bounds : EventBounds (cellsOf cells (o .account)) (partOf m (balanceRow (o .account)) 33) (partOf m rosterWord 76) o added
+  pub event-bounds : EventBounds (cellsOf cells (o .account)) (partOf m (balanceRow (o .account)) 33) (partOf m rosterWord 76) o z
   event-bounds =
       let all = group-bounds m (s .on .held) (o .account) (s .on .account) in
       record {
         positions = record {
-          size = own .size;
-          unfilled = cells-small (cellsOf cells (o .account)) (openOrders m) (o .account) own (λ side i. omega (arith, unfilled-small m (s .on .held) side (o .account) i));
+          size = own .0;
+          unfilled = cells-small (cellsOf cells (o .account)) (openOrders m) (o .account) (own .1) (λ side i. omega (arith, unfilled-small m (s .on .held) side (o .account) i));
           balances-small = all .balances-small;
           roster-small = all .roster-small;
         };
         instrument = rw (instruments-same m) (s .on .instrument);
-        small = omega (arith, s .small);
+        small = omega (arith, s .small, ap natAbs more);
       }
 
   -- x is the answer about the desk's words and the cells
-  pub by-words : (x : ℕ) → ((ls : Lines) (before after : List Order) → OfAccount (cellsOf cells (o .account)) before (o .account) → InForce (rosterIn (partOf m rosterWord 76)) ls o (lineBytes m o) → OfGroup (rosterIn (partOf m rosterWord 76)) ls o (groupBytes m o) → Raised added o before after → x ≡ firstNo (positionQuestions one (rosterIn (partOf m rosterWord 76)) ls after (balancesIn (partOf m (balanceRow (o .account)) 33)) o)) → (after : List Order) → Raised added o (openOrders m) after → x ≡ firstNo (positionQuestions one (rosterOf m) (linesOf m (o .account)) after (balancesOf m (o .account)) o)
+  pub by-words : (x : ℕ) →
+      (let r = rosterIn (partOf m rosterWord 76) in
+      (ls : Lines) (k : ℕ) (before after : List Order) → z ≡ pos k →
+      Gathered (cellsOf cells (o .account)) 0 before (o .account) →
+      InForce r ls o (lineBytes m o) → OfGroup r ls o (groupBytes m o) → Raised k o before after →
+      x ≡ firstNo (positionQuestions one r ls after (balancesIn (partOf m (balanceRow (o .account)) 33)) o)) →
+      (after : List Order) → Raised n o (openOrders m) after →
+      x ≡ firstNo (positionQuestions one (rosterOf m) (linesOf m (o .account)) after (balancesOf m (o .account)) o)
   by-words x answer after raised =
       let on = s .on in
       let ls = linesOf m (o .account) in
       let r = rosterIn (partOf m rosterWord 76) in
       let contract = contract-same m (o .instrument) (on .instrument) in
-      answer ls (openOrders m) after
-      own
+      answer ls n (openOrders m) after
+      more
+      (own .1)
       (rw (← same-in-force ls o (rosterOf m) r contract) (line-in-force m o on (s .set)))
       (rw (← group-same m (on .held) (o .instrument) (on .instrument)) (line-of-group m o on (s .set)))
       raised

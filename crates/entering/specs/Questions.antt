@@ -34,8 +34,9 @@ pub record OnRoster (m : List ℕ) (o : Order) : Type 0 where
   pub account : Numbered (rosterOf m .accounts) (o .account)
   pub instrument : Numbered (rosterOf m .instruments) (o .instrument)
 
--- with a line in force and a group line, and no more added than any total
+-- with a line in force and a group line, a total in range and no more added than any total
 pub record Sizable (m : List ℕ) (o : Order) (added : ℕ) : Type 0 where
   pub on : OnRoster m o
   pub set : limitsSet (rosterOf m) (linesOf m (o .account)) o ≡ true
+  pub total : o .total ≤ 1000000
   pub small : added ≤ 1000000

@@ -4,6 +4,7 @@ ghost use mathlib.Core.Path.{_≡_};
 ghost use mathlib.Core.List.{List};
 ghost use Prim.Native.Nat.{_≤_};
 ghost use lib.ListN.{length};
+ghost use lib.IntN.{pos, natAbs};
 ghost use Rattle.ledger.specs.declared.order.Order.{Order};
 ghost use Rattle.ledger.specs.Roster.{Numbered};
 ghost use Rattle.ledger.specs.Derivatives.{one};
@@ -32,6 +33,7 @@ use layout::table::OWN_LINES;
 use layout::table::OWN_SET;
 use layout::table::ROSTER;
 use ledger::order::Order;
+use ledger::units::Contracts;
 use limits::lines::line_in_force;
 use limits::questions::Existence;
 use limits::questions::SizeAnswer;
@@ -135,16 +137,23 @@ fn positions_of(
     m: &[u8],
     cells: &[u64],
     o: Order,
-    added: u64,
+    added: Contracts,
     line: &[u8],
     contract: usize,
 ) -> Answer
-    requires { ⌜ Sizable (now m) o added × Sums (now cells) (openOrders (now m)) × ContractOf (now m) (o .instrument) contract × (now line ≡ lineBytes (now m) o) ⌝ }
+    requires { ⌜
+        Sizable (now m) o (natAbs (added .0))
+        × (added .0 ≡ pos (natAbs (added .0)))
+        × Sums (now cells) (openOrders (now m))
+        × ContractOf (now m) (o .instrument) contract
+        × (now line ≡ lineBytes (now m) o)
+        ⌝ }
     ensures { λ r. ⌜
         ((after : List Order) →
-        Raised added o (openOrders (now (m .entry))) after →
+        Raised (natAbs (added .0)) o (openOrders (now (m .entry))) after →
         numberOf r
-        ≡ firstNo (positionQuestions one (rosterOf (now (m .entry))) (linesOf (now (m .entry)) (o .account)) after (balancesOf (now (m .entry)) (o .account)) o))
+        ≡ firstNo (positionQuestions one (rosterOf (now (m .entry))) (linesOf (now (m .entry)) (o .account)) after
+        (balancesOf (now (m .entry)) (o .account)) o))
         ⌝ }
 {
     let account = o.account as usize;
@@ -169,8 +178,8 @@ pub fn within_limits(m: &[u8], cells: &[u64], o: Order, added: u64) -> Answer
     let contract = contract_of(m, o.instrument as usize);
     let line = line_of(m, o, contract);
     let side = o.side;
-    match order_size(line, side, o.total) {
-        SizeAnswer::Fits => positions_of(m, cells, o, added, line, contract),
+    match order_size(line, side, Contracts::of(o.total)) {
+        SizeAnswer::Fits => positions_of(m, cells, o, Contracts::of(added), line, contract),
         SizeAnswer::BuyTooLarge => Answer::BuyTooLarge,
         SizeAnswer::SellTooLarge => Answer::SellTooLarge,
     }

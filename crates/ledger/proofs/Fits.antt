@@ -1,11 +1,11 @@
--- What the machine does with signed numbers of bounded magnitude: a sum, a negation and a product fit, and are read back as themselves.
+-- What the machine does with signed numbers of bounded magnitude: a sum, a difference, a negation and a product fit, and are read back as themselves.
 use Prim.Native.Nat.{_+_, _≤_}
 use mathlib.Core.Path.{_≡_}
 use lib.IntN.{ℤ, pos, negℤ, natAbs, _+ℤ_, _-ℤ_, _*ℤ_, +ℤ-idl}
 use mir.Syntax.{w64}
 use mir.Val.{SFits, toZ, ofZ}
 use mir.ValLaws.{toZ-ofZ}
-use Rattle.integers.specs.Magnitude.{sized, magnitude-sum, magnitude-negation, magnitude-product-≤}
+use Rattle.integers.specs.Magnitude.{sized, magnitude-sum, magnitude-difference, magnitude-negation, magnitude-product-≤}
 
 -- the bits of a signed number, read again
 abbrev pub again : ℤ → ℤ
@@ -21,6 +21,14 @@ module _ (x y : ℤ) (h : natAbs x + natAbs y ≤ 9000000000000000000) where
   pub sum-again : again (again x +ℤ again y) ≡ x +ℤ y
   sum-again =
       simp (toZ-ofZ w64 x (omega sized), toZ-ofZ w64 y (omega sized), toZ-ofZ w64 (x +ℤ y) (omega (sized, magnitude-sum x y)))
+
+  pub difference-fits : SFits w64 (again x -ℤ again y)
+  difference-fits =
+      simp (toZ-ofZ w64 x (omega sized), toZ-ofZ w64 y (omega sized)) (omega (sized, magnitude-difference x y))
+
+  pub difference-again : again (again x -ℤ again y) ≡ x +ℤ negℤ y
+  difference-again =
+      simp (toZ-ofZ w64 x (omega sized), toZ-ofZ w64 y (omega sized), toZ-ofZ w64 (x -ℤ y) (omega (sized, magnitude-difference x y)))
 
 module _ (x : ℤ) (h : natAbs x ≤ 9000000000000000000) where
   pub negation-fits : SFits w64 (pos 0 -ℤ again x)

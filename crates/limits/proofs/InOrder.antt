@@ -1,5 +1,5 @@
 -- The first no of each table, by the tests that the code makes.
-use Prim.Native.Nat.{ℕ, _≤_, _<_}
+use Prim.Native.Nat.{ℕ}
 use mathlib.Core.Path.{_≡_, refl, ap, _∙_}
 use mathlib.Core.Logic.{_≢_}
 use mathlib.Core.Bool.{Bool, true, false, not, _&&_, _||_, cond}
@@ -9,7 +9,7 @@ use native.Mathlib.Nat.{one-mul}
 use lib.Dec.{leb}
 use lib.IntN.{ℤ, pos, negsuc, natAbs, _+ℤ_, _*ℤ_}
 use lib.Signed.{leZ}
-use borrow.Author.Tests.{eq-eqb, ne-eqb, le-leb, lt-leb}
+use borrow.Author.Tests.{eq-eqb, ne-eqb}
 use Rattle.ledger.specs.declared.order.Order.{Order}
 use Rattle.ledger.specs.declared.order.Side.{Side}
 use Rattle.ledger.specs.declared.order.Side.the-variants.{Buy, Sell}
@@ -51,20 +51,20 @@ existence r ls o own default ofGroup sets =
     rw (either, sets .own, sets .default, sets .of-group) (group-first (saysSet own || saysSet default) (saysSet ofGroup))
 
 -- ---- 19 and 20
-module _ (r : Roster) (ls : Lines) (o : Order) (line : List ℕ) (s : Side) (total most : ℕ) (in-force : InForce r ls o line) (side : o .side ≡ s) (whole : o .total ≡ total) (figure : most ≡ largestOrder s (lineAt line 0)) where
-  by-size : firstNo (sizeQuestions one r ls o) ≡ cond (leb total most) 0 (orderNumber s)
+module _ (r : Roster) (ls : Lines) (o : Order) (line : List ℕ) (s : Side) (total most : ℤ) (in-force : InForce r ls o line)
+    (side : o .side ≡ s) (whole : pos (o .total) ≡ total) (figure : most ≡ pos (largestOrder s (lineAt line 0))) where
+  pub by-size : (t : Bool) → leZ total most ≡ t → firstNo (sizeQuestions one r ls o) ≡ cond t 0 (orderNumber s)
   unfolding firstNo sizeQuestions sizeFits one
-  by-size = rw (side, whole, in-force, one-mul, figure) (by s)
+  by-size t e = rw (← e, ← whole, figure, side, in-force, one-mul) (by s)
     where
-      by : (s : Side) → cond (not (sameSide s Buy) || leb total (largestOrder Buy (lineAt line 0))) (cond (not (sameSide s Sell) || leb total (largestOrder Sell (lineAt line 0))) 0 20) 19 ≡ cond (leb total (largestOrder s (lineAt line 0))) 0 (orderNumber s)
+      asked : Side → Bool
+      asked s = leb (o .total) (largestOrder s (lineAt line 0))
+
+      by : (s : Side) →
+          cond (not (sameSide s Buy) || asked Buy) (cond (not (sameSide s Sell) || asked Sell) 0 20) 19
+          ≡ cond (asked s) 0 (orderNumber s)
       by Buy = refl
       by Sell = refl
-
-  pub fits : total ≤ most → firstNo (sizeQuestions one r ls o) ≡ 0
-  fits h = by-size ∙ simp (le-leb total most h)
-
-  pub too-large : most < total → firstNo (sizeQuestions one r ls o) ≡ orderNumber s
-  too-large h = by-size ∙ simp (lt-leb total most h)
 
 -- ---- 21 to 24
 -- an order that moves its instrument to side w and, unless its weight is zero, its group to side v

@@ -28,7 +28,7 @@ side-below Buy = omega arith
 side-below Sell = omega arith
 
 module _ (m : List ℕ) (bytes : Bytes m) where
-  pub order-figure : (s : Side) → u32At m (sideByte s) ≡ largestOrder s (lineAt m 0)
+  pub order-figure : (s : Side) → u32At m (0 + sideByte s) ≡ largestOrder s (lineAt m 0)
   unfolding lineAt
   order-figure Buy = lower-field m 0 bytes
   order-figure Sell = upper-field m 0 bytes
@@ -38,7 +38,7 @@ module _ (m : List ℕ) (bytes : Bytes m) where
   position-figure Buy = lower-field m 1 bytes
   position-figure Sell = upper-field m 1 bytes
 
-  pub group-figure : (s : Side) → u32At m (sideByte s) ≡ largestOfGroup (wayOf s) (groupLineAt m 0)
+  pub group-figure : (s : Side) → u32At m (0 + sideByte s) ≡ largestOfGroup (wayOf s) (groupLineAt m 0)
   unfolding groupLineAt
   group-figure Buy = lower-field m 0 bytes
   group-figure Sell = upper-field m 0 bytes

@@ -19,12 +19,12 @@ use Rattle.positions.proofs.Weighing.{by-cells-potential, sum-small, sum-potent
 use Rattle.limits.specs.Bounds.{EventBounds}
 
 -- PCI or PVI by what is open on the order's side and n more
-pub with-more : (cells : List ℕ) (S : ℕ → ℤ) (i : ℕ) (s : Side) (n : ℕ) → toward (wayOf s) (S i) +ℤ (pos (getD cells (cell s i) 0) +ℤ pos n) ≡ byCells cells S i (wayOf s) +ℤ pos n
+pub with-more : (cells : List ℕ) (S : ℕ → ℤ) (i : ℕ) (s : Side) (n : ℤ) → toward (wayOf s) (S i) +ℤ (pos (getD cells (cell s i) 0) +ℤ n) ≡ byCells cells S i (wayOf s) +ℤ n
 unfolding byCells
-with-more cells S i s n = rw (side-back s) (sym (+ℤ-assoc (toward (wayOf s) (S i)) (pos (getD cells (cell s i) 0)) (pos n)))
+with-more cells S i s n = rw (side-back s) (sym (+ℤ-assoc (toward (wayOf s) (S i)) (pos (getD cells (cell s i) 0)) n))
 
 module _ (cells balances roster : List ℕ) where
-  pub instrument-bounds : (o : Order) (n : ℕ) → EventBounds cells balances roster o n → CellBounds cells balances (o .instrument)
+  pub instrument-bounds : (o : Order) (n : ℤ) → EventBounds cells balances roster o n → CellBounds cells balances (o .instrument)
   instrument-bounds o n bounds =
       let all = bounds .positions in
       let numbered : Numbered 32 (o .instrument) = (bounds .instrument .0, omega (arith, bounds .instrument .1, all .roster-small .instruments)) in
@@ -35,7 +35,7 @@ module _ (cells balances roster : List ℕ) where
       sum-small cells (balancesIn balances) (rosterIn roster) g w (rosterIn roster .instruments) (bounds .roster-small .instruments) (bounds .roster-small .weight) (bounds .balances-small .balance) (bounds .unfilled)
 
   -- where the cells hold B and V, the positions are those that the orders give
-  module _ (before : List Order) (o : Order) (n : ℕ) (bounds : EventBounds cells balances roster o n) (gathered : Gathered cells before (o .account)) (w : Way) (x : ℤ) where
+  module _ (before : List Order) (o : Order) (n : ℤ) (bounds : EventBounds cells balances roster o n) (gathered : Gathered cells 0 before (o .account)) (w : Way) (x : ℤ) where
     pub of-orders : (y : ℤ) → y ≡ byCells cells (balancesIn balances) (o .instrument) w +ℤ x → y ≡ ofInstrument one before (o .account) (balancesIn balances) (o .instrument) w +ℤ x
     of-orders y e =
         e
@@ -46,5 +46,5 @@ module _ (cells balances roster : List ℕ) where
         e
         ∙ ap (λ (z : ℤ). z +ℤ x) (sum-potential cells (balancesIn balances) (rosterIn roster) g w before (o .account) gathered (bounds .positions .roster-small .instruments) (sumByCells cells (balancesIn balances) (rosterIn roster) g (rosterIn roster .instruments) w) refl)
 
-pub rise-room : (k n : ℕ) → k ≤ 1000000 → n ≤ 1000000000 → natAbs (pos k *ℤ pos n) ≤ 1000000000000000
-rise-room k n h l = magnitude-product-≤ (pos k) (pos n) 1000000 1000000000 h l
+pub rise-room : (k : ℕ) (n : ℤ) → k ≤ 1000000 → natAbs n ≤ 1000000000 → natAbs (pos k *ℤ n) ≤ 1000000000000000
+rise-room k n h l = magnitude-product-≤ (pos k) n 1000000 1000000000 h l

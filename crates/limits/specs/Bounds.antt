@@ -3,6 +3,7 @@ use Prim.Native.Nat.{ℕ, _≤_}
 use mathlib.Core.Path.{_≡_}
 use mathlib.Core.List.{List}
 use mathlib.Core.Option.{some}
+use lib.IntN.{ℤ, natAbs}
 use Rattle.ledger.specs.declared.order.Order.{Order}
 use Rattle.ledger.specs.Roster.{Roster, Numbered, groupOfInstrument}
 use Rattle.ledger.specs.Records.{rosterIn}
@@ -12,10 +13,10 @@ use Rattle.limits.specs.InBytes.{lineAt, groupLineAt, saysSet}
 
 -- ---- what is there, and how large
 -- for an event that adds `added` contracts to what remains of order o
-pub record EventBounds (cells balances roster : List ℕ) (o : Order) (added : ℕ) : Type 0 where
+pub record EventBounds (cells balances roster : List ℕ) (o : Order) (added : ℤ) : Type 0 where
   pub positions : WeighBounds cells balances roster
   pub instrument : Numbered (rosterIn roster .instruments) (o .instrument)
-  pub small : added ≤ 1000000000
+  pub small : natAbs added ≤ 1000000000
 
 -- ---- which lines
 -- the set words of the lines that question 17 asks for

@@ -3,6 +3,7 @@ ghost use mathlib.Core.Path.{_≡_};
 ghost use Prim.Native.Nat.{_+_, _*_, _≤_};
 ghost use lib.ListN.{length};
 ghost use lib.IntN.{pos};
+ghost use Rattle.words.specs.Fields.{u32At};
 ghost use Rattle.ledger.specs.Positions.{wayOf};
 ghost use Rattle.limits.specs.Lines.{largestOrder, largestPosition, largestOfGroup};
 ghost use Rattle.limits.specs.InBytes.{lineAt, groupLineAt, sideByte, linePart};
@@ -39,12 +40,20 @@ fn side_byte(side: Side) -> usize
     }
 }
 
-// TCI for Buy, TVI for Sell.
-pub fn largest_order(line: &[u8], side: Side) -> u64
-    requires { ⌜ 16 ≤ length (now line) ⌝ }
-    ensures { λ r. ⌜ r ≡ largestOrder side (lineAt (now (line .entry)) 0) ⌝ }
+// A side's figure in the word that starts at byte `first`.
+fn side_figure(line: &[u8], first: usize, side: Side) -> Contracts
+    requires { ⌜ (first ≤ 8) × (first + 8 ≤ length (now line)) ⌝ }
+    ensures { λ r. ⌜ r .0 ≡ pos (u32At (now (line .entry)) (first + sideByte side)) ⌝ }
 {
-    u32_at(line, side_byte(side)) as u64
+    Contracts::of(u32_at(line, first + side_byte(side)) as u64)
+}
+
+// TCI for Buy, TVI for Sell.
+pub fn largest_order(line: &[u8], side: Side) -> Contracts
+    requires { ⌜ 16 ≤ length (now line) ⌝ }
+    ensures { λ r. ⌜ r .0 ≡ pos (largestOrder side (lineAt (now (line .entry)) 0)) ⌝ }
+{
+    side_figure(line, 0, side)
 }
 
 // LCI for Buy, LVI for Sell.
@@ -52,7 +61,7 @@ pub fn largest_position(line: &[u8], side: Side) -> Contracts
     requires { ⌜ 16 ≤ length (now line) ⌝ }
     ensures { λ r. ⌜ r .0 ≡ pos (largestPosition (wayOf side) (lineAt (now (line .entry)) 0)) ⌝ }
 {
-    Contracts(u32_at(line, 8 + side_byte(side)) as i64)
+    side_figure(line, 8, side)
 }
 
 // LCC for Buy, LVC for Sell.
@@ -60,5 +69,5 @@ pub fn largest_of_group(line: &[u8], side: Side) -> Contracts
     requires { ⌜ 8 ≤ length (now line) ⌝ }
     ensures { λ r. ⌜ r .0 ≡ pos (largestOfGroup (wayOf side) (groupLineAt (now (line .entry)) 0)) ⌝ }
 {
-    Contracts(u32_at(line, side_byte(side)) as i64)
+    side_figure(line, 0, side)
 }

@@ -2,6 +2,7 @@
 ghost use mathlib.Core.Path.{_≡_};
 ghost use Prim.Native.Nat.{_≤_};
 ghost use lib.ListN.{length};
+ghost use lib.IntN.{pos};
 ghost use Rattle.ledger.specs.declared.order.Order.{Order};
 ghost use Rattle.ledger.specs.Roster.{Roster};
 ghost use Rattle.ledger.specs.Derivatives.{one};
@@ -11,6 +12,7 @@ ghost use Rattle.limits.specs.Numbers.{existenceNumber, existenceQuestio
 ghost use Rattle.limits.specs.Bounds.{SetWords, InForce};
 use crate::lines::largest_order;
 use ledger::order::Side;
+use ledger::units::Contracts;
 
 // Question 17.
 pub enum Existence {
@@ -47,17 +49,17 @@ pub fn limits_exist(own: u64, default: u64, group: u64) -> Existence
 }
 
 // 19 and 20: is the total at most TCI, or TVI? `line` is the line in force.
-pub fn order_size(line: &[u8], side: Side, total: u64) -> SizeAnswer
+pub fn order_size(line: &[u8], side: Side, total: Contracts) -> SizeAnswer
     requires { ⌜ 16 ≤ length (now line) ⌝ }
     ensures { λ a. ⌜
         ((r : Roster) (ls : Lines) (o : Order) →
         InForce r ls o (now (line .entry)) →
         o .side ≡ side →
-        o .total ≡ total →
+        pos (o .total) ≡ total .0 →
         sizeNumber a ≡ firstNo (sizeQuestions one r ls o))
         ⌝ }
 {
-    if total <= largest_order(line, side) {
+    if total.at_most(largest_order(line, side)) {
         return SizeAnswer::Fits;
     }
     match side {

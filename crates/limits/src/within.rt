@@ -2,7 +2,7 @@
 // A side of a position is named by the orders that move an instrument there: Buy long, Sell short.
 ghost use mathlib.Core.Path.{_≡_};
 ghost use mathlib.Core.List.{List};
-ghost use Prim.Native.Nat.{_≤_};
+ghost use Prim.Native.Nat.{ℕ, _≤_};
 ghost use lib.IntN.{pos, natAbs, _+ℤ_, _*ℤ_};
 ghost use lib.ListN.{length};
 ghost use Rattle.ledger.specs.Roster.{groupOfInstrument};
@@ -88,14 +88,14 @@ fn on_side(side: Side, at: GroupPosition) -> Weighted
 }
 
 // PCI for Buy, PVI for Sell, of the order's account and instrument, with `added` more contracts of the order open.
-fn instrument_with(cells: &[u64], balances: &[u8], o: Order, added: u64) -> Contracts
-    requires { ⌜ CellBounds (now cells) (now balances) (o .instrument) × (added ≤ 1000000000) ⌝ }
-    ensures { λ r. ⌜ r .0 ≡ byCells (now (cells .entry)) (balancesIn (now (balances .entry))) (o .instrument) (wayOf (o .side)) +ℤ pos added ⌝ }
+fn instrument_with(cells: &[u64], balances: &[u8], o: Order, added: Contracts) -> Contracts
+    requires { ⌜ CellBounds (now cells) (now balances) (o .instrument) × (natAbs (added .0) ≤ 1000000000) ⌝ }
+    ensures { λ r. ⌜ r .0 ≡ byCells (now (cells .entry)) (balancesIn (now (balances .entry))) (o .instrument) (wayOf (o .side)) +ℤ added .0 ⌝ }
 {
     let side = o.side;
     let balance = Contracts(signed_word(balances, o.instrument as usize));
-    let before = Contracts(cells[cell(side, o.instrument)] as i64);
-    potential(side, balance, before.plus(Contracts(added as i64)))
+    let before = Contracts::of(cells[cell(side, o.instrument)]);
+    potential(side, balance, before.plus(added))
 }
 
 // PCC for `to` Buy, PVC for Sell, of the order's account and group, with `added` more contracts of weight K on that side.
@@ -104,22 +104,22 @@ fn group_with(
     balances: &[u8],
     roster: &[u8],
     o: Order,
-    added: u64,
+    added: Contracts,
     weight: i64,
     to: Side,
 ) -> Weighted
-    requires { ⌜ EventBounds (now cells) (now balances) (now roster) o added × (natAbs weight ≤ 1000000) ⌝ }
+    requires { ⌜ EventBounds (now cells) (now balances) (now roster) o (added .0) × (natAbs weight ≤ 1000000) ⌝ }
     ensures { λ r. ⌜
         (let desk = rosterIn (now (roster .entry)) in
         r .0
         ≡ sumByCells (now (cells .entry)) (balancesIn (now (balances .entry))) desk (groupOfInstrument desk (o .instrument)) (desk .instruments) (wayOf to)
-        +ℤ pos (natAbs weight) *ℤ pos added)
+        +ℤ pos (natAbs weight) *ℤ added .0)
         ⌝ }
 {
     let contract = word(roster, 11 + o.instrument as usize) as usize;
     let group = word(roster, 3 + contract);
     let before = weigh(cells, balances, roster, group);
-    let rise = Contracts(added as i64).times(magnitude(weight));
+    let rise = added.times(magnitude(weight));
     on_side(to, before).plus(rise)
 }
 
@@ -132,16 +132,17 @@ pub fn positions_within(
     line: &[u8],
     group: &[u8],
     o: Order,
-    added: u64,
+    added: Contracts,
 ) -> PositionAnswer
-    requires { ⌜ EventBounds (now cells) (now balances) (now roster) o added × (16 ≤ length (now line)) × (8 ≤ length (now group)) ⌝ }
+    requires { ⌜ EventBounds (now cells) (now balances) (now roster) o (added .0) × (16 ≤ length (now line)) × (8 ≤ length (now group)) ⌝ }
     ensures { λ a. ⌜
         (let r = rosterIn (now (roster .entry)) in
-        (ls : Lines) (before after : List Order) →
-        Gathered (now (cells .entry)) before (o .account) →
+        (ls : Lines) (n : ℕ) (before after : List Order) →
+        added .0 ≡ pos n →
+        Gathered (now (cells .entry)) 0 before (o .account) →
         InForce r ls o (now (line .entry)) →
         OfGroup r ls o (now (group .entry)) →
-        Raised added o before after →
+        Raised n o before after →
         positionNumber a ≡ firstNo (positionQuestions one r ls after (balancesIn (now (balances .entry))) o))
         ⌝ }
 {

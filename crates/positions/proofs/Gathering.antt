@@ -1,4 +1,4 @@
--- The cells in which B and V are gathered, order by order.
+-- The cells in which B and V are gathered, order by order: of one account, or of each account in a row of its own.
 use Prim.Native.Nat.{ℕ, zero, suc, _+_, _≤_, _<_}
 use mathlib.Core.Path.{_≡_, refl, _∙_, sym, ap}
 use mathlib.Core.Logic.{_≢_}
@@ -9,7 +9,6 @@ use native.Mathlib.Omega.{arith}
 use lib.ListN.{length, getD, set, replicate, length-set}
 use lib.Seq.{getD-set-same, getD-set-other}
 use lib.IntN.{pos, _+ℤ_, +ℤ-idl}
-use borrow.Author.Tests.{eq-eqb, ne-eqb}
 use Rattle.ledger.specs.declared.order.Order.{Order}
 use Rattle.ledger.specs.declared.order.Side.{Side}
 use Rattle.ledger.specs.declared.order.Side.the-variants.{Buy, Sell}
@@ -22,11 +21,15 @@ use Rattle.positions.specs.Gathered.{cell, added, Gathered}
 use Rattle.positions.specs.Bounds.{GatherBounds}
 use Rattle.positions.proofs.Counting.{counted-other-account, counted-other-instrument, counted-other-side, counted-own, left, counted-more, counted-all, counted-small}
 
+pub cell-numbered : (s : Side) (i : ℕ) → Numbered 32 i → Numbered 64 (cell s i)
+cell-numbered Buy i h = omega arith
+cell-numbered Sell i h = omega arith
+
 pub cell-inside : (s : Side) (i : ℕ) → i ≤ 32 → cell s i < 65
 cell-inside Buy i h = omega arith
 cell-inside Sell i h = omega arith
 
-pub same-itself : (s : Side) → sameSide s s ≡ true
+same-itself : (s : Side) → sameSide s s ≡ true
 same-itself Buy = refl
 same-itself Sell = refl
 
@@ -36,90 +39,156 @@ empty-at zero j = refl
 empty-at (suc n) zero = refl
 empty-at (suc n) (suc j) = empty-at n j
 
--- ---- one order
-module _ (cells : List ℕ) (o : Order) (a : ℕ) where
-  pub counted-itself : o .account ≡ a → counted o (o .side) a (o .instrument) ≡ remaining o
-  counted-itself own = counted-own o (o .side) a (o .instrument) own refl (same-itself (o .side))
-
-  pub added-own : (j r : ℕ) → o .account ≡ a → j ≡ cell (o .side) (o .instrument) → r ≡ remaining o → set cells j (getD cells j 0 + r) ≡ added cells o a
+-- ---- one cell
+module _ (cells : List ℕ) (j n : ℕ) where
+  pub added-length : length (added cells j n) ≡ length cells
   unfolding added
-  added-own j r own e f = rw (eq-eqb (o .account) a own, e, f)
+  added-length = length-set cells j (getD cells j 0 + n)
 
-  pub added-other : o .account ≢ a → cells ≡ added cells o a
+  pub added-same : j < length cells → getD (added cells j n) j 0 ≡ getD cells j 0 + n
   unfolding added
-  added-other other = rw (ne-eqb (o .account) a other)
+  added-same h = getD-set-same cells j (getD cells j 0 + n) 0 h
 
-  added-length : Dec (o .account ≡ a) → length (added cells o a) ≡ length cells
-  added-length (yes own) = rw (← added-own (cell (o .side) (o .instrument)) (remaining o) own refl refl, length-set)
-  added-length (no other) = rw (← added-other other)
+  pub added-other : (k : ℕ) → k ≢ j → getD (added cells j n) k 0 ≡ getD cells k 0
+  unfolding added
+  added-other k apart = getD-set-other cells j k (getD cells j 0 + n) 0 apart
 
-  -- another cell is another side's or another instrument's
-  counted-elsewhere : (s : Side) (i : ℕ) → cell s i ≢ cell (o .side) (o .instrument) → counted o s a i ≡ 0
-  counted-elsewhere s i apart = by (ℕ-discrete (o .instrument) i) s (o .side) refl apart
+  -- no cell grows by more than n
+  pub added-small : (most more : ℕ) → j < length cells → ((k : ℕ) → getD cells k 0 ≤ most) → n ≤ more → (k : ℕ) →
+      getD (added cells j n) k 0 ≤ most + more
+  added-small most more inside small few k = by (ℕ-discrete k j)
     where
-      by : Dec (o .instrument ≡ i) → (s t : Side) → o .side ≡ t → cell s i ≢ cell t (o .instrument) → counted o s a i ≡ 0
-      by (no other) s t e apart = counted-other-instrument o s a i other
-      by (yes same) Buy Buy e apart = absurd (apart (sym same))
-      by (yes same) Sell Sell e apart = absurd (apart (ap (λ (k : ℕ). 32 + k) (sym same)))
-      by (yes same) Buy Sell e apart = counted-other-side o Buy a i (rw e)
-      by (yes same) Sell Buy e apart = counted-other-side o Sell a i (rw e)
+      by : Dec (k ≡ j) → getD (added cells j n) k 0 ≤ most + more
+      by (yes e) = rw e (omega (arith, added-same inside, small j))
+      by (no apart) = omega (arith, added-other k apart, small k)
 
-  same-cell : (s t : Side) (i k : ℕ) → Numbered 32 i → Numbered 32 k → cell s i ≡ cell t k → (s ≡ t) × (i ≡ k)
-  same-cell Buy Buy i k h l e = (refl, e)
-  same-cell Sell Sell i k h l e = (refl, omega arith)
-  same-cell Buy Sell i k h l e = absurd (omega arith)
-  same-cell Sell Buy i k h l e = absurd (omega arith)
+-- ---- the accounts that are gathered, and the first cell of each: their rows do not meet
+pub record Rows (of : ℕ → Type 0) (first : ℕ → ℕ) : Type 1 where
+  pub apart : (a b j k : ℕ) → of a → of b → Numbered 64 j → Numbered 64 k → first a + j ≡ first b + k → a ≡ b
 
-  -- each cell grows by what the order counts for there
-  pub added-at : length cells ≡ 65 → Numbered 32 (o .instrument) → (s : Side) (i : ℕ) → Numbered 32 i → getD (added cells o a) (cell s i) 0 ≡ getD cells (cell s i) 0 + counted o s a i
-  added-at size inside s i numbered = by-account (ℕ-discrete (o .account) a)
+-- the cell of an order
+abbrev pub ownCell : (ℕ → ℕ) → Order → ℕ
+ownCell first o = first (o .account) + cell (o .side) (o .instrument)
+
+-- the cells of one account alone
+pub one-row : (a : ℕ) → Rows (λ b. b ≡ a) (λ b. 0)
+one-row a = record { apart = λ b c j k h l u v e. h ∙ sym l }
+
+module _ (of : ℕ → Type 0) (first : ℕ → ℕ) (rows : Rows of first) where
+  pub same-cell : (s t : Side) (a i b k : ℕ) → of a → Numbered 32 i → of b → Numbered 32 k → first a + cell s i ≡ first b + cell t k →
+      (s ≡ t) × (a ≡ b) × (i ≡ k)
+  same-cell s t a i b k u h v l e =
+      let same : a ≡ b = rows .apart a b (cell s i) (cell t k) u v (cell-numbered s i h) (cell-numbered t k l) e in
+      let row : first a ≡ first b = ap first same in
+      let both = by s t (omega arith) in
+      (both .0, same, both .1)
     where
-      j : ℕ
-      j = cell (o .side) (o .instrument)
+      by : (s t : Side) → cell s i ≡ cell t k → (s ≡ t) × (i ≡ k)
+      by Buy Buy e = (refl, e)
+      by Sell Sell e = (refl, omega arith)
+      by Buy Sell e = absurd (omega arith)
+      by Sell Buy e = absurd (omega arith)
 
-      by-cell : o .account ≡ a → Dec (cell s i ≡ j) → getD (set cells j (getD cells j 0 + remaining o)) (cell s i) 0 ≡ getD cells (cell s i) 0 + counted o s a i
-      by-cell own (yes e) =
-          let same : (s ≡ o .side) × (i ≡ o .instrument) = same-cell s (o .side) i (o .instrument) numbered inside e in
-          let within : j < length cells = omega (arith, cell-inside (o .side) (o .instrument) (inside .1)) in
-          rw (same .0, same .1, counted-itself own) (getD-set-same cells j (getD cells j 0 + remaining o) 0 within)
-      by-cell own (no apart) =
-          getD-set-other cells j (cell s i) (getD cells j 0 + remaining o) 0 apart
-          ∙ omega (arith, counted-elsewhere s i apart)
+  -- ---- one order
+  module _ (cells : List ℕ) (o : Order) (account : of (o .account)) (instrument : Numbered 32 (o .instrument)) where
+    abbrev own : ℕ
+    own = ownCell first o
 
-      by-account : Dec (o .account ≡ a) → getD (added cells o a) (cell s i) 0 ≡ getD cells (cell s i) 0 + counted o s a i
-      by-account (yes own) = rw (← added-own j (remaining o) own refl refl) (by-cell own (ℕ-discrete (cell s i) j))
-      by-account (no other) = rw (← added-other other) (omega (arith, counted-other-account o s a i other))
+    -- another cell is another side's, account's or instrument's
+    elsewhere : (s : Side) (a i : ℕ) → first a + cell s i ≢ own → counted o s a i ≡ 0
+    elsewhere s a i apart = by (ℕ-discrete (o .account) a) (ℕ-discrete (o .instrument) i) s (o .side) refl apart
+      where
+        by : Dec (o .account ≡ a) → Dec (o .instrument ≡ i) → (s t : Side) → o .side ≡ t →
+            first a + cell s i ≢ first (o .account) + cell t (o .instrument) → counted o s a i ≡ 0
+        by (no other) d s t e apart = counted-other-account o s a i other
+        by (yes same) (no other) s t e apart = counted-other-instrument o s a i other
+        by (yes f) (yes g) Buy Buy e apart = absurd (apart (rw (f, g)))
+        by (yes f) (yes g) Sell Sell e apart = absurd (apart (rw (f, g)))
+        by (yes f) (yes g) Buy Sell e apart = counted-other-side o Buy a i (rw e)
+        by (yes f) (yes g) Sell Buy e apart = counted-other-side o Sell a i (rw e)
 
--- ---- the records below p
-pub record Passed (m : List ℕ) (n a : ℕ) (cells : List ℕ) (p : ℕ) : Type 0 where
-  pub upto : p ≤ n
-  pub size : length cells ≡ 65
-  pub sums : (s : Side) (i : ℕ) → Numbered 32 i → pos (getD cells (cell s i) 0) +ℤ left m n s a i p ≡ left m n s a i 0
+    -- each cell grows by what the order counts for there
+    pub added-at : own < length cells → (s : Side) (a i : ℕ) → of a → Numbered 32 i →
+        getD (added cells own (remaining o)) (first a + cell s i) 0 ≡ getD cells (first a + cell s i) 0 + counted o s a i
+    added-at inside s a i h l = by (ℕ-discrete (first a + cell s i) own)
+      where
+        by : Dec (first a + cell s i ≡ own) →
+            getD (added cells own (remaining o)) (first a + cell s i) 0 ≡ getD cells (first a + cell s i) 0 + counted o s a i
+        by (yes e) =
+            let same = same-cell s (o .side) a i (o .account) (o .instrument) h l account instrument e in
+            let itself = counted-own o (o .side) (o .account) (o .instrument) refl refl (same-itself (o .side)) in
+            rw (same .0, same .1, same .2, itself) (added-same cells own (remaining o) inside)
+        by (no apart) =
+            added-other cells own (remaining o) (first a + cell s i) apart ∙ omega (arith, elsewhere s a i apart)
 
-module _ (m : List ℕ) (n a : ℕ) (cells : List ℕ) where
-  pub passed-none : length cells ≡ 65 → ((j : ℕ) → getD cells j 0 ≡ 0) → Passed m n a cells 0
-  passed-none size empty =
-      record { upto = omega arith; size = size; sums = λ s i h. rw (empty (cell s i)) (+ℤ-idl (left m n s a i 0)) }
+-- ---- the records below p of n: what is gathered and what is left make the whole
+pub record Passed (of : ℕ → Type 0) (first : ℕ → ℕ) (m : List ℕ) (n : ℕ) (cells : List ℕ) (p : ℕ) : Type 0 where
+  pub sums : (s : Side) (a i : ℕ) → of a → Numbered 32 i → pos (getD cells (first a + cell s i) 0) +ℤ left m n s a i p ≡ left m n s a i 0
 
-  module _ (p : ℕ) (past : Passed m n a cells p) where
-    pub passed-all : n ≤ p → Gathered cells (ordersFrom m 0 n) a
-    passed-all h =
-        record { size = past .size; sums = λ s i k. counted-all m n s a i (getD cells (cell s i) 0) p h (past .sums s i k) }
+module _ (of : ℕ → Type 0) (first : ℕ → ℕ) (m : List ℕ) (n : ℕ) (cells : List ℕ) where
+  pub passed-none : ((j : ℕ) → getD cells j 0 ≡ 0) → Passed of first m n cells 0
+  passed-none empty = record { sums = λ s a i h l. rw (empty (first a + cell s i)) (+ℤ-idl (left m n s a i 0)) }
 
-    module _ (o : Order) (here : o ≡ orderAt m p) (bounds : GatherBounds m n a) (h : p < n) where
-      pub passed-numbered : Numbered 32 (o .instrument)
-      passed-numbered = rw here (bounds .instrument p h)
+  module _ (p : ℕ) (past : Passed of first m n cells p) where
+    pub passed-all : n ≤ p → (a : ℕ) → of a → Gathered cells (first a) (ordersFrom m 0 n) a
+    passed-all h a on =
+        record { sums = λ s i l. counted-all m n s a i (getD cells (first a + cell s i) 0) p h (past .sums s a i on l) }
 
-      pub passed-fits : getD cells (cell (o .side) (o .instrument)) 0 + counted o (o .side) a (o .instrument) ≤ 100000000000
-      passed-fits =
-          let s = o .side in
-          let i = o .instrument in
-          counted-small m n s a i (getD cells (cell s i) 0 + counted o s a i) (p + 1) 100000000000 (counted-more m n s a i (getD cells (cell s i) 0) p (counted o s a i) o h here refl (past .sums s i passed-numbered)) (bounds .unfilled s i)
-
-      pub passed-more : (cells′ : List ℕ) → cells′ ≡ added cells o a → Passed m n a cells′ (p + 1)
-      passed-more cells′ e =
+    -- the next order: of an account that is gathered, or of another
+    module _ (o : Order) (here : o ≡ orderAt m p) (h : p < n) where
+      pub passed-more : Rows of first → of (o .account) → Numbered 32 (o .instrument) → ownCell first o < length cells → (cells′ : List ℕ) →
+          cells′ ≡ added cells (ownCell first o) (remaining o) → Passed of first m n cells′ (p + 1)
+      passed-more rows account instrument inside cells′ e =
           record {
-            upto = omega arith;
-            size = rw (e, added-length cells o a (ℕ-discrete (o .account) a)) (past .size);
-            sums = λ s i k. rw (e, added-at cells o a (past .size) passed-numbered s i k) (counted-more m n s a i (getD cells (cell s i) 0) p (counted o s a i) o h here refl (past .sums s i k));
+            sums = λ s a i k l. rw (e, added-at of first rows cells o account instrument inside s a i k l)
+                (more s a i (past .sums s a i k l));
           }
+        where
+          more : (s : Side) (a i : ℕ) → pos (getD cells (first a + cell s i) 0) +ℤ left m n s a i p ≡ left m n s a i 0 →
+              pos (getD cells (first a + cell s i) 0 + counted o s a i) +ℤ left m n s a i (p + 1) ≡ left m n s a i 0
+          more s a i = counted-more m n s a i (getD cells (first a + cell s i) 0) p (counted o s a i) o h here refl
+
+      pub passed-by : ((a : ℕ) → of a → o .account ≢ a) → Passed of first m n cells (p + 1)
+      passed-by other = record { sums = λ s a i k l. by s a i (other a k) (past .sums s a i k l) }
+        where
+          by : (s : Side) (a i : ℕ) → o .account ≢ a → pos (getD cells (first a + cell s i) 0) +ℤ left m n s a i p ≡ left m n s a i 0 →
+              pos (getD cells (first a + cell s i) 0) +ℤ left m n s a i (p + 1) ≡ left m n s a i 0
+          by s a i apart whole =
+              let none : getD cells (first a + cell s i) 0 + 0 ≡ getD cells (first a + cell s i) 0 = omega arith in
+              rw none at (counted-more m n s a i (getD cells (first a + cell s i) 0) p 0 o h here
+              (sym (counted-other-account o s a i apart)) whole)
+
+-- ---- the cells of account a alone
+abbrev pub PassedOf : List ℕ → ℕ → ℕ → List ℕ → ℕ → Type 0
+PassedOf m n a = Passed (λ b. b ≡ a) (λ b. 0) m n
+
+module _ (m : List ℕ) (n a : ℕ) (cells : List ℕ) (p : ℕ) (size : length cells ≡ 65) (past : PassedOf m n a cells p) (o : Order)
+    (here : o ≡ orderAt m p) (bounds : GatherBounds m n a) (h : p < n) where
+  pub passed-numbered : Numbered 32 (o .instrument)
+  passed-numbered = rw here (bounds .instrument p h)
+
+  module _ (own : o .account ≡ a) (j r : ℕ) (is-cell : j ≡ cell (o .side) (o .instrument)) (rest : r ≡ remaining o) where
+    own-cell : j ≡ ownCell (λ b. 0) o
+    own-cell = omega arith
+
+    pub passed-fits : (j < 65) × (getD cells j 0 + r ≤ 100000000000)
+    passed-fits =
+        let s = o .side in
+        let i = o .instrument in
+        let itself : r ≡ counted o s a i = rest ∙ sym (counted-own o s a i own refl (same-itself s)) in
+        let before : pos (getD cells j 0) +ℤ left m n s a i p ≡ left m n s a i 0 = rw own-cell (past .sums s a i refl passed-numbered) in (
+          rw is-cell (cell-inside s i (passed-numbered .1)),
+          counted-small m n s a i (getD cells j 0 + r) (p + 1) 100000000000
+              (counted-more m n s a i (getD cells j 0) p r o h here itself before) (bounds .unfilled s i),
+        )
+
+    pub passed-own : (cells′ : List ℕ) → cells′ ≡ added cells j r → (length cells′ ≡ 65) × PassedOf m n a cells′ (p + 1)
+    passed-own cells′ e =
+        let inside : ownCell (λ b. 0) o < length cells = omega (arith, own-cell, passed-fits .0) in (
+          rw (e, added-length cells j r) size,
+          passed-more (λ b. b ≡ a) (λ b. 0) m n cells p past o here h (one-row a) own passed-numbered inside cells′
+              (e ∙ rw (own-cell, rest)),
+        )
+
+  pub passed-other : o .account ≢ a → PassedOf m n a cells (p + 1)
+  passed-other other = passed-by (λ b. b ≡ a) (λ b. 0) m n cells p past o here h (λ b e f. other (f ∙ e))

@@ -82,9 +82,13 @@ module _ (cells : List ℕ) (S : ℕ → ℤ) (i : ℕ) where
             part-magnitude w (r .weight i) (byCells cells S i) 1000000 200000000000 weight (λ v. by-cells-magnitude v balance small)
         by false = omega arith
 
-pub by-cells-potential : (cells : List ℕ) (S : ℕ → ℤ) (orders : List Order) (a : ℕ) → Gathered cells orders a → (w : Way) (i : ℕ) → Numbered 32 i → byCells cells S i w ≡ ofInstrument one orders a S i w
+-- an account's cells alone
+pub gathered-at : {cells : List ℕ} {orders : List Order} {a : ℕ} → Gathered cells 0 orders a → (s : Side) (i : ℕ) → Numbered 32 i → pos (getD cells (cell s i) 0) ≡ openOn one orders s a i
+gathered-at g s i h = let e : 0 + cell s i ≡ cell s i = omega arith in rw e at (g .sums s i h)
+
+pub by-cells-potential : (cells : List ℕ) (S : ℕ → ℤ) (orders : List Order) (a : ℕ) → Gathered cells 0 orders a → (w : Way) (i : ℕ) → Numbered 32 i → byCells cells S i w ≡ ofInstrument one orders a S i w
 unfolding byCells ofInstrument
-by-cells-potential cells S orders a gathered w i h = rw (gathered .sums (sideTo w) i h)
+by-cells-potential cells S orders a gathered w i h = rw (gathered-at gathered (sideTo w) i h)
 
 -- ---- the sum
 module _ (cells : List ℕ) (S : ℕ → ℤ) (r : Roster) (g : ℕ) (w : Way) where
@@ -107,11 +111,11 @@ module _ (cells : List ℕ) (S : ℕ → ℤ) (r : Roster) (g : ℕ) (w : Way) w
       omega (arith, sumTo-magnitude (λ j. partByCells cells S r g (suc j) w) n 200000000000000000 (λ j h. part-small cells S (suc j) r g w (weight (suc j) (omega arith)) (balance (suc j) (omega arith)) (λ s. small s (suc j) (omega arith))))
 
   -- where the cells hold B and V, the sum is the potential position
-  pub sum-potential : (orders : List Order) (a : ℕ) → Gathered cells orders a → r .instruments ≤ 32 → (x : ℤ) → x ≡ sumByCells cells S r g (r .instruments) w → x ≡ potential one r orders a S (group g) w
+  pub sum-potential : (orders : List Order) (a : ℕ) → Gathered cells 0 orders a → r .instruments ≤ 32 → (x : ℤ) → x ≡ sumByCells cells S r g (r .instruments) w → x ≡ potential one r orders a S (group g) w
   unfolding sumByCells partByCells potential sumGroup
   sum-potential orders a gathered few x e =
       e
       ∙ sumTo-same _ _ (r .instruments) (λ j h. ap (λ (z : ℤ). cond (eqb (groupOfInstrument r (suc j)) g) z (pos 0)) (part-same w (r .weight (suc j)) (byCells cells S (suc j)) (ofInstrument one orders a S (suc j)) (λ v. by-cells-potential cells S orders a gathered v (suc j) (omega arith))))
 
-pub cells-small : (cells : List ℕ) (orders : List Order) (a : ℕ) → Gathered cells orders a → ((s : Side) (i : ℕ) → natAbs (openOn one orders s a i) ≤ 100000000000) → (s : Side) (i : ℕ) → Numbered 32 i → getD cells (cell s i) 0 ≤ 100000000000
-cells-small cells orders a gathered small s i h = omega (arith, small s i, ap natAbs (gathered .sums s i h))
+pub cells-small : (cells : List ℕ) (orders : List Order) (a : ℕ) → Gathered cells 0 orders a → ((s : Side) (i : ℕ) → natAbs (openOn one orders s a i) ≤ 100000000000) → (s : Side) (i : ℕ) → Numbered 32 i → getD cells (cell s i) 0 ≤ 100000000000
+cells-small cells orders a gathered small s i h = omega (arith, small s i, ap natAbs (gathered-at gathered s i h))

@@ -11,11 +11,6 @@ use Rattle.ledger.specs.Records.{orderAt, ordersFrom, balancesIn, rosterIn}
 use Rattle.ledger.specs.Derivatives.{one}
 use Rattle.positions.specs.Gathered.{cell}
 
--- for B or V of account a and instrument i
-pub record OpenBounds (orders : List ℕ) (n : ℕ) (s : Side) (a i : ℕ) : Type 0 where
-  pub long : n * 16 ≤ length orders
-  pub small : natAbs (openOn one (ordersFrom orders 0 n) s a i) ≤ 9000000000000000000
-
 -- for PCI and PVI of account a and instrument i
 pub record InstrumentBounds (orders : List ℕ) (n : ℕ) (balances : List ℕ) (a i : ℕ) : Type 0 where
   pub orders-long : n * 16 ≤ length orders

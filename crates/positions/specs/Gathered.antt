@@ -1,17 +1,16 @@
--- What remains of an account's open orders, gathered into 65 cells: cell i holds the buys and cell 32 + i the
--- sells of instrument i, as in an account's part of the cells of all accounts.
+-- What remains of an account's open orders, gathered into cells: from the account's first cell on, cell i holds the buys and
+-- cell 32 + i the sells of instrument i.
 use Prim.Native.Nat.{ℕ, suc, _+_}
 use mathlib.Core.Path.{_≡_}
 use mathlib.Core.Bool.{cond}
 use mathlib.Core.List.{List}
 use lib.Dec.{eqb}
-use lib.ListN.{length, getD, set}
+use lib.ListN.{getD, set}
 use lib.IntN.{ℤ, pos, _+ℤ_}
 use Rattle.integers.specs.Sum.{sumTo}
 use Rattle.ledger.specs.declared.order.Order.{Order}
 use Rattle.ledger.specs.declared.order.Side.{Side}
 use Rattle.ledger.specs.declared.order.Side.the-variants.{Buy, Sell}
-use Rattle.ledger.specs.Orders.{remaining}
 use Rattle.ledger.specs.Roster.{Roster, Numbered, groupOfInstrument}
 use Rattle.ledger.specs.Positions.{Way, long, short, toward, sideTo, openOn, groupPart}
 use Rattle.ledger.specs.Derivatives.{one}
@@ -21,19 +20,18 @@ abbrev pub onWay : Way → ℤ → ℤ → ℤ
 onWay long x y = x
 onWay short x y = y
 
+-- the cell of B (side Buy) or V (side Sell) of instrument i, from the account's first cell on
 abbrev pub cell : Side → ℕ → ℕ
 cell Buy i = i
 cell Sell i = 32 + i
 
--- the cells with order o added, where it is of account a
-unfoldable pub added : List ℕ → Order → ℕ → List ℕ
-added cells o a =
-    cond (eqb (o .account) a) (set cells (cell (o .side) (o .instrument)) (getD cells (cell (o .side) (o .instrument)) 0 + remaining o)) cells
+-- the cells with n added to cell j
+unfoldable pub added : List ℕ → ℕ → ℕ → List ℕ
+added cells j n = set cells j (getD cells j 0 + n)
 
--- the cells hold B and V of account a and each instrument
-pub record Gathered (cells : List ℕ) (orders : List Order) (a : ℕ) : Type 0 where
-  pub size : length cells ≡ 65
-  pub sums : (s : Side) (i : ℕ) → Numbered 32 i → pos (getD cells (cell s i) 0) ≡ openOn one orders s a i
+-- from cell `first` on, the cells hold B and V of account a and each instrument
+pub record Gathered (cells : List ℕ) (first : ℕ) (orders : List Order) (a : ℕ) : Type 0 where
+  pub sums : (s : Side) (i : ℕ) → Numbered 32 i → pos (getD cells (first + cell s i) 0) ≡ openOn one orders s a i
 
 -- PCI (long) and PVI (short) of instrument i by the cells
 unfoldable pub byCells : List ℕ → (ℕ → ℤ) → ℕ → Way → ℤ

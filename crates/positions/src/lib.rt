@@ -1,16 +1,17 @@
 // The potential positions of an account on a derivatives desk, by instrument and by group. They know no limit: `limits` stands above.
 ghost use mathlib.Core.Path.{_≡_};
-ghost use Prim.Native.Nat.{ℕ, _+_, _≤_};
-ghost use lib.IntN.{negℤ, natAbs, _+ℤ_};
+ghost use Prim.Native.Nat.{ℕ, _+_, _≤_, _<_};
+ghost use lib.IntN.{pos, negℤ, natAbs, _+ℤ_};
+ghost use lib.Signed.{_≤ℤ_};
 ghost use lib.ListN.{length, getD};
 ghost use Rattle.ledger.specs.declared.order.Side.{Side};
 ghost use Rattle.ledger.specs.Roster.{Numbered};
-ghost use Rattle.ledger.specs.Positions.{Way, opposite, toward, wayOf, sameSide, openOn, groupPart};
+ghost use Rattle.ledger.specs.Positions.{Way, opposite, toward, wayOf, sameSide, groupPart};
 ghost use Rattle.ledger.specs.Records.{ordersFrom, balancesIn, rosterIn};
-ghost use Rattle.ledger.specs.Derivatives.{one, counted};
+ghost use Rattle.ledger.specs.Derivatives.{counted};
 ghost use Rattle.positions.specs.Gathered.{onWay, cell, added, Gathered, byCells, partByCells, sumByCells};
-ghost use Rattle.positions.specs.Answers.{InInstrument, InGroup};
-ghost use Rattle.positions.specs.Bounds.{OpenBounds, InstrumentBounds, CellBounds, GatherBounds, RosterBounds, WeighBounds, GroupBounds};
+ghost use Rattle.positions.specs.Answers.{InGroup};
+ghost use Rattle.positions.specs.Bounds.{CellBounds, GatherBounds, RosterBounds, WeighBounds, GroupBounds};
 use ledger::order::Order;
 use ledger::order::Side;
 use ledger::records::load;
@@ -65,18 +66,6 @@ pub fn counted(o: Order, side: Side, account: u64, instrument: u64) -> u64
     }
 }
 
-// B (side Buy) or V (side Sell): what remains of the open orders on that side of the account and instrument.
-pub fn open_on(orders: &[u8], n: usize, side: Side, account: u64, instrument: u64) -> Contracts
-    requires { ⌜ OpenBounds (now orders) n side account instrument ⌝ }
-    ensures { λ r. ⌜ r .0 ≡ openOn one (ordersFrom (now (orders .entry)) 0 n) side account instrument ⌝ }
-{
-    let mut sum: u64 = 0;
-    for p in 0..n {
-        sum += counted(load(orders, p), side, account, instrument);
-    }
-    Contracts(sum as i64)
-}
-
 // PCI = S + B for Buy, PVI = −S + V for Sell.
 pub fn potential(side: Side, balance: Contracts, unfilled: Contracts) -> Contracts
     requires { ⌜ natAbs (balance .0) + natAbs (unfilled .0) ≤ 9000000000000000000 ⌝ }
@@ -98,23 +87,6 @@ pub fn position_by(balance: Contracts, buys: Contracts, sells: Contracts) -> Ins
         long: potential(Side::Buy, balance, buys),
         short: potential(Side::Sell, balance, sells),
     }
-}
-
-// The positions of the account in an instrument; word `instrument` of `balances` is its balance.
-pub fn instrument_position(
-    orders: &[u8],
-    n: usize,
-    balances: &[u8],
-    account: u64,
-    instrument: u64,
-) -> InstrumentPosition
-    requires { ⌜ InstrumentBounds (now orders) n (now balances) account instrument ⌝ }
-    ensures { λ r. ⌜ InInstrument (now (orders .entry)) n (now (balances .entry)) account instrument r ⌝ }
-{
-    let balance = Contracts(signed_word(balances, instrument as usize));
-    let buys = open_on(orders, n, Side::Buy, account, instrument);
-    let sells = open_on(orders, n, Side::Sell, account, instrument);
-    position_by(balance, buys, sells)
 }
 
 fn opposite(side: Side) -> Side
@@ -148,6 +120,7 @@ fn group_part(side: Side, weight: i64, long: Contracts, short: Contracts) -> Wei
     }
 }
 
+// The cell of an account's B or V, from its first cell on.
 pub fn cell(side: Side, instrument: u64) -> usize
     requires { ⌜ instrument ≤ 32 ⌝ }
     ensures { λ r. ⌜ r ≡ cell side instrument ⌝ }
@@ -158,25 +131,29 @@ pub fn cell(side: Side, instrument: u64) -> usize
     }
 }
 
-// Adds what remains of the order to its cell, where it is of the account.
-fn add_to(cells: &mut [u64; 65], o: Order, account: u64)
-    requires { ⌜ (length (now cells) ≡ 65) × (o .instrument ≤ 32) × (getD (now cells) (cell (o .side) (o .instrument)) 0 + counted o (o .side) account (o .instrument) ≤ 9000000000000000000) ⌝ }
-    ensures { λ r. ⌜ now (cells .exit) ≡ added (now (cells .entry)) o account ⌝ }
+// Adds contracts to a cell.
+pub fn add_to(cells: &mut [u64], j: usize, n: Contracts)
+    requires { ⌜ (j < length (now cells)) × (pos 0 ≤ℤ n .0) × (getD (now cells) j 0 + natAbs (n .0) ≤ 9000000000000000000) ⌝ }
+    ensures { λ r. ⌜ now (cells .exit) ≡ added (now (cells .entry)) j (natAbs (n .0)) ⌝ }
 {
-    if o.account == account {
-        let side = o.side;
-        let j = cell(side, o.instrument);
-        cells[j] += o.remaining();
-    }
+    cells[j] = Contracts::of(cells[j]).plus(n).number();
 }
 
 // Gathers B and V of the account and each instrument, in one pass over the orders.
 pub fn gather(orders: &[u8], n: usize, account: u64, cells: &mut [u64; 65])
     requires { ⌜ GatherBounds (now orders) n account × (length (now cells) ≡ 65) × ((j : ℕ) → getD (now cells) j 0 ≡ 0) ⌝ }
-    ensures { λ r. ⌜ Gathered (now (cells .exit)) (ordersFrom (now (orders .entry)) 0 n) account ⌝ }
+    ensures { λ r. ⌜
+        (length (now (cells .exit)) ≡ 65)
+        × Gathered (now (cells .exit)) 0 (ordersFrom (now (orders .entry)) 0 n) account
+        ⌝ }
 {
     for p in 0..n {
-        add_to(cells, load(orders, p), account);
+        let o = load(orders, p);
+        if o.account == account {
+            let side = o.side;
+            let j = cell(side, o.instrument);
+            add_to(cells, j, Contracts::of(o.remaining()));
+        }
     }
 }
 
@@ -186,8 +163,8 @@ fn by_cells(cells: &[u64], balances: &[u8], i: usize) -> InstrumentPosition
     ensures { λ r. ⌜ ((w : Way) → onWay w (r .long .0) (r .short .0) ≡ byCells (now (cells .entry)) (balancesIn (now (balances .entry))) i w) ⌝ }
 {
     let balance = Contracts(signed_word(balances, i));
-    let buys = Contracts(cells[i] as i64);
-    let sells = Contracts(cells[32 + i] as i64);
+    let buys = Contracts::of(cells[i]);
+    let sells = Contracts::of(cells[32 + i]);
     position_by(balance, buys, sells)
 }
 
@@ -224,8 +201,8 @@ pub fn weigh(cells: &[u64], balances: &[u8], roster: &[u8], group: u64) -> Group
 {
     let instruments = word(roster, 3) as usize;
     let mut sum = GroupPosition {
-        long: Weighted(0),
-        short: Weighted(0),
+        long: Weighted::none(),
+        short: Weighted::none(),
     };
     for j in 0..instruments {
         sum = with_part(sum, cells, balances, roster, group, j + 1);

@@ -13,7 +13,7 @@ use Rattle.limits.proofs.Answers.{both-true, and-true}
 use Rattle.layout.specs.Layout.{countWord}
 use Rattle.layout.specs.View.{rosterOf, tradingOf, recordsOf, openOrders}
 use Rattle.soundness.specs.Soundness.{ascend, ordersSound}
-use Rattle.soundness.specs.Cells.{Sums, Gathered}
+use Rattle.soundness.specs.Cells.{Sums, SmallSums}
 use Rattle.soundness.specs.Each.{Tells, Each, Remains, TotalFits, Marked}
 use Rattle.soundness.proofs.Records.{Fit}
 use Rattle.soundness.proofs.OrderFacts.{records-out, records-in}
@@ -57,10 +57,10 @@ module _ (m : List ℕ) where
           told
 
   -- the cells are small where the totals are in range
-  pub gathered-small : (cells : List ℕ) → wordAt m countWord ≤ 256 → Each m TotalFits → Sums cells (openOrders m) → Gathered cells (openOrders m)
+  pub gathered-small : (cells : List ℕ) → wordAt m countWord ≤ 256 → Each m TotalFits → Sums cells (openOrders m) → SmallSums cells (openOrders m)
   unfolding openOrders remaining
   gathered-small cells few totals sums =
       record {
         sums = sums;
-        small = λ v a i h l. let most = small-orders (recordsOf m) (wordAt m countWord) 1000000 (λ p k. omega (arith, totals p k)) v a i in omega (arith, most, few, ap natAbs (sums .sums v a i h l));
+        small = λ v a i h l. let most = small-orders (recordsOf m) (wordAt m countWord) 1000000 (λ p k. omega (arith, totals p k)) v a i in omega (arith, most, few, ap natAbs (sums .accounts a h .sums v i l));
       }

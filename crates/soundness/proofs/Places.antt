@@ -1,16 +1,12 @@
 -- S + B and −S + V of an account and instrument by the gathered cells, as the code asks them of a balance that may be any word.
 use Prim.Native.Nat.{ℕ, _+_, _≤_, _<_}
 use mathlib.Core.Path.{_≡_, refl, sym, _∙_}
-use mathlib.Core.Bool.{true, false}
+use mathlib.Core.Bool.{true, _&&_}
 use mathlib.Core.List.{List}
 use native.Mathlib.Omega.{arith}
 use lib.ListN.{getD}
 use lib.IntN.{ℤ, pos, negℤ, natAbs, _+ℤ_, _-ℤ_}
-use lib.Signed.{leZ, ltZ}
-use mir.Syntax.{w64}
-use mir.Val.{SFits, toZ, ofZ}
-use mir.ValLaws.{toZ-pos, toZ-ofZ}
-use Rattle.integers.specs.Magnitude.{sized, magnitude-difference}
+use lib.Signed.{leZ}
 use Rattle.integers.specs.Parts.{signed, sum-parts, difference-parts, negation-parts, magnitude-parts}
 use Rattle.words.specs.Words.{signedAt}
 use Rattle.ledger.specs.declared.order.Side.{Side}
@@ -18,35 +14,16 @@ use Rattle.ledger.specs.declared.order.Side.the-variants.{Buy, Sell}
 use Rattle.ledger.specs.Roster.{Numbered}
 use Rattle.ledger.specs.Positions.{Way, long, short, toward, sideTo, ofInstrument}
 use Rattle.ledger.specs.Derivatives.{one}
+use Rattle.positions.specs.Gathered.{cell}
 use Rattle.limits.proofs.Answers.{and-true}
 use Rattle.book.specs.Market.{derivatives}
 use Rattle.layout.specs.Layout.{balanceRow}
 use Rattle.layout.specs.Rosters.{every}
 use Rattle.layout.specs.View.{rosterOf, balancesOf, openOrders}
 use Rattle.soundness.specs.Soundness.{positionSound, placeSound}
-use Rattle.soundness.specs.Cells.{Readable, cell, Gathered}
+use Rattle.soundness.specs.Cells.{Readable, row, SmallSums}
 use Rattle.soundness.proofs.Asked.{same-test, numbered-between}
 use Rattle.soundness.proofs.Every.{every-in}
-
--- ---- the machine's numbers: what a cell holds as a signed number, and the two differences
-module _ (x : ℕ) (h : x ≤ 256000000) where
-  as-signed : toZ w64 x ≡ pos x
-  as-signed = toZ-pos w64 x (omega arith)
-
-  pub cell-fits : SFits w64 (pos x)
-  cell-fits = omega sized
-
-  pub room-fits : SFits w64 (pos 1000000000 -ℤ toZ w64 x)
-  room-fits = rw as-signed (omega (sized, magnitude-difference (pos 1000000000) (pos x)))
-
-  pub room-read : toZ w64 (ofZ w64 (pos 1000000000 -ℤ toZ w64 x)) ≡ pos 1000000000 -ℤ pos x
-  room-read = toZ-ofZ w64 (pos 1000000000 -ℤ toZ w64 x) room-fits ∙ rw as-signed
-
-  pub least-fits : SFits w64 (toZ w64 x -ℤ pos 1000000000)
-  least-fits = rw as-signed (omega (sized, magnitude-difference (pos x) (pos 1000000000)))
-
-  pub least-read : toZ w64 (ofZ w64 (toZ w64 x -ℤ pos 1000000000)) ≡ pos x -ℤ pos 1000000000
-  least-read = toZ-ofZ w64 (toZ w64 x -ℤ pos 1000000000) least-fits ∙ rw as-signed
 
 -- ---- positions
 -- one contract counts for 1
@@ -59,53 +36,54 @@ pub balance-word : (m : List ℕ) (a i : ℕ) → Numbered (rosterOf m .accounts
 unfolding balancesOf
 balance-word m a i h l = rw (numbered-between (rosterOf m .accounts) a h, numbered-between (rosterOf m .instruments) i l)
 
--- the two tests, with b and v at most 1,000,000,000 beside any s
-long-same : (s : ℤ) (b : ℕ) → ltZ (pos 1000000000 -ℤ pos b) s ≡ false → leZ (s +ℤ pos b) (pos 1000000000) ≡ true
-long-same s b h = omega (signed, difference-parts (pos 1000000000) (pos b), sum-parts s (pos b))
-
-long-over : (s : ℤ) (b : ℕ) → ltZ (pos 1000000000 -ℤ pos b) s ≡ true → leZ (s +ℤ pos b) (pos 1000000000) ≡ false
-long-over s b h = omega (signed, difference-parts (pos 1000000000) (pos b), sum-parts s (pos b))
+-- the two tests of the code, beside any s
+long-same : (s : ℤ) (b : ℕ) → leZ s (pos 1000000000 -ℤ pos b) ≡ leZ (s +ℤ pos b) (pos 1000000000)
+long-same s b =
+    let parts = difference-parts (pos 1000000000) (pos b) in
+    same-test (leZ s (pos 1000000000 -ℤ pos b)) (leZ (s +ℤ pos b) (pos 1000000000))
+    (λ e. omega (signed, parts, sum-parts s (pos b)))
+    (λ e. omega (signed, parts, sum-parts s (pos b)))
 
 short-same : (s : ℤ) (v : ℕ) → leZ (pos v -ℤ pos 1000000000) s ≡ leZ (negℤ s +ℤ pos v) (pos 1000000000)
 short-same s v =
+    let parts = difference-parts (pos v) (pos 1000000000) in
     same-test (leZ (pos v -ℤ pos 1000000000) s) (leZ (negℤ s +ℤ pos v) (pos 1000000000))
-    (λ e. omega (signed, difference-parts (pos v) (pos 1000000000), sum-parts (negℤ s) (pos v), negation-parts s))
-    (λ e. omega (signed, difference-parts (pos v) (pos 1000000000), sum-parts (negℤ s) (pos v), negation-parts s))
+    (λ e. omega (signed, parts, sum-parts (negℤ s) (pos v), negation-parts s))
+    (λ e. omega (signed, parts, sum-parts (negℤ s) (pos v), negation-parts s))
 
 -- beside any s of size 536,870,912 or less
 small-within : (w : Way) (s : ℤ) (x : ℕ) → natAbs s ≤ 536870912 → x ≤ 256000000 → leZ (toward w s +ℤ pos x) (pos 1000000000) ≡ true
 small-within long s x h l = omega (signed, magnitude-parts s, sum-parts s (pos x))
 small-within short s x h l = omega (signed, magnitude-parts s, negation-parts s, sum-parts (negℤ s) (pos x))
 
-module _ (m cells : List ℕ) (a i : ℕ) (readable : Readable m) (gathered : Gathered cells (openOrders m)) (h : Numbered (rosterOf m .accounts) a) (l : Numbered (rosterOf m .instruments) i) where
-  pub cell-small : (s : Side) → getD cells (cell s a i) 0 ≤ 256000000
+module _ (m cells : List ℕ) (a i : ℕ) (readable : Readable m) (gathered : SmallSums cells (openOrders m)) (h : Numbered (rosterOf m .accounts) a) (l : Numbered (rosterOf m .instruments) i) where
+  pub cell-small : (s : Side) → getD cells (row a + cell s i) 0 ≤ 256000000
   cell-small s = gathered .small s a i (h .0, omega (arith, readable .accounts)) (l .0, omega (arith, readable .instruments))
 
-  position-cell : (w : Way) → positionSound m a i w ≡ leZ (toward w (signedAt m (balanceRow a + i)) +ℤ pos (getD cells (cell (sideTo w) a i) 0)) (pos 1000000000)
+  position-cell : (w : Way) → positionSound m a i w ≡ leZ (toward w (signedAt m (balanceRow a + i)) +ℤ pos (getD cells (row a + cell (sideTo w) i) 0)) (pos 1000000000)
   unfolding positionSound ofInstrument
   position-cell w =
-      rw (unit-one, balance-word m a i h l, gathered .sums .sums (sideTo w) a i (h .0, omega (arith, readable .accounts)) (l .0, omega (arith, readable .instruments)))
+      rw (unit-one, balance-word m a i h l, gathered .sums .accounts a (h .0, omega (arith, readable .accounts)) .sums (sideTo w) i (l .0, omega (arith, readable .instruments)))
 
   -- s is the balance, b and v what the two cells hold
-  module _ (s : ℤ) (read : s ≡ signedAt m (balanceRow a + i)) where
-    pub place-over : ltZ (pos 1000000000 -ℤ pos (getD cells (cell Buy a i) 0)) s ≡ true → false ≡ placeSound m a i
-    unfolding placeSound
-    place-over e = rw (position-cell long, ← read, long-over s (getD cells (cell Buy a i) 0) e)
-
-    pub place-within : ltZ (pos 1000000000 -ℤ pos (getD cells (cell Buy a i) 0)) s ≡ false → leZ (pos (getD cells (cell Sell a i) 0) -ℤ pos 1000000000) s ≡ placeSound m a i
-    unfolding placeSound
-    place-within e =
-        rw (position-cell long, position-cell short, ← read, long-same s (getD cells (cell Buy a i) 0) e) (short-same s (getD cells (cell Sell a i) 0))
+  pub place-tested : (s b v : ℤ) → s ≡ signedAt m (balanceRow a + i) → b ≡ pos (getD cells (row a + cell Buy i) 0) →
+      v ≡ pos (getD cells (row a + cell Sell i) 0) →
+      (leZ s (pos 1000000000 +ℤ negℤ b) && leZ (v +ℤ negℤ (pos 1000000000)) s) ≡ placeSound m a i
+  unfolding placeSound
+  place-tested s b v read buys sells =
+      let x = getD cells (row a + cell Buy i) 0 in
+      let y = getD cells (row a + cell Sell i) 0 in
+      rw (position-cell long, position-cell short, ← read, buys, sells, ← long-same s x, ← short-same s y)
 
   -- where it is small, whatever the cells hold
   pub place-small : natAbs (signedAt m (balanceRow a + i)) ≤ 536870912 → placeSound m a i ≡ true
   unfolding placeSound
   place-small small =
       let s = signedAt m (balanceRow a + i) in
-      let within : (w : Way) → leZ (toward w s +ℤ pos (getD cells (cell (sideTo w) a i) 0)) (pos 1000000000) ≡ true = λ w. small-within w s (getD cells (cell (sideTo w) a i) 0) small (cell-small (sideTo w)) in
+      let within : (w : Way) → leZ (toward w s +ℤ pos (getD cells (row a + cell (sideTo w) i) 0)) (pos 1000000000) ≡ true = λ w. small-within w s (getD cells (row a + cell (sideTo w) i) 0) small (cell-small (sideTo w)) in
       and-true (positionSound m a i long) (positionSound m a i short) (position-cell long ∙ within long) (position-cell short ∙ within short)
 
 -- ---- the row of account a, all of it small
-pub row-small : (m cells : List ℕ) (a : ℕ) → Readable m → Gathered cells (openOrders m) → Numbered (rosterOf m .accounts) a → ((p : ℕ) → balanceRow a + 1 ≤ p → p < balanceRow a + 1 + 32 → natAbs (signedAt m p) ≤ 536870912) → true ≡ every (rosterOf m .instruments) (placeSound m a)
+pub row-small : (m cells : List ℕ) (a : ℕ) → Readable m → SmallSums cells (openOrders m) → Numbered (rosterOf m .accounts) a → ((p : ℕ) → balanceRow a + 1 ≤ p → p < balanceRow a + 1 + 32 → natAbs (signedAt m p) ≤ 536870912) → true ≡ every (rosterOf m .instruments) (placeSound m a)
 row-small m cells a readable gathered h small =
     sym (every-in (placeSound m a) (rosterOf m .instruments) (λ i l. place-small m cells a i readable gathered h l (small (balanceRow a + i) (omega arith) (omega (arith, readable .instruments)))))

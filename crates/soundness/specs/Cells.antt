@@ -1,17 +1,13 @@
--- What remains of all open orders, gathered into 1,089 cells by side, account and instrument; and what the passes over a memory
--- may read.
+-- What remains of all open orders, gathered into 1,089 cells, a row of 64 for each account; and what the passes over a memory may
+-- read.
 use Prim.Native.Nat.{ℕ, _+_, _*_, _%_, _^_, _≤_}
 use mathlib.Core.Path.{_≡_}
 use mathlib.Core.List.{List}
-use lib.ListN.{length, getD, set}
-use lib.IntN.{pos}
+use lib.ListN.{length, getD}
 use Rattle.ledger.specs.declared.order.Order.{Order}
 use Rattle.ledger.specs.declared.order.Side.{Side}
-use Rattle.ledger.specs.declared.order.Side.the-variants.{Buy, Sell}
-use Rattle.ledger.specs.Orders.{remaining}
 use Rattle.ledger.specs.Roster.{Numbered}
-use Rattle.ledger.specs.Positions.{openOn}
-use Rattle.ledger.specs.Derivatives.{one}
+use Rattle.positions.specs.Gathered.{cell, Gathered}
 use Rattle.layout.specs.View.{rosterOf}
 
 -- long enough, with a roster whose sizes are within their limits
@@ -26,15 +22,9 @@ pub record Readable (m : List ℕ) : Type 0 where
 abbrev pub moved : ℕ → ℕ
 moved w = (w + 536870912) % 2 ^ 64
 
--- the cell of B (side Buy) or V (side Sell) of account a and instrument i
-abbrev pub cell : Side → ℕ → ℕ → ℕ
-cell Buy a i = a * 64 + i
-cell Sell a i = a * 64 + 32 + i
-
--- the cells with order o added
-unfoldable pub added : List ℕ → Order → List ℕ
-added cells o =
-    set cells (cell (o .side) (o .account) (o .instrument)) (getD cells (cell (o .side) (o .account) (o .instrument)) 0 + remaining o)
+-- the first cell of account a
+abbrev pub row : ℕ → ℕ
+row a = a * 64
 
 -- nothing is gathered yet
 pub record Empty (cells : List ℕ) : Type 0 where
@@ -44,9 +34,9 @@ pub record Empty (cells : List ℕ) : Type 0 where
 -- the cells hold B and V of each account and instrument
 pub record Sums (cells : List ℕ) (orders : List Order) : Type 0 where
   pub size : length cells ≡ 1089
-  pub sums : (s : Side) (a i : ℕ) → Numbered 16 a → Numbered 32 i → pos (getD cells (cell s a i) 0) ≡ openOn one orders s a i
+  pub accounts : (a : ℕ) → Numbered 16 a → Gathered cells (row a) orders a
 
 -- and none holds more than 256 orders of 1,000,000
-pub record Gathered (cells : List ℕ) (orders : List Order) : Type 0 where
+pub record SmallSums (cells : List ℕ) (orders : List Order) : Type 0 where
   pub sums : Sums cells orders
-  pub small : (s : Side) (a i : ℕ) → Numbered 16 a → Numbered 32 i → getD cells (cell s a i) 0 ≤ 256000000
+  pub small : (s : Side) (a i : ℕ) → Numbered 16 a → Numbered 32 i → getD cells (row a + cell s i) 0 ≤ 256000000

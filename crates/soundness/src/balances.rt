@@ -5,33 +5,40 @@ ghost use Rattle.ledger.specs.Roster.{Numbered};
 ghost use Rattle.layout.specs.View.{rosterOf, openOrders};
 ghost use Rattle.layout.specs.Stores.{Records};
 ghost use Rattle.soundness.specs.Soundness.{ascend, ordersSound, placeSound, accountSound, positionsSound};
-ghost use Rattle.soundness.specs.Cells.{Readable, Empty, Gathered};
+ghost use Rattle.soundness.specs.Cells.{Readable, Empty, SmallSums};
 use crate::bits::all_small;
-use crate::orders::gather;
+use crate::orders::orders_are_sound;
 use crate::roster::accounts;
 use crate::roster::instruments;
 use layout::table::BALANCES;
+use ledger::units::Contracts;
 use words::signed_word;
 
 // Of account `a` and instrument `i`. No sum with the balance, which may be any word, is computed.
 fn place_is_sound(m: &[u8], cells: &[u64; 1089], a: usize, i: usize) -> bool
-    requires { ⌜ Readable (now m) × Gathered (now cells) (openOrders (now m)) × Numbered (rosterOf (now m) .accounts) a × Numbered (rosterOf (now m) .instruments) i ⌝ }
+    requires { ⌜
+        Readable (now m)
+        × SmallSums (now cells) (openOrders (now m))
+        × Numbered (rosterOf (now m) .accounts) a
+        × Numbered (rosterOf (now m) .instruments) i
+        ⌝ }
     ensures { λ r. ⌜ r ≡ placeSound (now (m .entry)) a i ⌝ }
 {
-    let s = signed_word(m, BALANCES + a * 32 + i);
-    let b = cells[a * 64 + i] as i64;
-    let v = cells[a * 64 + 32 + i] as i64;
-    if s > 1000000000 - b {
+    let s = Contracts(signed_word(m, BALANCES + a * 32 + i));
+    let b = Contracts::of(cells[a * 64 + i]);
+    let v = Contracts::of(cells[a * 64 + (32 + i)]);
+    let most = Contracts(1000000000);
+    if !s.at_most(most.less(b)) {
         return false;
     }
-    v - 1000000000 <= s
+    v.less(most).at_most(s)
 }
 
 // Of account `a` and each instrument: all balances at once, and where that does not tell, one by one. A balance of at most 536,870,912
 // either way is sound, whatever the orders: B and V are at most 256,000,000. The whole row is looked at, on the roster or not: the
 // compiler then knows its length.
 fn account_is_sound(m: &[u8], cells: &[u64; 1089], a: usize) -> bool
-    requires { ⌜ Readable (now m) × Gathered (now cells) (openOrders (now m)) × Numbered (rosterOf (now m) .accounts) a ⌝ }
+    requires { ⌜ Readable (now m) × SmallSums (now cells) (openOrders (now m)) × Numbered (rosterOf (now m) .accounts) a ⌝ }
     ensures { λ r. ⌜ r ≡ accountSound (now (m .entry)) a ⌝ }
 {
     if all_small(m, BALANCES + a * 32 + 1, 32) {
@@ -48,7 +55,7 @@ fn account_is_sound(m: &[u8], cells: &[u64; 1089], a: usize) -> bool
 
 // Of each account and instrument.
 fn positions_are_sound(m: &[u8], cells: &[u64; 1089]) -> bool
-    requires { ⌜ Readable (now m) × Gathered (now cells) (openOrders (now m)) ⌝ }
+    requires { ⌜ Readable (now m) × SmallSums (now cells) (openOrders (now m)) ⌝ }
     ensures { λ r. ⌜ r ≡ positionsSound (now (m .entry)) ⌝ }
 {
     let n = accounts(m) as usize;
@@ -63,9 +70,12 @@ fn positions_are_sound(m: &[u8], cells: &[u64; 1089]) -> bool
 // The orders in one pass, which gathers, then the positions in another.
 pub fn orders_and_positions(m: &[u8], cells: &mut [u64; 1089]) -> bool
     requires { ⌜ Readable (now m) × Records (now m) × Empty (now cells) ⌝ }
-    ensures { λ r. ⌜ (r ≡ (ascend 0 (openOrders (now (m .entry))) && ordersSound (now (m .entry)) && positionsSound (now (m .entry)))) × (r ≡ true → Gathered (now (cells .exit)) (openOrders (now (m .entry)))) ⌝ }
+    ensures { λ r. ⌜
+        (r ≡ (ascend 0 (openOrders (now (m .entry))) && ordersSound (now (m .entry)) && positionsSound (now (m .entry))))
+        × (r ≡ true → SmallSums (now (cells .exit)) (openOrders (now (m .entry))))
+        ⌝ }
 {
-    if !gather(m, cells) {
+    if !orders_are_sound(m, cells) {
         return false;
     }
     positions_are_sound(m, cells)

@@ -10,7 +10,7 @@ ghost use mathlib.Core.Path.{_≡_};
 ghost use mathlib.Core.Bool.{true};
 ghost use Rattle.layout.specs.View.{openOrders};
 ghost use Rattle.soundness.specs.Soundness.{soundDesk};
-ghost use Rattle.soundness.specs.Cells.{Empty, Gathered};
+ghost use Rattle.soundness.specs.Cells.{Empty, SmallSums};
 use layout::table::COUNT;
 use layout::table::FIRST;
 use layout::table::KIND;
@@ -21,7 +21,7 @@ use words::word;
 pub fn is_sound_with_sums(m: &[u8], cells: &mut [u64; 1089]) -> bool
     requires { ⌜ Empty (now cells) ⌝ }
     ensures sound { λ r. ⌜ r ≡ soundDesk (now (m .entry)) ⌝ }
-    ensures cells { λ r. ⌜ (r ≡ true → Gathered (now (cells .exit)) (openOrders (now (m .entry)))) ⌝ }
+    ensures cells { λ r. ⌜ (r ≡ true → SmallSums (now (cells .exit)) (openOrders (now (m .entry)))) ⌝ }
 {
     if m.len() < MEMORY_BYTES {
         return false;

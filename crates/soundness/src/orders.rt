@@ -2,13 +2,11 @@
 // still open is asked of all at once, and where that does not tell, record by record.
 ghost use mathlib.Core.Path.{_≡_};
 ghost use mathlib.Core.Bool.{true, _&&_};
-ghost use Prim.Native.Nat.{ℕ, _≤_};
-ghost use lib.ListN.{length, getD};
-ghost use Rattle.ledger.specs.Records.{Packable, Within, orderOf};
+ghost use Rattle.ledger.specs.Records.{Packable, Within};
 ghost use Rattle.layout.specs.View.{openOrders};
 ghost use Rattle.layout.specs.Stores.{Records};
 ghost use Rattle.soundness.specs.Soundness.{ascend, ordersSound};
-ghost use Rattle.soundness.specs.Cells.{Readable, added, Empty, Sums, Gathered};
+ghost use Rattle.soundness.specs.Cells.{Readable, Empty, Sums, SmallSums};
 ghost use Rattle.soundness.specs.Each.{Tells, Each, Remains, TotalFits, Marked};
 use crate::ranges::between;
 use crate::roster::accounts;
@@ -26,21 +24,14 @@ use ledger::records::joined;
 use ledger::records::load;
 use ledger::records::packed_of;
 use ledger::records::remaining_of;
+use ledger::units::Contracts;
+use positions::add_to;
 use words::word;
 
 // What the pass tells: do the ids ascend, and does something remain of each order? And a detail with the bits of all.
 struct Pass {
     sound: bool,
     details: u64,
-}
-
-// Adds what remains of the order with detail `w` to its cell, whose number the detail has.
-fn add_to(cells: &mut [u64; 1089], w: u64)
-    requires { ⌜ (length (now cells) ≡ 1089) × ((j : ℕ) → getD (now cells) j 0 ≤ 34359738368) ⌝ }
-    ensures { λ r. ⌜ ((id : ℕ) → now (cells .exit) ≡ added (now (cells .entry)) (orderOf id w)) ⌝ }
-{
-    let j = 65 + packed_of(w) as usize;
-    cells[j] += remaining_of(w);
 }
 
 // The pass, which gathers B and V of all accounts and instruments into the cells.
@@ -71,7 +62,8 @@ fn gather_all(m: &[u8], cells: &mut [u64; 1089]) -> Pass
         }
         last = id;
         all = joined(all, w);
-        add_to(cells, w);
+        let j = 65 + packed_of(w) as usize;
+        add_to(cells, j, Contracts::of(remaining_of(w)));
     }
     Pass {
         sound: true,
@@ -151,9 +143,12 @@ fn all_marked(m: &[u8], details: u64) -> bool
 }
 
 // Do the ids ascend and is each order sound? If so, B and V of all accounts and instruments are in the cells.
-pub fn gather(m: &[u8], cells: &mut [u64; 1089]) -> bool
+pub fn orders_are_sound(m: &[u8], cells: &mut [u64; 1089]) -> bool
     requires { ⌜ Readable (now m) × Records (now m) × Empty (now cells) ⌝ }
-    ensures { λ r. ⌜ (r ≡ (ascend 0 (openOrders (now (m .entry))) && ordersSound (now (m .entry)))) × (r ≡ true → Gathered (now (cells .exit)) (openOrders (now (m .entry)))) ⌝ }
+    ensures { λ r. ⌜
+        (r ≡ (ascend 0 (openOrders (now (m .entry))) && ordersSound (now (m .entry))))
+        × (r ≡ true → SmallSums (now (cells .exit)) (openOrders (now (m .entry))))
+        ⌝ }
 {
     let passed = gather_all(m, cells);
     if !passed.sound {

@@ -1,5 +1,5 @@
 -- The cells after a shift: the order's own cell moves with it, and no other.
-use Prim.Native.Nat.{ℕ, _+_, _-_, _≤_, _<_}
+use Prim.Native.Nat.{ℕ, _+_, _*_, _-_, _≤_, _<_}
 use mathlib.Core.Path.{_≡_, refl, _∙_, sym, ap}
 use mathlib.Core.Logic.{_≢_}
 use mathlib.Core.List.{List}
@@ -7,8 +7,8 @@ use native.Mathlib.Nat.{one-mul}
 use native.Mathlib.Omega.{arith}
 use lib.ListN.{length, getD, set, length-set}
 use lib.Seq.{getD-set-same, getD-set-other}
-use lib.IntN.{ℤ, pos, natAbs, _+ℤ_}
-use Rattle.integers.specs.Parts.{signed, sum-parts}
+use lib.IntN.{ℤ, pos, negℤ, natAbs, _+ℤ_}
+use Rattle.integers.specs.Parts.{signed, sum-parts, difference-parts}
 use Rattle.ledger.specs.declared.order.Order.{Order}
 use Rattle.ledger.specs.declared.order.Side.{Side}
 use Rattle.ledger.specs.Roster.{Numbered}
@@ -17,8 +17,10 @@ use Rattle.ledger.specs.Derivatives.{one}
 use Rattle.ledger.proofs.Amounts.{Stands, stands?, amount-here, amount-apart}
 use Rattle.ledger.proofs.Sums.{open-nonneg}
 use Rattle.limits.specs.Raised.{addedOn}
-use Rattle.soundness.specs.Cells.{Sums, cell}
-use Rattle.soundness.proofs.Gathering.{cell-inside, same-cell}
+use Rattle.positions.specs.Gathered.{cell}
+use Rattle.positions.proofs.Gathering.{ownCell, same-cell}
+use Rattle.soundness.specs.Cells.{row, Sums}
+use Rattle.soundness.proofs.Gathering.{rows, row-inside}
 use Rattle.sums.specs.Shifted.{Shifted}
 use Rattle.sums.proofs.Shifts.{same-amount}
 
@@ -30,20 +32,29 @@ module _ (s : Side) (a i : ℕ) (o : Order) (n : ℕ) where
   added-apart : ¬ Stands s a i o → addedOn n o s a i ≡ pos 0
   added-apart apart = sym (same-amount n o s a i) ∙ amount-apart one s a i o n apart
 
+-- the cell of an order, as the code counts it
+pub own-spot : (o : Order) (j : ℕ) → j ≡ cell (o .side) (o .instrument) → o .account * 64 + j ≡ ownCell row o
+own-spot o j e = rw e
+
+-- what a cell holds after a shift, counted in contracts
+pub settled : (c a b : ℕ) → b ≤ c + a → (x y : ℤ) → x ≡ pos c +ℤ pos a → y ≡ x +ℤ negℤ (pos b) → y ≡ pos (c + a - b)
+settled c a b enough x y sum rest =
+    omega (signed, sum-parts (pos c) (pos a), difference-parts x (pos b), rest)
+
 module _ (cells : List ℕ) (orders orders′ : List Order) (held : Sums cells orders) (o : Order) (before after : ℕ) (shift : Shifted o before after orders orders′) where
   abbrev own : ℕ
-  own = cell (o .side) (o .account) (o .instrument)
+  own = ownCell row o
 
   pub own-inside : own < length cells
   own-inside =
-      omega (arith, held .size, cell-inside (o .side) (o .account) (o .instrument) (shift .account .1) (shift .instrument .1))
+      omega (arith, held .size, row-inside (o .side) (o .account) (o .instrument) (shift .account .1) (shift .instrument .1))
 
   pub own-small : ((s : Side) (a i : ℕ) → natAbs (openOn one orders s a i) ≤ 256000000) → getD cells own 0 ≤ 256000000
   own-small small =
       let s = o .side in
       let a = o .account in
       let i = o .instrument in
-      omega (arith, small s a i, ap natAbs (held .sums s a i (shift .account) (shift .instrument)))
+      omega (arith, small s a i, ap natAbs (held .accounts a (shift .account) .sums s i (shift .instrument)))
 
   own-sum : openOn one orders′ (o .side) (o .account) (o .instrument) +ℤ pos before ≡ pos (getD cells own 0) +ℤ pos after
   own-sum =
@@ -52,7 +63,7 @@ module _ (cells : List ℕ) (orders orders′ : List Order) (held : Sums cells o
       let i = o .instrument in
       ap (λ (z : ℤ). openOn one orders′ s a i +ℤ z) (sym (added-here s a i o before (refl, refl, refl)))
       ∙ shift .sums s a i
-      ∙ ap (λ (z : ℤ). z +ℤ addedOn after o s a i) (sym (held .sums s a i (shift .account) (shift .instrument)))
+      ∙ ap (λ (z : ℤ). z +ℤ addedOn after o s a i) (sym (held .accounts a (shift .account) .sums s i (shift .instrument)))
       ∙ ap (λ (z : ℤ). pos (getD cells own 0) +ℤ z) (added-here s a i o after (refl, refl, refl))
 
   pub enough : before ≤ getD cells own 0 + after
@@ -68,15 +79,18 @@ module _ (cells : List ℕ) (orders orders′ : List Order) (held : Sums cells o
   pub kept : (j : ℕ) → j ≡ own → Sums (set cells j (getD cells j 0 + after - before)) orders′
   kept j e =
       rw e
-      (record { size = length-set cells own (getD cells own 0 + after - before) ∙ held .size; sums = λ s a i on in-roster. each s a i on in-roster (stands? s a i o) })
+      (record {
+        size = length-set cells own (getD cells own 0 + after - before) ∙ held .size;
+        accounts = λ a on. record { sums = λ s i in-roster. each s a i on in-roster (stands? s a i o) };
+      })
     where
-      each : (s : Side) (a i : ℕ) → Numbered 16 a → Numbered 32 i → Dec (Stands s a i o) → pos (getD (set cells own (getD cells own 0 + after - before)) (cell s a i) 0) ≡ openOn one orders′ s a i
+      each : (s : Side) (a i : ℕ) → Numbered 16 a → Numbered 32 i → Dec (Stands s a i o) → pos (getD (set cells own (getD cells own 0 + after - before)) (row a + cell s i) 0) ≡ openOn one orders′ s a i
       each s a i on in-roster (yes stands) =
-          let same : cell s a i ≡ own = rw (stands .0, stands .1, stands .2) in
+          let same : row a + cell s i ≡ own = rw (stands .0, stands .1, stands .2) in
           rw (same, getD-set-same cells own (getD cells own 0 + after - before) 0 own-inside) (sym next ∙ rw (stands .0, stands .1, stands .2))
       each s a i on in-roster (no apart) =
-          let other : cell s a i ≢ own = λ same. let all = same-cell s (o .side) a i (o .account) (o .instrument) on in-roster (shift .account) (shift .instrument) same in apart (sym (all .0), sym (all .1), sym (all .2)) in
+          let other : row a + cell s i ≢ own = λ same. let all = same-cell (Numbered 16) row rows s (o .side) a i (o .account) (o .instrument) on in-roster (shift .account) (shift .instrument) same in apart (sym (all .0), sym (all .1), sym (all .2)) in
           let z = openOn one orders s a i in
           let z′ = openOn one orders′ s a i in
-          rw (getD-set-other cells own (cell s a i) (getD cells own 0 + after - before) 0 other)
-          (held .sums s a i on in-roster ∙ omega (signed, shift .sums s a i, added-apart s a i o before apart, added-apart s a i o after apart, sum-parts z (addedOn after o s a i), sum-parts z′ (addedOn before o s a i)))
+          rw (getD-set-other cells own (row a + cell s i) (getD cells own 0 + after - before) 0 other)
+          (held .accounts a on .sums s i in-roster ∙ omega (signed, shift .sums s a i, added-apart s a i o before apart, added-apart s a i o after apart, sum-parts z (addedOn after o s a i), sum-parts z′ (addedOn before o s a i)))

@@ -5,10 +5,11 @@ use mathlib.Core.List.{List}
 use mathlib.Core.Option.{some}
 use native.Mathlib.Nat.{one-mul}
 use native.Mathlib.Omega.{arith}
-use lib.IntN.{ℤ, natAbs}
+use lib.IntN.{ℤ, pos, negℤ, natAbs, _+ℤ_}
 use mir.Syntax.{w64}
 use mir.Val.{SFits, toZ, ofZ}
 use mir.ValLaws.{toZ-ofZ}
+use Rattle.integers.specs.Parts.{signed, magnitude-parts, difference-parts}
 use Rattle.words.specs.Bytes.{Bytes}
 use Rattle.ledger.specs.declared.order.Order.{Order}
 use Rattle.ledger.specs.declared.order.Side.{Side}
@@ -33,15 +34,17 @@ use Rattle.book.proofs.Plain.{derivatives-unit}
 use Rattle.book.proofs.Shifts.{new-shift, replace-shift, cancel-shift, fill-shift}
 use Rattle.layout.specs.View.{rosterOf, openOrders, bookOf, view}
 use Rattle.layout.specs.Judged.{judged}
-use Rattle.layout.specs.Stores.{orderIn}
+use Rattle.layout.specs.Stores.{orderIn, Records}
 use Rattle.soundness.specs.Held.{Held}
 use Rattle.soundness.proofs.Bounded.{held-readable}
 use Rattle.working.specs.Working.{Ready, worked}
 use Rattle.working.proofs.Small.{Sized}
-use Rattle.working.proofs.Told.{Found, told}
+use Rattle.working.proofs.Told.{Found, records, told}
 use Rattle.working.proofs.ViewWorked.{view-worked}
-use Rattle.working.proofs.Changing.{named-found}
-use Rattle.sums.specs.Shifted.{Shifted}
+use Rattle.working.proofs.Changing.{named-found, loadable}
+use Rattle.working.proofs.Handing.{ready-as}
+use Rattle.sums.specs.declared.Shift.{Shift as ByContracts}
+use Rattle.sums.specs.Shifted.{Shifted, Shifts}
 
 pub same-amount : (n : ℕ) (o : Order) (s : Side) (a i : ℕ) → amount one s a i o n ≡ addedOn n o s a i
 unfolding amount addedOn one
@@ -69,8 +72,9 @@ module _ (m : List ℕ) (bytes : Bytes m) (held : Held m) (e : Event) (sized : S
       }
 
 -- the same event by another name
-pub shifted-as : (m : List ℕ) (e e′ : Event) (o : Order) (x y : ℕ) → e ≡ e′ → Shifted o x y (openOrders m) (openOrders (worked m e′)) → Shifted o x y (openOrders m) (openOrders (worked m e))
-shifted-as m e e′ o x y same shift = rw same shift
+pub shifted-as : (m : List ℕ) (e e′ : Event) (r : ByContracts) → e ≡ e′ → Shifts r (openOrders m) (openOrders (worked m e′)) →
+    Shifts r (openOrders m) (openOrders (worked m e))
+shifted-as m e e′ r same shift = rw same shift
 
 -- ---- an event that leaves the open orders as they are
 pub still-limit : (b : Book) (a : ℕ) (l : LimitLine) → work (derivatives .unit) b (Limit a l) .orders ≡ b .orders
@@ -85,26 +89,56 @@ still-block b (Account a) z = refl
 still-block b (Instrument i) z = refl
 still-block b (GroupFor a g) z = refl
 
-pub unshifted : (m : List ℕ) → Bytes m → Held m → (e : Event) → Sized e → judged m e ≡ 0 → work (derivatives .unit) (bookOf m) e .orders ≡ bookOf m .orders → (o : Order) (x y : ℕ) → x ≡ 0 → y ≡ 0 → o .account ≡ 1 → o .instrument ≡ 1 → Shifted o x y (openOrders m) (openOrders (worked m e))
+pub unshifted : {m : List ℕ} {e e′ : Event} {p : ℕ} → Bytes m → e ≡ e′ → Ready m e p → Sized e′ →
+    work (derivatives .unit) (bookOf m) e′ .orders ≡ bookOf m .orders → (r : ByContracts) →
+    (r .before .0 ≡ pos 0) × (r .after .0 ≡ pos 0) × (r .order .account ≡ 1) × (r .order .instrument ≡ 1) →
+    Shifts r (openOrders m) (openOrders (worked m e))
 unfolding bookOf
-unshifted m bytes held e sized accepted same o x y no-x no-y first-a first-i =
-    record {
-      account = (omega arith, omega arith);
-      instrument = (omega arith, omega arith);
-      small = omega arith;
-      sums = λ s a i. rw (after-event m bytes held e sized accepted, same, no-x, no-y);
-    }
+unshifted {m} {e} {e′} bytes is ready sized same r none =
+    let ready′ = ready-as is ready in
+    let first-a = none .2 in
+    let first-i = none .3 in
+    shifted-as m e e′ r is
+    (record {
+      before = 0;
+      after = 0;
+      is-before = none .0;
+      is-after = none .1;
+      shifted = record {
+        account = (omega arith, omega arith);
+        instrument = (omega arith, omega arith);
+        small = omega arith;
+        sums = λ s a i. rw (after-event m bytes (ready′ .held) e′ sized (ready′ .accepted), same);
+      };
+    })
 
 -- ---- NEW
-pub new-shifted : {m : List ℕ} {s : Side} {a i id p : ℕ} {n : ℤ} → Bytes m → id < 2 ^ 64 → Ready m (New s a i id n) p → (o : Order) (x y : ℕ) → o ≡ newOrder s a i id n → x ≡ 0 → y ≡ natAbs n → Shifted o x y (openOrders m) (openOrders (worked m (New s a i id n)))
+pub new-shifts : {m : List ℕ} {s : Side} {a i id p : ℕ} {n : ℤ} → Bytes m → id < 2 ^ 64 → Ready m (New s a i id n) p → (r : ByContracts) →
+    (r .order ≡ newOrder s a i id n) × (r .before .0 ≡ pos 0) × (r .after .0 ≡ n) →
+    Shifts r (openOrders m) (openOrders (worked m (New s a i id n)))
 unfolding newOrder remaining
-new-shifted {m} {s} {a} {i} {id} {p} {n} bytes word ready o x y made x-is y-is =
-    let t = told m (ready .held) (New s a i id n) (ready .accepted) in
+new-shifts {m} {s} {a} {i} {id} {p} {n} bytes word ready r made =
+    let e = New s a i id n in
+    let t = told m (ready .held) e (ready .accepted) in
+    let low = t .2 .0 in
     let bounds = held-readable m (ready .held) in
-    rw made
-    (told-shift m bytes (ready .held) (New s a i id n) word (ready .accepted) (newOrder s a i id n) x y 0 (remaining (newOrder s a i id n)) (t .0 .0, omega (arith, t .0 .1, bounds .accounts)) (t .1 .0, omega (arith, t .1 .1, bounds .instruments)) (omega (arith, t .2 .1 .1)) x-is (omega arith) (new-shift derivatives (bookOf m) s a i id n))
+    let o = newOrder s a i id n in
+    let account : Numbered 16 a = (t .0 .0, omega (arith, t .0 .1, bounds .accounts)) in
+    let instrument : Numbered 32 i = (t .1 .0, omega (arith, t .1 .1, bounds .instruments)) in
+    record {
+      before = 0;
+      after = natAbs n;
+      is-before = made .1;
+      is-after = made .2 ∙ omega (signed, magnitude-parts n);
+      shifted = rw (made .0)
+      (told-shift m bytes (ready .held) e word (ready .accepted) o 0 (natAbs n) 0 (remaining o) account instrument (omega (arith, t .2 .1 .1))
+      refl (omega arith) (new-shift derivatives (bookOf m) s a i id n));
+    }
 
 -- ---- the order in record p is the one that the event names
+pub named-loadable : (m : List ℕ) (id p : ℕ) → Held m → placeFrom 0 id (openOrders m) ≡ At p → Records m × (p < 256)
+named-loadable m id p held = loadable m id p (records m held)
+
 module _ (m : List ℕ) (id p : ℕ) (o : Order) (bytes : Bytes m) (held : Held m) (loaded : o ≡ orderIn m p) where
   found : placeFrom 0 id (openOrders m) ≡ At p → find id (openOrders m) ≡ some o
   found named = named-found m id p named ∙ ap some (sym loaded)
@@ -122,18 +156,29 @@ module _ (m : List ℕ) (id p : ℕ) (o : Order) (bytes : Bytes m) (held : Held 
   instrument : OrderFits (rosterOf m) o → Numbered 32 (o .instrument)
   instrument f = (f .instrument .0, omega (arith, f .instrument .1, held-readable m held .instruments))
 
-  pub replace-shifted : {n : ℤ} → Ready m (Replace id n) p → SFits w64 n → (o′ : Order) (x y : ℕ) → o′ ≡ replacedTotal o (natAbs (toZ w64 (ofZ w64 n))) → x ≡ remaining o → y ≡ remaining o′ → Shifted o x y (openOrders m) (openOrders (worked m (Replace id n)))
+  pub remaining-small : Found m id → placeFrom 0 id (openOrders m) ≡ At p → (r : ℕ) → r ≡ remaining o → r ≤ 1000000
+  remaining-small f named r e = omega (arith, remaining-most o, fits f named .total .1)
+
+  -- what counts of the order goes from x to y
+  abbrev ShiftsTo : Event → ℕ → ℕ → Type 0
+  ShiftsTo e x y = Shifted o x y (openOrders m) (openOrders (worked m e))
+
+  pub replace-shifted : {n : ℤ} → Ready m (Replace id n) p → SFits w64 n → (o′ : Order) → o′ ≡ replacedTotal o (natAbs (toZ w64 (ofZ w64 n))) →
+      ShiftsTo (Replace id n) (remaining o) (remaining o′)
   unfolding remaining replacedTotal
-  replace-shifted {n} ready fits-n o′ x y made x-is y-is =
+  replace-shifted {n} ready fits-n o′ made =
       let t = told m held (Replace id n) (ready .accepted) in
       let f = fits (t .0) (ready .named) in
-      let y-now : y ≡ natAbs n - o .filled = y-is ∙ rw (made, toZ-ofZ w64 n fits-n) in
-      told-shift m bytes held (Replace id n) tt (ready .accepted) o x y (o .total - o .filled) (natAbs n - o .filled) (account f) (instrument f) (omega (arith, y-now, t .1 .1 .1)) x-is y-now (replace-shift derivatives (bookOf m) derivatives-unit id o (in-book (ready .named)) n)
+      let now : remaining o′ ≡ natAbs n - o .filled = rw (made, toZ-ofZ w64 n fits-n) in
+      told-shift m bytes held (Replace id n) tt (ready .accepted) o (remaining o) (remaining o′) (o .total - o .filled) (natAbs n - o .filled)
+      (account f) (instrument f) (omega (arith, now, t .1 .1 .1)) refl now
+      (replace-shift derivatives (bookOf m) derivatives-unit id o (in-book (ready .named)) n)
 
-  pub cancel-shifted : Ready m (Cancel id) p → (x : ℕ) → x ≡ remaining o → Shifted o x 0 (openOrders m) (openOrders (worked m (Cancel id)))
-  cancel-shifted ready x x-is =
+  pub cancel-shifted : Ready m (Cancel id) p → ShiftsTo (Cancel id) (remaining o) 0
+  cancel-shifted ready =
       let f = fits (told m held (Cancel id) (ready .accepted)) (ready .named) in
-      told-shift m bytes held (Cancel id) tt (ready .accepted) o x 0 (remaining o) 0 (account f) (instrument f) (omega arith) x-is refl (cancel-shift derivatives (bookOf m) derivatives-unit id o (in-book (ready .named)))
+      told-shift m bytes held (Cancel id) tt (ready .accepted) o (remaining o) 0 (remaining o) 0 (account f) (instrument f) (omega arith)
+      refl refl (cancel-shift derivatives (bookOf m) derivatives-unit id o (in-book (ready .named)))
 
   pub fill-most : {n : ℤ} → Ready m (Fill id n) p → SFits w64 n → natAbs (toZ w64 (ofZ w64 n)) ≤ remaining o
   fill-most {n} ready fits-n =
@@ -142,9 +187,20 @@ module _ (m : List ℕ) (id p : ℕ) (o : Order) (bytes : Bytes m) (held : Held 
       let same : t .0 .order ≡ o = cc (found (ready .named)) in
       rw (toZ-ofZ w64 n fits-n) (rw same at (t .2))
 
-  pub fill-shifted : {n : ℤ} → Ready m (Fill id n) p → SFits w64 n → (x : ℕ) → x ≡ remaining o → Shifted o x (x - natAbs (toZ w64 (ofZ w64 n))) (openOrders m) (openOrders (worked m (Fill id n)))
-  fill-shifted {n} ready fits-n x x-is =
+  -- what remains less what is filled
+  pub fill-left : {n : ℤ} → Ready m (Fill id n) p → SFits w64 n → (b z : ℤ) → b ≡ pos (remaining o) → z ≡ b +ℤ negℤ (toZ w64 (ofZ w64 n)) →
+      z ≡ pos (remaining o - natAbs (toZ w64 (ofZ w64 n)))
+  fill-left {n} ready fits-n b z before after =
+      let low = told m held (Fill id n) (ready .accepted) .1 .0 in
+      let most = rw (toZ-ofZ w64 n fits-n) at (fill-most ready fits-n) in
+      rw (after, before, toZ-ofZ w64 n fits-n) (omega (signed, magnitude-parts n, difference-parts (pos (remaining o)) n))
+
+  pub fill-shifted : {n : ℤ} → Ready m (Fill id n) p → SFits w64 n →
+      ShiftsTo (Fill id n) (remaining o) (remaining o - natAbs (toZ w64 (ofZ w64 n)))
+  fill-shifted {n} ready fits-n =
       let t = told m held (Fill id n) (ready .accepted) in
       let f = fits (t .0) (ready .named) in
       let same = toZ-ofZ w64 n fits-n in
-      told-shift m bytes held (Fill id n) tt (ready .accepted) o x (x - natAbs (toZ w64 (ofZ w64 n))) (remaining o) (remaining o - natAbs n) (account f) (instrument f) (omega (arith, remaining-most o, f .total .1)) x-is (rw (x-is, same)) (fill-shift derivatives (bookOf m) derivatives-unit id o (in-book (ready .named)) n (rw same at (fill-most ready fits-n)))
+      told-shift m bytes held (Fill id n) tt (ready .accepted) o (remaining o) (remaining o - natAbs (toZ w64 (ofZ w64 n)))
+      (remaining o) (remaining o - natAbs n) (account f) (instrument f) (omega (arith, remaining-most o, f .total .1)) refl (rw same)
+      (fill-shift derivatives (bookOf m) derivatives-unit id o (in-book (ready .named)) n (rw same at (fill-most ready fits-n)))

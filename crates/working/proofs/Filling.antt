@@ -4,12 +4,13 @@ use mathlib.Core.Path.{_≡_, refl, _∙_, sym, ap}
 use mathlib.Core.List.{List}
 use mathlib.Core.Option.{some}
 use native.Mathlib.Omega.{arith}
-use lib.IntN.{ℤ, pos, natAbs, _+ℤ_, _-ℤ_}
+use lib.IntN.{ℤ, pos, negℤ, natAbs, _+ℤ_}
 use lib.ListN.{length}
 use mir.Syntax.{w64}
 use mir.Val.{SFits, toZ, ofZ}
-use mir.ValLaws.{toZ-pos, toZ-ofZ}
-use Rattle.integers.specs.Magnitude.{sized, magnitude-sum, magnitude-difference}
+use mir.ValLaws.{toZ-ofZ}
+use Rattle.integers.specs.Magnitude.{sized, magnitude-sum, magnitude-negation}
+use Rattle.integers.specs.Parts.{signed, magnitude-parts}
 use Rattle.words.specs.Words.{signedAt}
 use Rattle.ledger.specs.declared.order.Side.{Side}
 use Rattle.ledger.specs.declared.find.Found.the-variants.{At}
@@ -35,22 +36,10 @@ use Rattle.working.proofs.Told.{Told, laid, records, told}
 use Rattle.working.proofs.Rooms.{Cast, cast-fits}
 use Rattle.working.proofs.Changing.{named-id, named-found}
 
--- ---- the balance after a fill by n
-module _ (b : ℤ) (n : ℕ) (fits : SFits w64 b) (small : natAbs b ≤ 1000000000) (few : n ≤ 1000000) where
-  as-signed : toZ w64 n ≡ pos n
-  as-signed = toZ-pos w64 n (omega arith)
-
-  pub raised-fits : SFits w64 (toZ w64 (ofZ w64 b) +ℤ toZ w64 n)
-  raised-fits = rw (toZ-ofZ w64 b fits, as-signed) (omega (sized, magnitude-sum b (pos n)))
-
-  pub lowered-fits : SFits w64 (toZ w64 (ofZ w64 b) -ℤ toZ w64 n)
-  lowered-fits = rw (toZ-ofZ w64 b fits, as-signed) (omega (sized, magnitude-difference b (pos n)))
-
-  pub raised : (s : Side) → s ≡ Buy → toZ w64 (ofZ w64 (toZ w64 (ofZ w64 b) +ℤ toZ w64 n)) ≡ b +ℤ toward (wayOf s) (pos n)
-  raised s same = toZ-ofZ w64 _ raised-fits ∙ rw (toZ-ofZ w64 b fits, as-signed, same)
-
-  pub lowered : (s : Side) → s ≡ Sell → toZ w64 (ofZ w64 (toZ w64 (ofZ w64 b) -ℤ toZ w64 n)) ≡ b +ℤ toward (wayOf s) (pos n)
-  lowered s same = toZ-ofZ w64 _ lowered-fits ∙ rw (toZ-ofZ w64 b fits, as-signed, same)
+-- the balance after a fill fits a word
+moved-fits : (s : Side) (b n z : ℤ) → natAbs b ≤ 1000000000 → natAbs n ≤ 1000000 → z ≡ b +ℤ toward (wayOf s) n → SFits w64 z
+moved-fits Buy b n z h l e = omega (sized, ap natAbs e, magnitude-sum b n)
+moved-fits Sell b n z h l e = omega (sized, ap natAbs e, magnitude-negation n, magnitude-sum b (negℤ n))
 
 -- one contract counts for 1
 pub fill-one : (o : Order) (n : ℕ) → fillMoves (derivatives .unit) (o .account) (o .instrument) o n ≡ toward (wayOf (o .side)) (pos n)
@@ -69,6 +58,10 @@ module _ {m : List ℕ} {id : ℕ} {n : ℤ} {p : ℕ} (ready : Ready m (Fill id
 
   t : Told m (Fill id n)
   t = told m (ready .held) (Fill id n) (ready .accepted)
+
+  -- the quantity as contracts
+  as-contracts : toZ w64 (ofZ w64 n) ≡ pos quantity
+  as-contracts = let low = t .1 .0 in rw (toZ-ofZ w64 n fits) (omega (signed, magnitude-parts n))
 
   pub fill-cast : Cast n
   fill-cast = cast-fits n fits (t .1 .0)
@@ -116,12 +109,16 @@ module _ {m : List ℕ} {id : ℕ} {n : ℤ} {p : ℕ} (ready : Ready m (Fill id
       fill-small =
           (rw same-balance (balance-small m (ready .held) (o .account) (o .instrument)), omega (arith, same-quantity, t .1 .1 .1))
 
-      pub fill-worked : {z : ℤ} {l x : List ℕ} → SFits w64 z → l ≡ storeFrom m (keptFirst m (At p) (filledBy o quantity)) (change (o .id) (λ y. kept (filledBy y quantity)) (openOrders m)) → z ≡ toZ w64 (ofZ w64 s) +ℤ toward (wayOf (o .side)) (pos quantity) → x ≡ storeBalance l (o .account) (o .instrument) (toZ w64 (ofZ w64 z)) → x ≡ worked m (Fill id n)
+      pub fill-worked : {z : ℤ} {l x : List ℕ} →
+          l ≡ storeFrom m (keptFirst m (At p) (filledBy o quantity)) (change (o .id) (λ y. kept (filledBy y quantity)) (openOrders m)) →
+          z ≡ toZ w64 (ofZ w64 s) +ℤ toward (wayOf (o .side)) (toZ w64 (ofZ w64 n)) →
+          x ≡ storeBalance l (o .account) (o .instrument) (toZ w64 (ofZ w64 z)) → x ≡ worked m (Fill id n)
       unfolding worked
-      fill-worked {z} fits-z stored after put =
+      fill-worked {z} stored after put =
           let first = keptFirst m (At p) (filledBy o quantity) in
           let here = stored ∙ ap (λ j. storeFrom m first (change j (λ y. kept (filledBy y quantity)) (openOrders m))) own-id in
-          put ∙ rw (here, toZ-ofZ w64 z fits-z, after, same-balance, same-quantity, found, ready .named, fill-one o (natAbs n))
+          let fits-z = moved-fits (o .side) (toZ w64 (ofZ w64 s)) (toZ w64 (ofZ w64 n)) z (fill-small .0) (fill-small .1) after in
+          put ∙ rw (here, toZ-ofZ w64 z fits-z, after, as-contracts, same-balance, same-quantity, found, ready .named, fill-one o (natAbs n))
 
     pub fill-moved : (s : Side) (k : ℕ) → k ≡ onSide s (o .side) quantity → k ≡ moved m (Fill id n) s
     unfolding moved

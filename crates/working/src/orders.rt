@@ -1,7 +1,7 @@
 // Working NEW, REPLACE, CANCEL and FILL. `place` is that of the order with the event's id, for a NEW where it joins.
 ghost use mathlib.Core.Path.{_≡_};
 ghost use Prim.Native.Nat.{_≤_};
-ghost use lib.IntN.{pos, natAbs, _+ℤ_};
+ghost use lib.IntN.{natAbs, _+ℤ_};
 ghost use Rattle.ledger.specs.declared.order.Side.the-variants.{Buy, Sell};
 ghost use Rattle.ledger.specs.declared.find.Found.the-variants.{At};
 ghost use Rattle.ledger.specs.Orders.{filledBy};
@@ -21,6 +21,7 @@ use layout::stores::set_mark;
 use layout::table::BALANCES;
 use ledger::order::Order;
 use ledger::order::Side;
+use ledger::units::Contracts;
 use words::signed_word;
 
 // NEW: an order joins, with filled 0, and its account is marked as trading.
@@ -79,13 +80,13 @@ fn moved_by(side: Side, n: u64) -> Moved
 }
 
 // The balance after a fill by `n`: a buy raises S, a sell lowers it.
-fn balance_after(side: Side, balance: i64, n: u64) -> i64
-    requires { ⌜ (natAbs balance ≤ 1000000000) × (n ≤ 1000000) ⌝ }
-    ensures { λ r. ⌜ r ≡ balance +ℤ toward (wayOf side) (pos n) ⌝ }
+fn balance_after(side: Side, balance: Contracts, n: Contracts) -> Contracts
+    requires { ⌜ (natAbs (balance .0) ≤ 1000000000) × (natAbs (n .0) ≤ 1000000) ⌝ }
+    ensures { λ r. ⌜ r .0 ≡ balance .0 +ℤ toward (wayOf side) (n .0) ⌝ }
 {
     match side {
-        Side::Buy => balance + n as i64,
-        Side::Sell => balance - n as i64,
+        Side::Buy => balance.plus(n),
+        Side::Sell => balance.less(n),
     }
 }
 
@@ -113,8 +114,9 @@ pub fn work_fill(m: &mut [u8], id: u64, quantity: i64, place: usize) -> Moved
     let account = o.account as usize;
     let instrument = o.instrument as usize;
     let side = o.side;
-    let balance = signed_word(m, BALANCES + account * 32 + instrument);
+    let balance = Contracts(signed_word(m, BALANCES + account * 32 + instrument));
     fill_record(m, place, o, n);
-    set_balance(m, account, instrument, balance_after(side, balance, n));
+    let next = balance_after(side, balance, Contracts(quantity));
+    set_balance(m, account, instrument, next.0);
     moved_by(side, n)
 }

@@ -20,14 +20,14 @@ unfolding groupBytes
 bytes c =
     let s = c .before .before .before .before .before .before .before .before .before in
     c .part4 .ensures
-    ∙ rw (c .before .before .part3 .ensures, group-is _ _ _ _ (s .pre .2) (c .before .group-of .ensures))
+    ∙ rw (c .before .before .part3 .ensures, group-is _ _ _ _ (s .pre .3) (c .before .group-of .ensures))
 
 positions-within-requires : tie.Need-positions-within-requires
 positions-within-requires c κs =
     let p2 = c .before .before .before in
     let own = p2 .before .before in
     let s = own .before .before .before .before in
-    (rw (own .cells-of .ensures, p2 .before .part .ensures, p2 .part2 .ensures) (event-bounds _ _ _ _ (s .pre .0) (s .pre .1)), rw (s .pre .3) (line-long _ _ (s .pre .0 .on)), rw (bytes c) (group-long _ _ (s .pre .0 .on)))
+    (rw (own .cells-of .ensures, p2 .before .part .ensures, p2 .part2 .ensures) (event-bounds _ _ _ _ _ (s .pre .0) (s .pre .1) (s .pre .2)), rw (s .pre .4) (line-long _ _ (s .pre .0 .on)), rw (bytes c) (group-long _ _ (s .pre .0 .on)))
 
 returns : tie.Need-returns
 returns c after raised =
@@ -36,7 +36,7 @@ returns c after raised =
     let own = p2 .before .before in
     let s = own .before .before .before .before in
     c .position-answer .ensures
-    ∙ by-words _ _ _ _ (s .pre .0) (s .pre .1) _ (rw (own .cells-of .ensures, p2 .before .part .ensures, p2 .part2 .ensures, s .pre .3, bytes p4) at (c .before .positions-within .ensures)) after raised
+    ∙ by-words _ _ _ _ _ (s .pre .0) (s .pre .1) (s .pre .2) _ (rw (own .cells-of .ensures, p2 .before .part .ensures, p2 .part2 .ensures, s .pre .4, bytes p4) at (c .before .positions-within .ensures)) after raised
 
 pub positions-of-spec : {M : Type 1} → statement M
 positions-of-spec =

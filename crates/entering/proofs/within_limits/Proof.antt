@@ -1,4 +1,4 @@
--- The line read is the one in force: a total that it refuses is a 19 or 20 (`size-refuses`), and else 21 to 24 decide (`size-fits`).
+-- The size is asked first, and where it fits the positions: the first no of both tables.
 use mathlib.Core.Path.{_≡_, refl, _∙_, sym, ap}
 use native.Mathlib.Omega.{arith}
 use borrow.Author.Needs.{needs}
@@ -15,17 +15,31 @@ use Rattle.entering.proofs.within_limits.Tie as tie
 
 order-size-requires : tie.Need-order-size-requires
 order-size-requires c κs =
-    let s = c .before .before .before .before in
-    omega (arith, ap length (c .line-of .ensures), line-long _ _ (s .pre .0 .on))
+    let read = c .before in
+    let s = read .before .before .before .before in
+    omega (arith, ap length (read .line-of .ensures), line-long _ _ (s .pre .0 .on))
 
-size : (c : tie.After-order-size) → let a = c .before .before .before .before .before .args in sizeNumber (c .order-size .result) ≡ firstNo (sizeQuestions one (rosterOf (a .m .now)) (linesOf (a .m .now) (a .o .account)) (a .o))
+size : (c : tie.After-order-size) →
+    let a = c .before .before .before .before .before .before .args in
+    sizeNumber (c .order-size .result)
+    ≡ firstNo (sizeQuestions one (rosterOf (a .m .now)) (linesOf (a .m .now) (a .o .account)) (a .o))
 size c =
-    let s = c .before .before .before .before .before in
-    c .order-size .ensures _ _ _ (rw (c .before .line-of .ensures) (line-in-force _ _ (s .pre .0 .on) (s .pre .0 .set))) refl refl
+    let read = c .before .before in
+    let s = read .before .before .before .before in
+    c .order-size .ensures _ _ _ (rw (read .line-of .ensures) (line-in-force _ _ (s .pre .0 .on) (s .pre .0 .set))) refl
+    (sym (c .before .of .ensures))
+
+positions-of-requires : tie.Need-positions-of-requires
+positions-of-requires c κs =
+    let read = c .before .before .before .before .before in
+    let s = read .before .before .before .before in
+    rw (c .of2 .ensures) (s .pre .0, refl, s .pre .1, read .before .contract-of .ensures, read .line-of .ensures)
 
 returns : tie.Need-returns
 returns c after raised =
-    c .positions-of .ensures after raised ∙ sym (size-fits _ after _ (sym (size (c .before .before .before)) ∙ ap sizeNumber (c .before .enum-told .given .1)))
+    let told = c .before .before in
+    (rw (c .before .of2 .ensures) at (c .positions-of .ensures)) after raised
+    ∙ sym (size-fits _ after _ (sym (size (told .before .before)) ∙ ap sizeNumber (told .enum-told .given .1)))
 
 returns-2 : tie.Need-returns-2
 unfolding numberOf
@@ -43,9 +57,11 @@ within-limits-spec =
     (tie.spec
     (λ c κs. search needs)
     (λ c κs. search needs)
+    (λ c κs. omega (arith, c .before .before .before .before .pre .0 .total))
     order-size-requires
     (λ c. search needs)
-    (λ c κs. search needs)
+    (λ c κs. omega (arith, c .before .before .before .before .before .before .before .before .pre .0 .small))
+    positions-of-requires
     (λ c. search needs)
     (λ c. search needs)
     returns

@@ -1,40 +1,46 @@
--- An order of the account adds what remains to its cell (`added-own`), any other changes nothing; the required bound keeps it in 64 bits.
-use Prim.Native.Nat.{_<_}
+-- The cell and the contracts are small, so that their sum as signed numbers is the cell's new number.
 use native.Mathlib.Omega.{arith}
+use mathlib.Core.Path.{_∙_, ap}
 use borrow.Author.Needs.{needs}
-use Rattle.positions.proofs.Gathering.{cell-inside, counted-itself, added-own, added-other}
+use lib.IntN.{natAbs}
+use Prim.Native.Nat.{_+_}
+use mathlib.Core.Path.{_≡_}
+use lib.ListN.{getD}
+use Rattle.integers.specs.Parts.{signed, sum-parts, magnitude-parts}
+use Rattle.integers.specs.Magnitude.{magnitude-sum}
+use Rattle.positions.specs.Gathered.{added}
 use Rattle.positions.proofs.add_to.Statement.{statement}
 use Rattle.positions.proofs.add_to.Tie as tie
 
-inside : (c : tie.After-remaining) → c .before .cell .result < 65
-inside c =
-    let s = c .before .before .before .before in
-    rw (c .before .cell .ensures) (cell-inside (s .args .o .side) (s .args .o .instrument) (s .pre .1))
+plus-requires : tie.Need-plus-requires
+plus-requires c κs = omega (arith, ap natAbs (c .of .ensures))
 
-add-cells : tie.Need-add-cells
-add-cells c =
-    let at = c .before .before .before in
-    let s = at .before .before in
-    let itself = counted-itself (s .args .cells .now) (s .args .o) (s .args .account) (at .if1 .taken) in
-    rw (c .before .before .cell .ensures, c .before .remaining .ensures) (omega (arith, itself, s .pre .2))
+number-requires : tie.Need-number-requires
+number-requires c κs =
+    let s = c .before .before .before .before in
+    let sum = c .plus .ensures in
+    let cell = c .before .of .ensures in
+    (omega (signed, cell, sum-parts (c .before .of .result .0) (s .args .n .0)), omega (arith, ap natAbs cell, magnitude-sum (c .before .of .result .0) (s .args .n .0), ap natAbs sum))
 
 returns : tie.Need-returns
+unfolding added
 returns c =
-    let at = c .before .before .before in
-    added-own _ _ _ _ _ (at .if1 .taken) (c .before .before .cell .ensures) (c .before .remaining .ensures)
-
-returns-2 : tie.Need-returns-2
-returns-2 c = added-other _ _ _ (c .if1 .left)
+    let at = c .before in
+    let s = at .before .before .before .before in
+    let cell = at .before .of .ensures in
+    let sum : c .number .result ≡ getD (s .args .cells .now) (s .args .j) 0 + natAbs (s .args .n .0) = c .number .ensures ∙ omega (signed, at .plus .ensures, cell, sum-parts (at .before .of .result .0) (s .args .n .0), magnitude-parts (s .args .n .0), magnitude-parts (at .plus .result .0)) in
+    rw sum
 
 pub add-to-spec : {M : Type 1} → statement M
 add-to-spec =
     tie.close
     (tie.spec
+    (λ c. search needs)
+    (λ c. search needs)
     (λ c κs. search needs)
-    (λ c κs. search needs)
-    (λ c. omega (arith, inside c))
-    (λ c. inside c)
-    add-cells
-    (λ c. inside (c .before))
-    returns
-    returns-2)
+    plus-requires
+    number-requires
+    (λ c. search needs)
+    (λ c. search needs)
+    (λ c. search needs)
+    returns)

@@ -1,4 +1,4 @@
--- The cells hold B and V of the account after one pass, so the weighed sum over the cells is the sum over the orders (`sum-potential`).
+-- The cells gathered hold B and V of the account, so that the weighed sum by them is PCC and PVC.
 use mathlib.Core.Path.{refl, sym}
 use Rattle.ledger.specs.Positions.{long, short}
 use Rattle.positions.proofs.Gathering.{empty-at}
@@ -10,18 +10,18 @@ gather-requires : tie.Need-gather-requires
 gather-requires c κs = (c .before .before .before .before .pre .orders-small, refl, empty-at 65)
 
 slice-aggregate-weigh : tie.Need-slice-aggregate-weigh
-slice-aggregate-weigh c = sym (c .before .gather .ensures .size)
+slice-aggregate-weigh c = sym (c .before .gather .ensures .0)
 
 weigh-requires : tie.Need-weigh-requires
 weigh-requires c κs =
     let bounds = c .before .before .before .before .before .before .pre in
     let gathered = c .before .gather .ensures in
-    record { size = gathered .size; unfilled = cells-small _ _ _ gathered (bounds .orders-small .unfilled); balances-small = bounds .balances-small; roster-small = bounds .roster-small }
+    record { size = gathered .0; unfilled = cells-small _ _ _ (gathered .1) (bounds .orders-small .unfilled); balances-small = bounds .balances-small; roster-small = bounds .roster-small }
 
 returns : tie.Need-returns
 returns c =
     let bounds = c .before .before .before .before .before .before .before .pre in
-    let gathered = c .before .before .gather .ensures in
+    let gathered = c .before .before .gather .ensures .1 in
     let few = bounds .roster-small .instruments in
     record {
       its-long = sum-potential _ _ _ _ long _ _ gathered few _ (c .weigh .ensures long);

@@ -1,4 +1,4 @@
--- After j instruments both sides are the sums of the first j parts: each turn adds the next (`sum-more`), and 32 bounded parts fit.
+-- The sum of the parts of the instruments that are passed, from none on; with all of them it is the group's position.
 use Prim.Native.Nat.{ℕ, _+_, _-_, _≤_}
 use mathlib.Core.Path.{_≡_, _∙_, ap}
 use native.Mathlib.Omega.{arith}
@@ -22,12 +22,14 @@ abbrev μ-loop : tie.MeasureT-loop
 μ-loop cells balances roster group instruments sum₀ j₀ sum j = instruments - j
 
 loop-holds : tie.Need-loop-holds Inv-loop μ-loop
-loop-holds c = (c .word .ensures ∙ instruments-word _, omega arith, λ w. sum-none _ _ _ _ w)
+loop-holds c =
+    let both = c .before in
+    (both .before .word .ensures ∙ instruments-word _, omega arith, λ w. rw (both .none .ensures, c .none2 .ensures) (sum-none _ _ _ _ w))
 
 with-part-requires : tie.Need-with-part-requires Inv-loop μ-loop
 with-part-requires c κs =
     let at = c .before in
-    let s = at .before .before .before .before .before in
+    let s = at .before .before .before .before .before .before .before in
     let balances = s .pre .balances-small in
     let roster = s .pre .roster-small in
     let j = at .loop .j in
@@ -47,7 +49,7 @@ loop-again c =
 returns : tie.Need-returns Inv-loop μ-loop
 returns c w =
     let at = c .before in
-    let a = at .before .before .before .before .before .args in
+    let a = at .before .before .before .before .before .before .before .args in
     let last : at .loop .j ≡ rosterIn (a .roster .now) .instruments = omega (arith, at .loop .inv .0) in
     at .loop .inv .2 w
     ∙ ap (λ (n : ℕ). sumByCells (a .cells .now) (signedAt (a .balances .now)) (rosterIn (a .roster .now)) (a .group) n w) last
@@ -59,6 +61,8 @@ weigh-spec =
     Inv-loop
     μ-loop
     (λ c κs. search needs)
+    (λ c κs. tt)
+    (λ c κs. tt)
     loop-holds
     (λ c. omega arith)
     with-part-requires

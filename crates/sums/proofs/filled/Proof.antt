@@ -1,35 +1,45 @@
--- What remains counts before, less the quantity after (`fill-shifted`): an accepted fill is at most what remains (`fill-most`).
+-- What remains of the order that the event names counted; the quantity, which is no more, is taken from it.
+use mathlib.Core.Path.{_∙_, ap}
+use native.Mathlib.Omega.{arith}
 use borrow.Author.Needs.{needs}
-use Rattle.working.proofs.Told.{records, told}
-use Rattle.working.proofs.Rooms.{cast-fits}
-use Rattle.working.proofs.Changing.{loadable}
-use Rattle.sums.proofs.Shifts.{fill-most, fill-shifted}
+use lib.IntN.{pos, natAbs}
+use Rattle.working.proofs.Told.{told}
+use Rattle.sums.proofs.Shifts.{named-loadable, remaining-small, fill-most, fill-left, fill-shifted}
 use Rattle.sums.proofs.filled.Statement.{statement}
 use Rattle.sums.proofs.filled.Tie as tie
 
-load-order-requires : tie.Need-load-order-requires
-load-order-requires c κs =
-    let ready = c .before .pre in
-    loadable _ _ _ (records _ (ready .held)) (ready .named)
+of-requires : tie.Need-of-requires
+of-requires c κs =
+    let known = c .before .before in
+    let ready = known .before .pre in
+    let t = told _ (ready .held) _ (ready .accepted) in
+    omega (arith, remaining-small _ _ _ _ (λ i. known .shared-slice-known .given i .fits) (ready .held) (c .before .load-order .ensures) (t .0) (ready .named) _ (c .remaining .ensures))
 
-cast-t7 : tie.Need-cast-t7
-cast-t7 c =
-    let start = c .before .before .before in
-    cast-fits _ (start .fits .quantity) (told _ (start .pre .held) _ (start .pre .accepted) .1 .0)
-
-sub-t8 : tie.Need-sub-t8
-sub-t8 c =
-    let loaded = c .before in
+less-requires : tie.Need-less-requires
+less-requires c κs =
+    let loaded = c .before .before in
     let known = loaded .before in
     let start = known .before in
-    rw (c .remaining .ensures) (fill-most _ _ _ _ (λ i. known .shared-slice-known .given i .fits) (start .pre .held) (loaded .load-order .ensures) (start .pre) (start .fits .quantity))
+    let t = told _ (start .pre .held) _ (start .pre .accepted) in
+    let most = fill-most _ _ _ _ (λ i. known .shared-slice-known .given i .fits) (start .pre .held) (loaded .load-order .ensures) (start .pre) (start .fits .quantity) in
+    let small = remaining-small _ _ _ _ (λ i. known .shared-slice-known .given i .fits) (start .pre .held) (loaded .load-order .ensures) (t .0) (start .pre .named) _ (c .before .remaining .ensures) in
+    omega (arith, ap natAbs (c .of .ensures), most, small, c .before .remaining .ensures)
 
 returns : tie.Need-returns
 returns c =
-    let loaded = c .before in
+    let counted = c .before in
+    let loaded = counted .before .before in
     let known = loaded .before in
     let start = known .before in
-    fill-shifted _ _ _ _ (λ i. known .shared-slice-known .given i .fits) (start .pre .held) (loaded .load-order .ensures) (start .pre) (start .fits .quantity) _ (c .remaining .ensures)
+    let before = counted .of .ensures ∙ ap pos (counted .before .remaining .ensures) in
+    record {
+      before = _;
+      after = _;
+      is-before = before;
+      is-after = fill-left _ _ _ _ (λ i. known .shared-slice-known .given i .fits) (start .pre .held) (loaded .load-order .ensures) (start .pre) (start .fits .quantity) _ _ before (c .less .ensures);
+      shifted = fill-shifted _ _ _ _ (λ i. known .shared-slice-known .given i .fits) (start .pre .held) (loaded .load-order .ensures) (start .pre) (start .fits .quantity);
+    }
 
 pub filled-spec : {M : Type 1} → statement M
-filled-spec = tie.close (tie.spec load-order-requires (λ c κs. search needs) cast-t7 sub-t8 returns)
+filled-spec =
+    tie.close (tie.spec (λ c κs. let ready = c .before .pre in named-loadable _ _ _ (ready .held) (ready .named)) (λ c κs. search needs) of-requires less-requires returns)

@@ -21,11 +21,17 @@ asked : (c : tie.After-admitted) → let a = c .before .before .before .before .
 asked c = rw (c .before .replaced-total .ensures) at (c .admitted .ensures)
 
 within-limits-requires : tie.Need-within-limits-requires
+unfolding replacedTotal
 within-limits-requires c κs =
     let at = c .before .before in
     let s = at .before .before .before .before in
     rw (at .before .replaced-total .ensures)
-    (record { on = replaced-on _ _ _ (s .pre .0); set = limits-set _ _ _ (asked at) (c .enum-told .given .1); small = omega (arith, s .pre .0 .small) }, s .pre .2)
+    (record {
+      on = replaced-on _ _ _ (s .pre .0);
+      set = limits-set _ _ _ (asked at) (c .enum-told .given .1);
+      total = s .pre .0 .small;
+      small = omega (arith, s .pre .0 .small);
+    }, s .pre .2)
 
 returns : tie.Need-returns
 unfolding raisedRest

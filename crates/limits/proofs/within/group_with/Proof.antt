@@ -1,13 +1,9 @@
--- The group's sum by the cells, on the side it moves to, plus |K| times the rise; the roster's words name the group, and both terms
--- have room below 64 bits (`group-room`, `rise-room`).
+-- What the weighed cells give on the side, and the rise times the weight's magnitude: both fit, and their sum is taken.
 use Prim.Native.Nat.{_≤_}
 use mathlib.Core.Path.{_≡_, _∙_, ap}
 use native.Mathlib.Omega.{arith}
 use borrow.Author.Needs.{needs}
 use lib.IntN.{ℤ, pos, natAbs, _*ℤ_}
-use mir.Syntax.{w64}
-use mir.Val.{toZ}
-use mir.ValLaws.{toZ-pos}
 use Rattle.ledger.specs.Roster.{groupOfInstrument}
 use Rattle.ledger.specs.Positions.{wayOf}
 use Rattle.ledger.specs.Records.{balancesIn, rosterIn}
@@ -26,21 +22,23 @@ contract-small c =
 group-of : (c : tie.After-word2) → let a = c .before .before .before .before .before .args in c .word2 .result ≡ groupOfInstrument (rosterIn (a .roster .now)) (a .o .instrument)
 group-of c = c .word2 .ensures ∙ group-word _ _ _ (c .before .word .ensures)
 
--- the weight's magnitude and the rise, as the machine reads them
-read : (c : tie.After-magnitude) → let a = c .before .before .before .before .before .before .before .args in (again (c .magnitude .result) ≡ pos (natAbs (a .weight))) × (toZ w64 (a .added) ≡ pos (a .added))
+-- the weight's magnitude, as the machine reads it
+read : (c : tie.After-magnitude) →
+    let a = c .before .before .before .before .before .before .before .args in
+    again (c .magnitude .result) ≡ pos (natAbs (a .weight))
 read c =
     let s = c .before .before .before .before .before .before .before in
     let k = c .magnitude .result in
     let e : k ≡ pos (natAbs (s .args .weight)) = c .magnitude .ensures ∙ ap (λ (z : ℤ). pos (natAbs z)) (small-again (s .args .weight) (omega (arith, s .pre .1))) in
-    (small-again k (omega (arith, ap natAbs e, s .pre .1)) ∙ e, toZ-pos w64 _ (omega (arith, s .pre .0 .small)))
+    small-again k (omega (arith, ap natAbs e, s .pre .1)) ∙ e
 
 times-requires : tie.Need-times-requires
 times-requires c κs =
     let s = c .before .before .before .before .before .before .before in
-    rw (read c .0, read c .1) (omega arith, s .pre .1)
+    rw (read c) (omega arith, s .pre .1)
 
-rise : (c : tie.After-times) → let a = c .before .before .before .before .before .before .before .before .args in c .times .result .0 ≡ pos (natAbs (a .weight)) *ℤ pos (a .added)
-rise c = c .times .ensures ∙ rw (read (c .before) .0, read (c .before) .1)
+rise : (c : tie.After-times) → let a = c .before .before .before .before .before .before .before .before .args in c .times .result .0 ≡ pos (natAbs (a .weight)) *ℤ a .added .0
+rise c = c .times .ensures ∙ rw (read (c .before))
 
 before : (c : tie.After-on-side) → let a = c .before .before .before .before .before .before .before .before .before .args in c .on-side .result .0 ≡ sumByCells (a .cells .now) (balancesIn (a .balances .now)) (rosterIn (a .roster .now)) (groupOfInstrument (rosterIn (a .roster .now)) (a .o .instrument)) (rosterIn (a .roster .now) .instruments) (wayOf (a .to))
 before c =
@@ -53,7 +51,7 @@ plus-requires c κs =
     let s = c .before .before .before .before .before .before .before .before .before in
     let a = s .args in
     rw (before c, rise (c .before))
-    (omega (arith, group-room (a .cells .now) (a .balances .now) (a .roster .now) (groupOfInstrument (rosterIn (a .roster .now)) (a .o .instrument)) (s .pre .0 .positions) (wayOf (a .to)), rise-room (natAbs (a .weight)) (a .added) (s .pre .1) (s .pre .0 .small)))
+    (omega (arith, group-room (a .cells .now) (a .balances .now) (a .roster .now) (groupOfInstrument (rosterIn (a .roster .now)) (a .o .instrument)) (s .pre .0 .positions) (wayOf (a .to)), rise-room (natAbs (a .weight)) (a .added .0) (s .pre .1) (s .pre .0 .small)))
 
 returns : tie.Need-returns
 returns c = c .plus .ensures ∙ rw (before (c .before), rise (c .before .before))
@@ -67,7 +65,6 @@ group-with-spec =
     (λ c. omega (arith, contract-small c))
     (λ c κs. omega (arith, contract-small c, c .before .before .before .before .pre .0 .positions .roster-small .long))
     (λ c κs. search needs)
-    (λ c. search needs)
     (λ c κs. search needs)
     times-requires
     (λ c κs. search needs)

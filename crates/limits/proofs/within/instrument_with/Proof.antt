@@ -1,14 +1,12 @@
--- PCI or PVI after the event is S toward the side with the order's cell and the rise (`with-more`); balance, cell and rise are
--- bounded, so no sum leaves 64 bits.
+-- The balance and the cell of the order's side are small: with the rise they make PCI or PVI.
 use Prim.Native.Nat.{_≤_, _<_}
-use mathlib.Core.Path.{_≡_, _∙_}
+use mathlib.Core.Path.{_≡_, _∙_, ap}
 use native.Mathlib.Omega.{arith}
 use lib.ListN.{length, getD}
-use lib.IntN.{pos}
+use lib.IntN.{ℤ, pos, natAbs, _+ℤ_}
 use mir.Syntax.{w64}
-use mir.Val.{toZ}
-use mir.ValLaws.{toZ-pos, toZ-ofZ}
-use Rattle.integers.specs.Magnitude.{sized, magnitude-sum}
+use mir.ValLaws.{toZ-ofZ}
+use Rattle.integers.specs.Magnitude.{magnitude-sum}
 use Rattle.ledger.specs.Records.{balancesIn}
 use Rattle.ledger.proofs.Fits.{again}
 use Rattle.positions.specs.Gathered.{cell}
@@ -32,29 +30,34 @@ unfilled c =
     let s = c .before .before .before .before in
     (rw (c .cell .ensures), rw (c .cell .ensures) (s .pre .0 .unfilled (s .args .o .side)))
 
--- the cell and the rise, as the machine reads them
-read : (c : tie.After-shared-slice-known3) → let a = c .before .before .before .before .before .args in let x = getD (a .cells .now) (c .before .cell .result) 0 in (toZ w64 x ≡ pos x) × (toZ w64 (a .added) ≡ pos (a .added))
-read c =
-    let s = c .before .before .before .before .before in
-    (toZ-pos w64 _ (omega (arith, unfilled (c .before) .1)), toZ-pos w64 _ (omega (arith, s .pre .1)))
-
 plus-requires : tie.Need-plus-requires
-plus-requires c κs = rw (read c .0, read c .1) (omega (arith, unfilled (c .before) .1, c .before .before .before .before .before .pre .1))
+plus-requires c κs =
+    let placed = c .before .before in
+    omega (arith, ap natAbs (c .of .ensures), unfilled placed .1, placed .before .before .before .before .pre .1)
 
 potential-requires : tie.Need-potential-requires
 potential-requires c κs =
-    let at = c .before in
-    let s = at .before .before .before .before .before in
-    rw (balance (at .before .before), c .plus .ensures, read at .0, read at .1)
-    (omega (arith, s .pre .0 .balance, s .pre .1, unfilled (at .before) .1, magnitude-sum (pos (getD (s .args .cells .now) (at .before .cell .result) 0)) (pos (s .args .added))))
+    let placed = c .before .before .before in
+    let s = placed .before .before .before .before in
+    rw (balance (placed .before), c .plus .ensures, c .before .of .ensures)
+    (omega (arith, s .pre .0 .balance, s .pre .1, unfilled placed .1, magnitude-sum (pos (getD (s .args .cells .now) (placed .cell .result) 0)) (s .args .added .0)))
+
+-- what is open with the rise
+raised : (c : tie.After-plus) →
+    let a = c .before .before .before .before .before .before .before .args in
+    c .plus .result .0 ≡ pos (getD (a .cells .now) (cell (a .o .side) (a .o .instrument)) 0) +ℤ a .added .0
+raised c =
+    let placed = c .before .before .before in
+    let more = placed .before .before .before .before .args .added .0 in
+    c .plus .ensures ∙ ap (λ (z : ℤ). z +ℤ more) (c .before .of .ensures ∙ ap pos (unfilled placed .0))
 
 returns : tie.Need-returns
 returns c =
-    let at = c .before .before in
-    let a = at .before .before .before .before .before .args in
+    let placed = c .before .before .before .before in
+    let a = placed .before .before .before .before .args in
     c .potential .ensures
-    ∙ rw (balance (at .before .before), c .before .plus .ensures, read at .0, read at .1, unfilled (at .before) .0)
-    (with-more (a .cells .now) (balancesIn (a .balances .now)) (a .o .instrument) (a .o .side) (a .added))
+    ∙ rw (balance (placed .before), raised (c .before))
+    (with-more (a .cells .now) (balancesIn (a .balances .now)) (a .o .instrument) (a .o .side) (a .added .0))
 
 pub instrument-with-spec : {M : Type 1} → statement M
 instrument-with-spec =
@@ -64,8 +67,7 @@ instrument-with-spec =
     (λ c κs. c .before .before .before .pre .0 .instrument .1)
     (λ c. omega (arith, inside c, c .before .before .before .before .pre .0 .size))
     (λ c. inside (c .before))
-    (λ c. omega (sized, unfilled (c .before) .1))
-    (λ c. omega (sized, c .before .before .before .before .before .pre .1))
+    (λ c κs. omega (arith, unfilled (c .before) .1))
     plus-requires
     potential-requires
     returns)

@@ -1,12 +1,12 @@
--- 21 or 22 first, then 23 or 24: the cells are B and V before the event, so with the rise they are the positions after it.
--- A weight of 0 moves no group, and else the group's test decides (`by-group`), against its limit times 10,000.
+-- The tests of the instrument's and the group's position are the questions' own, in their order.
+use Prim.Native.Nat.{ℕ}
 use mathlib.Core.Path.{_≡_, _∙_, sym, ap}
 use mathlib.Core.Bool.{Bool, true, false, cond}
 use mathlib.Core.List.{List}
 use native.Mathlib.Omega.{arith}
 use borrow.Author.Needs.{needs}
 use borrow.Author.Tests.{not-true, not-false}
-use lib.IntN.{pos, natAbs, _+ℤ_}
+use lib.IntN.{pos, natAbs, _+ℤ_, _*ℤ_}
 use lib.Signed.{leZ}
 use mir.Syntax.{w64}
 use mir.Val.{toZ, ofZ}
@@ -33,19 +33,25 @@ use Rattle.limits.proofs.within.positions_within.Tie as tie
 instrument-with-requires : tie.Need-instrument-with-requires
 instrument-with-requires c κs =
     let s = c .before .before .before .before .before .before in
-    (instrument-bounds (s .args .cells .now) (s .args .balances .now) (s .args .roster .now) (s .args .o) (s .args .added) (s .pre .0), s .pre .0 .small)
+    (instrument-bounds (s .args .cells .now) (s .args .balances .now) (s .args .roster .now) (s .args .o) (s .args .added .0) (s .pre .0), s .pre .0 .small)
 
 -- PCI or PVI with the event applied, by the open orders
-instrument-found : (c : tie.After-instrument-with) (before : List Order) → let a = c .before .before .before .before .before .before .before .args in Gathered (a .cells .now) before (a .o .account) → c .instrument-with .result .0 ≡ ofInstrument one before (a .o .account) (balancesIn (a .balances .now)) (a .o .instrument) (wayOf (a .o .side)) +ℤ pos (a .added)
-instrument-found c before gathered =
+instrument-found : (c : tie.After-instrument-with) (n : ℕ) (before : List Order) →
+    let a = c .before .before .before .before .before .before .before .args in
+    a .added .0 ≡ pos n → Gathered (a .cells .now) 0 before (a .o .account) →
+    c .instrument-with .result .0
+    ≡ ofInstrument one before (a .o .account) (balancesIn (a .balances .now)) (a .o .instrument) (wayOf (a .o .side)) +ℤ pos n
+instrument-found c n before more gathered =
     let s = c .before .before .before .before .before .before .before in
-    of-orders (s .args .cells .now) (s .args .balances .now) (s .args .roster .now) before (s .args .o) (s .args .added) (s .pre .0) gathered (wayOf (s .args .o .side)) _ _ (c .instrument-with .ensures)
+    rw more at
+    (of-orders (s .args .cells .now) (s .args .balances .now) (s .args .roster .now) before (s .args .o) (s .args .added .0)
+    (s .pre .0) gathered (wayOf (s .args .o .side)) _ _ (c .instrument-with .ensures))
 
 returns : tie.Need-returns
-returns c ls before after gathered in-force of-group raised =
+returns c ls n before after more gathered in-force of-group raised =
     let at = c .before .before in
     c .instrument-refusal .ensures
-    ∙ sym (instrument-passed _ ls before after _ _ _ _ _ in-force of-group raised _ _ (instrument-found (at .before) before gathered) (at .before .before .largest-position .ensures) (sym (at .at-most .ensures) ∙ not-true _ (c .before .if1 .taken)))
+    ∙ sym (instrument-passed _ ls before after _ _ _ _ _ in-force of-group raised _ _ (instrument-found (at .before) n before more gathered) (at .before .before .largest-position .ensures) (sym (at .at-most .ensures) ∙ not-true _ (c .before .if1 .taken)))
 
 passed : (c : tie.Else1) → leZ (c .before .before .instrument-with .result .0) (c .before .before .before .largest-position .result .0) ≡ true
 passed c = sym (c .before .at-most .ensures) ∙ not-false _ (c .if1 .left)
@@ -57,9 +63,9 @@ weight c =
     ∙ weight-word _ _
 
 returns-2 : tie.Need-returns-2
-returns-2 c ls before after gathered in-force of-group raised =
+returns-2 c ls n before after more gathered in-force of-group raised =
     let at = c .before .before in
-    sym (no-group _ ls before after _ _ _ _ _ in-force of-group raised _ _ (instrument-found (at .before .before) before gathered) (at .before .before .before .largest-position .ensures) (passed at) (sym (weight (c .before)) ∙ ap (toZ w64) (c .if2 .taken)))
+    sym (no-group _ ls before after _ _ _ _ _ in-force of-group raised _ _ (instrument-found (at .before .before) n before more gathered) (at .before .before .before .largest-position .ensures) (passed at) (sym (weight (c .before)) ∙ ap (toZ w64) (c .if2 .taken)))
 
 times-requires : tie.Need-times-requires
 times-requires c κs =
@@ -74,28 +80,40 @@ group-with-requires c κs =
     (s .pre .0, rw (weight at) (s .pre .0 .positions .roster-small .weight (s .args .o .instrument) (s .pre .0 .instrument)))
 
 -- the answer by the group's test, in both its cases
-judged : (c : tie.After-at-most2) (ls : Lines) (before after : List Order) → let a = c .before .before .before .before .before .before .before .before .before .before .before .before .before .before .before .before .args in Gathered (a .cells .now) before (a .o .account) → InForce (rosterIn (a .roster .now)) ls (a .o) (a .line .now) → OfGroup (rosterIn (a .roster .now)) ls (a .o) (a .group .now) → Raised (a .added) (a .o) before after → (t : Bool) → c .at-most2 .result ≡ t → firstNo (positionQuestions one (rosterIn (a .roster .now)) ls after (balancesIn (a .balances .now)) (a .o)) ≡ cond t 0 (groupNumber (wayOf (c .before .before .before .before .group-side .result)))
-judged c ls before after gathered in-force of-group raised t test =
+judged : (c : tie.After-at-most2) (ls : Lines) (n : ℕ) (before after : List Order) →
+    let K = c .before .before .before .before .before .before in
+    let a = K .before .before .before .before .before .before .before .before .before .before .args in
+    a .added .0 ≡ pos n →
+    Gathered (a .cells .now) 0 before (a .o .account) →
+    InForce (rosterIn (a .roster .now)) ls (a .o) (a .line .now) →
+    OfGroup (rosterIn (a .roster .now)) ls (a .o) (a .group .now) →
+    Raised n (a .o) before after →
+    (t : Bool) → c .at-most2 .result ≡ t →
+    firstNo (positionQuestions one (rosterIn (a .roster .now)) ls after (balancesIn (a .balances .now)) (a .o)) ≡ cond t 0 (groupNumber (wayOf (c .before .before .before .before .group-side .result)))
+judged c ls n before after more gathered in-force of-group raised t test =
     let to = c .before .before .before .before in
     let K = to .before .before in
     let at = K .before in
     let s = at .before .before .before .before .before .before .before .before .before in
-    by-group _ ls before after _ _ _ _ _ in-force of-group raised _ _ (instrument-found (at .before .before) before gathered) (at .before .before .before .largest-position .ensures) (passed at) (s .pre .0 .instrument)
+    by-group _ ls before after _ _ _ _ _ in-force of-group raised _ _ (instrument-found (at .before .before) n before more gathered) (at .before .before .before .largest-position .ensures) (passed at) (s .pre .0 .instrument)
     (λ e. to .before .if2 .left (ap (ofZ w64) (sym (toZ-ofZ w64 (K .signed-word .result) (record { sfits = K .signed-word .ok })) ∙ weight K ∙ e)))
     (wayOf (to .group-side .result))
     (to .group-side .ensures ∙ rw (weight K))
     _ _
-    (of-group′ (s .args .cells .now) (s .args .balances .now) (s .args .roster .now) before (s .args .o) (s .args .added) (s .pre .0) gathered (wayOf (to .group-side .result)) _ _ _ (c .before .group-with .ensures ∙ rw (weight K)))
+    (of-group′ (s .args .cells .now) (s .args .balances .now) (s .args .roster .now) before (s .args .o) (s .args .added .0) (s .pre .0)
+    gathered (wayOf (to .group-side .result))
+    (pos (natAbs (rosterIn (s .args .roster .now) .weight (s .args .o .instrument))) *ℤ pos n)
+    _ _ (c .before .group-with .ensures ∙ rw (more, weight K)))
     (c .before .before .times .ensures ∙ rw (c .before .before .before .largest-of-group .ensures))
     t
     (sym (c .at-most2 .ensures) ∙ test)
 
 returns-3 : tie.Need-returns-3
-returns-3 c ls before after gathered in-force of-group raised = sym (judged (c .before) ls before after gathered in-force of-group raised true (c .if3 .taken))
+returns-3 c ls n before after more gathered in-force of-group raised = sym (judged (c .before) ls n before after more gathered in-force of-group raised true (c .if3 .taken))
 
 returns-4 : tie.Need-returns-4
-returns-4 c ls before after gathered in-force of-group raised =
-    c .group-refusal .ensures ∙ sym (judged (c .before .before) ls before after gathered in-force of-group raised false (c .before .if3 .left))
+returns-4 c ls n before after more gathered in-force of-group raised =
+    c .group-refusal .ensures ∙ sym (judged (c .before .before) ls n before after more gathered in-force of-group raised false (c .before .if3 .left))
 
 pub positions-within-spec : {M : Type 1} → statement M
 positions-within-spec =

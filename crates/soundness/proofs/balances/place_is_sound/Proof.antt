@@ -1,47 +1,63 @@
--- S + B and −S + V are compared by what S may be, 1,000,000,000 − B and V − 1,000,000,000: B and V are small, so both differences
--- fit 64 bits, while S may be any word.
-use mathlib.Core.Path.{_≡_}
+-- The two tests of the code are those of S + B and −S + V, asked without a sum with the balance, which may be any word.
+use mathlib.Core.Path.{_≡_, refl, _∙_, ap}
+use mathlib.Core.Bool.{_&&_}
+use native.Mathlib.Omega.{arith}
 use borrow.Author.Needs.{needs}
+use borrow.Author.Tests.{not-true, not-false}
+use lib.IntN.{ℤ, pos, negℤ, natAbs, _+ℤ_}
+use lib.Signed.{leZ}
 use mir.Syntax.{w64}
-use mir.Val.{toZ, ofZ}
 use mir.ValLaws.{toZ-ofZ}
 use Rattle.ledger.specs.declared.order.Side.the-variants.{Buy, Sell}
-use Rattle.soundness.proofs.Places.{cell-small, cell-fits, room-fits, room-read, least-fits, least-read, place-over, place-within}
+use Rattle.ledger.proofs.Fits.{again}
+use Rattle.soundness.specs.Soundness.{placeSound}
+use Rattle.soundness.proofs.Places.{cell-small, place-tested}
 use Rattle.soundness.proofs.balances.place_is_sound.Statement.{statement}
 use Rattle.soundness.proofs.balances.place_is_sound.Tie as tie
 
-cast-b : tie.Need-cast-b
-cast-b c = let s = c .before .before .before in cell-fits _ (cell-small _ _ _ _ (s .pre .0) (s .pre .1) (s .pre .2) (s .pre .3) Buy)
+of-requires : tie.Need-of-requires
+of-requires c κs =
+    let s = c .before .before .before in
+    omega (arith, cell-small _ _ _ _ (s .pre .0) (s .pre .1) (s .pre .2) (s .pre .3) Buy)
 
-cast-v : tie.Need-cast-v
-cast-v c = let s = c .before .before .before .before in cell-fits _ (cell-small _ _ _ _ (s .pre .0) (s .pre .1) (s .pre .2) (s .pre .3) Sell)
-
-sub-if1 : tie.Need-sub-if1
-sub-if1 c = let s = c .before .before .before .before in room-fits _ (cell-small _ _ _ _ (s .pre .0) (s .pre .1) (s .pre .2) (s .pre .3) Buy)
-
-sub-result : tie.Need-sub-result
-sub-result c =
+of-requires-2 : tie.Need-of-requires-2
+of-requires-2 c κs =
     let s = c .before .before .before .before .before in
-    least-fits _ (cell-small _ _ _ _ (s .pre .0) (s .pre .1) (s .pre .2) (s .pre .3) Sell)
+    omega (arith, cell-small _ _ _ _ (s .pre .0) (s .pre .1) (s .pre .2) (s .pre .3) Sell)
 
--- the balance as the machine holds it
-balance : (c : tie.After-signed-word) → toZ w64 (ofZ w64 (c .signed-word .result)) ≡ c .signed-word .result
-balance c = toZ-ofZ w64 (c .signed-word .result) (record { sfits = c .signed-word .ok })
+less-requires : tie.Need-less-requires
+less-requires c κs =
+    let b = c .before .before in
+    let s = b .before .before .before .before in
+    omega (arith, ap natAbs (b .of .ensures), cell-small _ _ _ _ (s .pre .0) (s .pre .1) (s .pre .2) (s .pre .3) Buy)
+
+less-requires-2 : tie.Need-less-requires-2
+less-requires-2 c κs =
+    let v = c .before .before .before in
+    let s = v .before .before .before .before .before .before in
+    omega (arith, ap natAbs (v .of2 .ensures), cell-small _ _ _ _ (s .pre .0) (s .pre .1) (s .pre .2) (s .pre .3) Sell)
+
+-- the first test, and what the second is to be
+tests : (c : tie.After-at-most) →
+    let s = c .before .before .before .before .before .before .before .before in
+    (z : ℤ) → z ≡ c .before .before .of2 .result .0 +ℤ negℤ (pos 1000000000) →
+    (c .at-most .result && leZ z (again (c .before .before .before .before .before .before .signed-word .result)))
+    ≡ placeSound (s .args .m .now) (s .args .a) (s .args .i)
+tests c z e =
+    let v = c .before .before in
+    let b = v .before .before in
+    let w = b .before .before in
+    let s = w .before .before in
+    rw (c .at-most .ensures, c .before .less .ensures, e, toZ-ofZ w64 (w .signed-word .result) (record { sfits = w .signed-word .ok }))
+    (place-tested _ _ _ _ (s .pre .0) (s .pre .1) (s .pre .2) (s .pre .3) _ _ _ (w .signed-word .ensures) (b .of .ensures) (v .of2 .ensures))
 
 returns : tie.Need-returns
-returns c =
-    let w = c .before .before .before in
-    let s = w .before .before in
-    let room = room-read _ (cell-small _ _ _ _ (s .pre .0) (s .pre .1) (s .pre .2) (s .pre .3) Buy) in
-    place-over _ _ _ _ (s .pre .0) (s .pre .1) (s .pre .2) (s .pre .3) (w .signed-word .result) (w .signed-word .ensures) (rw (room, balance w) at (c .if1 .taken))
+returns c = rw (not-true (c .before .at-most .result) (c .if1 .taken)) at (tests (c .before) _ refl)
 
 returns-2 : tie.Need-returns-2
 returns-2 c =
-    let w = c .before .before .before in
-    let s = w .before .before in
-    let room = room-read _ (cell-small _ _ _ _ (s .pre .0) (s .pre .1) (s .pre .2) (s .pre .3) Buy) in
-    let least = least-read _ (cell-small _ _ _ _ (s .pre .0) (s .pre .1) (s .pre .2) (s .pre .3) Sell) in
-    rw (least, balance w) (place-within _ _ _ _ (s .pre .0) (s .pre .1) (s .pre .2) (s .pre .3) (w .signed-word .result) (w .signed-word .ensures) (rw (room, balance w) at (c .if1 .left)))
+    let at = c .before .before in
+    c .at-most2 .ensures ∙ rw (not-false (at .before .at-most .result) (at .if1 .left)) at (tests (at .before) _ (c .before .less2 .ensures))
 
 pub place-is-sound-spec : {M : Type 1} → statement M
 place-is-sound-spec =
@@ -55,14 +71,16 @@ place-is-sound-spec =
     (λ c. search needs)
     (λ c. search needs)
     (λ c. search needs)
-    cast-b
+    of-requires
     (λ c. search needs)
     (λ c. search needs)
     (λ c. search needs)
     (λ c. search needs)
     (λ c. search needs)
-    cast-v
-    sub-if1
+    of-requires-2
+    less-requires
+    (λ c κs. search needs)
     returns
-    sub-result
+    less-requires-2
+    (λ c κs. search needs)
     returns-2)

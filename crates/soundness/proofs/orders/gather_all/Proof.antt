@@ -1,11 +1,12 @@
--- After p records: the ids ascend as the rest does from the last, each remains, each detail is within `all`, and each cell with what
--- is left to count is the whole B or V. A cell holds at most p times 2^27, p at most 256, so no sum overflows.
-use Prim.Native.Nat.{_-_, _<_}
+-- The records passed have ascending ids and something left of each, and what is left of them is in the cells.
+use Prim.Native.Nat.{_+_, _-_, _<_}
 use mathlib.Core.Path.{_≡_}
 use mathlib.Core.Bool.{false≢true}
 use native.Mathlib.Omega.{arith}
 use lib.ListN.{length}
+use Rattle.integers.specs.Parts.{signed}
 use Rattle.words.specs.Words.{wordAt}
+use Rattle.ledger.proofs.Details.{remaining-below}
 use Rattle.layout.specs.Layout.{countWord}
 use Rattle.layout.specs.View.{recordsOf}
 use Rattle.soundness.proofs.Telling.{records-long}
@@ -45,22 +46,30 @@ returns-2 c =
 
 add-to-requires : tie.Need-add-to-requires Inv-loop μ-loop
 add-to-requires c κs =
-    let at = c .before .before .before .before .before .before .before .before in
+    let packed = c .before .before .before in
+    let read = packed .before .before .before .before .before in
+    let at = read .before .before .before in
     let past = at .loop .inv .2 in
     let s = at .before .before .before .before in
-    (past .size, λ j. omega (arith, past .small j, at .loop .inv .0, s .pre .1 .count, past .upto))
+    let rest = remaining-below _ (read .detail-in .ok) in
+    rw (c .of .ensures)
+    (omega (arith, past .size, packed .packed-of .ensures), omega signed, omega (arith, past .small (65 + packed .packed-of .result), at .loop .inv .0, s .pre .1 .count, past .upto, c .before .remaining-of2 .ensures, rest))
 
 loop-again : tie.Need-loop-again Inv-loop μ-loop
 loop-again c =
-    let all = c .before .before in
+    let added = c .before in
+    let packed = added .before .before .before in
+    let all = packed .before in
     let two = all .before in
     let rest = two .before in
     let one = rest .before in
     let read = one .before in
-    let at = read .before .before .before in (
+    let at = read .before .before .before in
+    let cells = rw (added .of .ensures, added .before .remaining-of2 .ensures, packed .packed-of .ensures) at (c .add-to .ensures) in (
       at .loop .inv .0,
       at .loop .inv .1,
-      passed-more _ _ _ _ _ (at .loop .p) (at .loop .inv .2) _ _ (omega arith) (read .before .id-in .ensures) (read .detail-in .ensures) (one .if1 .left) _ (rest .remaining-of .ensures) (two .if2 .left) (read .detail-in .ok) _ (all .joined .ensures) _ (c .add-to .ensures _),
+      passed-more _ _ _ _ _ (at .loop .p) (at .loop .inv .2) _ _ (omega arith) (read .before .id-in .ensures) (read .detail-in .ensures)
+      (one .if1 .left) _ (rest .remaining-of .ensures) (two .if2 .left) (read .detail-in .ok) _ (all .joined .ensures) _ cells,
     )
 
 returns-3 : tie.Need-returns-3 Inv-loop μ-loop
@@ -86,8 +95,12 @@ gather-all-spec =
     (λ c κs. tt)
     returns-2
     (λ c κs. tt)
+    (λ c κs. tt)
+    (λ c. omega (arith, c .packed-of .ensures))
+    (λ c κs. tt)
+    (λ c κs. omega (arith, c .remaining-of2 .ensures, remaining-below _ (c .before .before .before .before .before .before .before .detail-in .ok)))
     add-to-requires
-    (λ c. omega (arith, long (c .before .before .before .before .before .before .before .before)))
+    (λ c. omega (arith, long (c .before .before .before .before .before .before .before .before .before .before .before)))
     (λ c. omega arith)
     loop-again
     returns-3)

@@ -1,5 +1,4 @@
--- The loaded order is the one that the id names, and the balance is read before the records move: filled order and moved S are stored as
--- the book has them (`fill-worked`). A sound desk's S is at most 1,000,000,000 and a quantity 1,000,000, so the new S fits.
+-- The record, the balance and the contracts moved are what the definition says of the order that the event names.
 use native.Mathlib.Omega.{arith}
 use borrow.Author.Needs.{needs}
 use Rattle.ledger.specs.declared.order.Side.the-variants.{Buy, Sell}
@@ -47,25 +46,27 @@ fill-record-requires c κs =
 
 balance-after-requires : tie.Need-balance-after-requires
 balance-after-requires c κs =
-    let read = c .before .before .before .before .before in
+    let read = c .before .before .before .before in
     let loaded = read .before .before in
     let start = loaded .before .before .before in
     omega (arith, fill-small (start .pre) (start .fits .quantity) (loaded .load-order .ensures) (record { sfits = read .signed-word .ok }) (read .signed-word .ensures))
 
 set-balance-requires : tie.Need-set-balance-requires
 set-balance-requires c κs =
-    let loaded = c .before .before .before .before .before .before .before .before in
+    let loaded = c .before .before .before .before .before .before .before .before .before in
     let start = loaded .before .before .before in
     omega (arith, fill-room (start .pre) (start .fits .quantity) (loaded .load-order .ensures))
 
 returns : tie.Need-returns
 returns c =
-    let after = c .before .before .before .before in
-    let stored = after .before .before .before .before in
+    let after = c .before .before .before .before .before .before in
+    let stored = after .before .before .before in
     let read = stored .before .before in
     let loaded = read .before .before in
     let start = loaded .before .before .before in (
-      fill-worked (start .pre) (start .fits .quantity) (loaded .load-order .ensures) (record { sfits = read .signed-word .ok }) (read .signed-word .ensures) (record { sfits = after .balance-after .ok }) (stored .fill-record .ensures) (after .balance-after .ensures) (c .before .before .before .set-balance .ensures),
+      fill-worked (start .pre) (start .fits .quantity) (loaded .load-order .ensures) (record { sfits = read .signed-word .ok })
+      (read .signed-word .ensures) (stored .fill-record .ensures) (after .balance-after .ensures)
+      (c .before .before .before .set-balance .ensures),
       (fill-moved (start .pre) (start .fits .quantity) (loaded .load-order .ensures) Buy _ (c .moved-by .ensures .0), fill-moved (start .pre) (start .fits .quantity) (loaded .load-order .ensures) Sell _ (c .moved-by .ensures .1)),
     )
 

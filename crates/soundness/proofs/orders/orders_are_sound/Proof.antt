@@ -1,5 +1,4 @@
--- Each return is the first of the orders' conditions that fails: ids and remainders, totals, marks. With all of them the cells hold
--- B and V, each of them small because 256 totals in range are.
+-- What the pass, the totals and the marks tell together is that the ids ascend and each order is sound.
 use mathlib.Core.Bool.{false≢true}
 use borrow.Author.Needs.{needs}
 use borrow.Author.Tests.{not-false}
@@ -7,8 +6,8 @@ use Rattle.ledger.specs.Records.{Within}
 use Rattle.soundness.specs.Each.{Each}
 use Rattle.soundness.proofs.Telling.{told-yes, told-no}
 use Rattle.soundness.proofs.OrdersTold.{refused-order, refused-total, last-told, gathered-small}
-use Rattle.soundness.proofs.orders.gather.Statement.{statement}
-use Rattle.soundness.proofs.orders.gather.Tie as tie
+use Rattle.soundness.proofs.orders.orders_are_sound.Statement.{statement}
+use Rattle.soundness.proofs.orders.orders_are_sound.Tie as tie
 
 returns : tie.Need-returns
 returns c =
@@ -45,8 +44,8 @@ returns-3 c =
       λ e. gathered-small _ _ (s .pre .1 .count) totals (passed .gather-all .ensures .1 .1 (not-false _ (one .if1 .left))),
     )
 
-pub gather-spec : {M : Type 1} → statement M
-gather-spec =
+pub orders-are-sound-spec : {M : Type 1} → statement M
+orders-are-sound-spec =
     tie.close
     (tie.spec
     (λ c κs. search needs)

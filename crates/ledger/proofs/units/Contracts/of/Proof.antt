@@ -1,0 +1,13 @@
+-- A number below half of the words is the same as a signed one.
+use native.Mathlib.Omega.{arith}
+use borrow.Author.Needs.{needs}
+use mir.Syntax.{w64}
+use mir.ValLaws.{toZ-pos}
+use Rattle.ledger.proofs.units.Contracts.of.Statement.{statement}
+use Rattle.ledger.proofs.units.Contracts.of.Tie as tie
+
+returns : tie.Need-returns
+returns c = toZ-pos w64 _ (omega (arith, c .pre))
+
+pub of-spec : {M : Type 1} → statement M
+of-spec = tie.close (tie.spec (λ c. search needs) returns)

@@ -1,0 +1,33 @@
+-- The four bytes at the side's place in the word, which fit as contracts.
+use Prim.Native.Nat.{ℕ, _+_}
+use mathlib.Core.Path.{_∙_, ap}
+use native.Mathlib.Omega.{arith}
+use borrow.Author.Needs.{needs}
+use lib.IntN.{pos}
+use Rattle.words.specs.Fields.{u32At}
+use Rattle.limits.proofs.LinesRead.{side-below}
+use Rattle.limits.proofs.lines.side_figure.Statement.{statement}
+use Rattle.limits.proofs.lines.side_figure.Tie as tie
+
+add-u32-at : tie.Need-add-u32-at
+add-u32-at c = omega (arith, c .side-byte .ensures, side-below (c .before .before .args .side))
+
+u32-at-requires : tie.Need-u32-at-requires
+u32-at-requires c κs = omega (arith, c .side-byte .ensures, side-below (c .before .before .args .side))
+
+returns : tie.Need-returns
+returns c =
+    let read = c .before in
+    let a = read .before .before .before .args in
+    c .of .ensures ∙ ap pos (read .u32-at .ensures ∙ ap (λ (k : ℕ). u32At (a .line .now) (a .first + k)) (read .before .side-byte .ensures))
+
+pub side-figure-spec : {M : Type 1} → statement M
+side-figure-spec =
+    tie.close
+    (tie.spec
+    (λ c κs. search needs)
+    add-u32-at
+    u32-at-requires
+    (λ c. search needs)
+    (λ c κs. omega (arith, c .u32-at .ok))
+    returns)
