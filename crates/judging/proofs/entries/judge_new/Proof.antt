@@ -12,11 +12,10 @@ use Rattle.book.specs.Table.{isQuantity}
 use Rattle.book.proofs.Tables.{between-numbered, quantity-numbered}
 use Rattle.layout.specs.View.{rosterOf}
 use Rattle.soundness.proofs.Asked.{said-no, said-yes}
-use Rattle.soundness.proofs.SoundDesk.{held-records}
 use Rattle.judging.proofs.Said.{said, quantity-cast}
 use Rattle.judging.proofs.Verdicts.{refused}
 use Rattle.judging.proofs.ByKind.{new-answer}
-use Rattle.judging.proofs.Places.{held-ids}
+use Rattle.judging.proofs.Places.{held-ranked}
 use Rattle.judging.proofs.entries.judge_new.Statement.{statement}
 use Rattle.judging.proofs.entries.judge_new.Tie as tie
 
@@ -57,9 +56,7 @@ cast-t15 : tie.Need-cast-t15
 cast-t15 c = quantity-cast _ (c .before .before .before .before .before .before .before .before .fits .quantity) (whole c)
 
 place-requires : tie.Need-place-requires
-place-requires c κs =
-    let held = c .before .before .before .before .before .before .before .before .pre .0 in
-    (held-records _ held, held-ids _ held)
+place-requires c κs = held-ranked _ (c .before .before .before .before .before .before .before .before .pre .0)
 
 new-order-requires : tie.Need-new-order-requires
 new-order-requires c κs =

@@ -16,7 +16,7 @@ use Rattle.soundness.proofs.SoundDesk.{held-records}
 use Rattle.judging.proofs.Said.{said, quantity-cast}
 use Rattle.judging.proofs.Verdicts.{refused}
 use Rattle.judging.proofs.ByKind.{replace-figure, replace-none, replace-found}
-use Rattle.judging.proofs.Places.{found-order, order-named, place-small, no-order}
+use Rattle.judging.proofs.Places.{held-ranked, found-order, order-named, place-small, no-order}
 use Rattle.judging.proofs.entries.judge_replace.Statement.{statement}
 use Rattle.judging.proofs.entries.judge_replace.Tie as tie
 
@@ -71,7 +71,7 @@ judge-replace-spec =
     (λ c κs. search needs)
     (λ c κs. search needs)
     returns
-    (λ c κs. search needs)
+    (λ c κs. held-ranked _ (c .before .before .before .before .pre .0))
     (λ c. search needs)
     load-order-requires
     cast-replaced

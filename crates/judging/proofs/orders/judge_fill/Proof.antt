@@ -16,7 +16,7 @@ use Rattle.soundness.proofs.SoundDesk.{held-records}
 use Rattle.judging.proofs.Said.{said, quantity-cast}
 use Rattle.judging.proofs.Verdicts.{refused}
 use Rattle.judging.proofs.ByKind.{fill-answer}
-use Rattle.judging.proofs.Places.{found-order, place-small, no-order}
+use Rattle.judging.proofs.Places.{held-ranked, found-order, place-small, no-order}
 use Rattle.judging.proofs.orders.judge_fill.Statement.{statement}
 use Rattle.judging.proofs.orders.judge_fill.Tie as tie
 
@@ -64,7 +64,7 @@ judge-fill-spec =
     (λ c κs. search needs)
     (λ c κs. search needs)
     returns
-    (λ c κs. search needs)
+    (λ c κs. held-ranked _ (c .before .before .before .pre))
     (λ c. search needs)
     load-order-requires
     cast-filled
