@@ -65,19 +65,24 @@ module _ (s : List ℕ) where
     not-before zero p q low high larger = absurd (omega arith)
     not-before (suc n) p q low high larger = by (decLe (orderAt s p .id) id) (not-before n (p + 1) q)
       where
-        by : Dec (orderAt s p .id ≤ id) → (p + 1 ≤ q → q < p + 1 + n → id < orderAt s q .id → p + 1 + rank id (ordersFrom s (p + 1) n) ≤ q) → p + rank id (ordersFrom s p (suc n)) ≤ q
+        by : Dec (orderAt s p .id ≤ id)
+            → (p + 1 ≤ q → q < p + 1 + n → id < orderAt s q .id → p + 1 + rank id (ordersFrom s (p + 1) n) ≤ q)
+            → p + rank id (ordersFrom s p (suc n)) ≤ q
         by (yes small) later =
             let other : p ≢ q = λ e. absurd (omega (arith, ap (λ r. orderAt s r .id) e)) in
             omega (arith, rank-more n p small, later (omega arith) (omega arith) larger)
         by (no large) later = omega (arith, rank-none n p (omega (arith, large)))
 
     -- any other is
-    before : (n p q least : ℕ) → Ascending least (ordersFrom s p n) → p ≤ q → q < p + n → orderAt s q .id ≤ id → q < p + rank id (ordersFrom s p n)
+    before : (n p q least : ℕ) → Ascending least (ordersFrom s p n) → p ≤ q → q < p + n → orderAt s q .id ≤ id
+        → q < p + rank id (ordersFrom s p n)
     unfolding ordersFrom
     before zero p q least up low high small = absurd (omega arith)
     before (suc n) p q least up low high small = by (ℕ-discrete p q) (before n (p + 1) q (orderAt s p .id) (ascending-out up .1))
       where
-        by : Dec (p ≡ q) → (p + 1 ≤ q → q < p + 1 + n → orderAt s q .id ≤ id → q < p + 1 + rank id (ordersFrom s (p + 1) n)) → q < p + rank id (ordersFrom s p (suc n))
+        by : Dec (p ≡ q)
+            → (p + 1 ≤ q → q < p + 1 + n → orderAt s q .id ≤ id → q < p + 1 + rank id (ordersFrom s (p + 1) n))
+            → q < p + rank id (ordersFrom s p (suc n))
         by (yes here) later = omega (arith, rank-more n p (rw here small))
         by (no other) later =
             let l = above n (p + 1) q (orderAt s p .id) (ascending-out up .1) (omega arith) (omega arith) in
@@ -135,7 +140,7 @@ module _ (m : List ℕ) (id : ℕ) where
           sym (seek-all s count id)
           ∙ passed s count id (p - 1) 0 (omega arith) (λ q low less there. omega (arith, ids-rise q (p - 1) (omega arith) inside))
           ∙ ap (seek s count id) e
-          ∙ seek-here s count id (p - 1) inside (sym read ∙ same)
+          ∙ seek-here s count id (p - 1) x inside read same
 
       pub found-none : (1 ≤ p → x ≢ id) → placeFrom 0 id (openOrders m) ≡ Nothing
       unfolding openOrders

@@ -1,6 +1,6 @@
-// The search of an open order by its id, and the place of a new id among the records, whose ids ascend. Both pass over whole blocks of sixteen
-// records by the last id of each, counted without a branch: which block it is cannot be foretold, and a branch taken wrongly costs more than
-// the count.
+// The search of an open order by its id, and the place of a new id among the records, whose ids ascend. Both pass over whole blocks of
+// sixteen records by the last id of each, and count these blocks without a branch: which block it is cannot be foretold, and a branch that
+// is taken wrongly costs more than the count.
 ghost use mathlib.Core.Path.{_≡_};
 ghost use Prim.Native.Nat.{_+_, _*_, _-_, _≤_, _<_};
 ghost use Rattle.words.specs.Words.{wordAt};
@@ -64,7 +64,10 @@ pub fn find_order(m: &[u8], id: u64) -> Found
 
 // How many of the records from `from` on, and before `to`, have an id that is not larger, the place being among them or at `to`.
 fn records_before(m: &[u8], from: usize, to: usize, id: u64) -> usize
-    requires { ⌜ Ranked (now m) × (from ≤ rank id (openOrders (now m))) × (rank id (openOrders (now m)) ≤ to) × (to ≤ wordAt (now m) countWord) ⌝ }
+    requires { ⌜ Ranked (now m)
+        × (from ≤ rank id (openOrders (now m)))
+        × (rank id (openOrders (now m)) ≤ to)
+        × (to ≤ wordAt (now m) countWord) ⌝ }
     ensures { λ r. ⌜ from + r ≡ rank id (openOrders (now (m .entry))) ⌝ }
 {
     let mut before = 0;

@@ -36,18 +36,20 @@ module _ (m : List ℕ) (n id : ℕ) where
   unfolding seek placeFrom ordersFrom
   seek-end p h = let e : n - p ≡ 0 = omega arith in rw e
 
-  pub seek-here : (p : ℕ) → p < n → orderAt m p .id ≡ id → seek p ≡ At p
-  seek-here p h same = turn p h ∙ simp (eq-eqb (orderAt m p .id) id same)
+  -- x is the id of record p
+  module _ (p x : ℕ) (h : p < n) (read : x ≡ orderAt m p .id) where
+    pub seek-here : x ≡ id → seek p ≡ At p
+    seek-here same = turn p h ∙ simp (eq-eqb (orderAt m p .id) id (sym read ∙ same))
 
-  pub seek-on : (p : ℕ) → p < n → orderAt m p .id ≢ id → seek p ≡ seek (p + 1)
-  seek-on p h other = turn p h ∙ simp (ne-eqb (orderAt m p .id) id other)
+    pub seek-on : x ≢ id → seek p ≡ seek (p + 1)
+    seek-on other = turn p h ∙ simp (ne-eqb (orderAt m p .id) id (λ same. other (read ∙ same)))
 
   -- records without the id are passed over
   pub passed : (k p : ℕ) → p + k ≤ n → NotIn m id p (p + k) → seek p ≡ seek (p + k)
   passed zero p h none = let e : p + 0 ≡ p = omega arith in rw e
   passed (suc k) p h none =
       let e : p + 1 + k ≡ p + suc k = omega arith in
-      seek-on p (omega arith) (none p (omega arith) (omega arith))
+      seek-on p _ (omega arith) refl (none p (omega arith) (omega arith))
       ∙ passed k (p + 1) (omega arith) (λ q low high. none q (omega arith) (omega arith))
       ∙ ap seek e
 
@@ -66,8 +68,9 @@ module _ (m : List ℕ) (id n to : ℕ) (inside : to ≤ n) (after : NotIn m id 
   cut (suc k) p e = by (ℕ-discrete (orderAt m p .id) id) (cut k (p + 1) (omega arith))
     where
       by : Dec (orderAt m p .id ≡ id) → seek m to id (p + 1) ≡ seek m n id (p + 1) → seek m to id p ≡ seek m n id p
-      by (yes same) later = seek-here m to id p (omega arith) same ∙ sym (seek-here m n id p (omega arith) same)
-      by (no other) later = seek-on m to id p (omega arith) other ∙ later ∙ sym (seek-on m n id p (omega arith) other)
+      by (yes same) later = seek-here m to id p _ (omega arith) refl same ∙ sym (seek-here m n id p _ (omega arith) refl same)
+      by (no other) later =
+          seek-on m to id p _ (omega arith) refl other ∙ later ∙ sym (seek-on m n id p _ (omega arith) refl other)
 
   pub seek-between : (from : ℕ) → from ≤ to → NotIn m id 0 from → seek m to id from ≡ seek m n id 0
   seek-between from h before =

@@ -21,7 +21,8 @@ returns c =
 returns-2 : tie.Need-returns-2
 returns-2 c =
     let start = c .before .before in
-    le-ltb 0 (start .args .p) (omega arith) ∙ sym (none-before _ (start .pre .0) (start .args .id) (start .args .p) (start .pre .1) (omega arith))
+    le-ltb 0 (start .args .p) (omega arith)
+    ∙ sym (none-before _ (start .pre .0) (start .args .id) (start .args .p) (start .pre .1) (omega arith))
 
 pub is-open-spec : {M : Type 1} → statement M
 is-open-spec = tie.close (tie.spec (λ c. search needs) id-at-requires returns returns-2)

@@ -30,7 +30,8 @@ returns-2 : tie.Need-returns-2
 unfolding newRest firstNo
 returns-2 c =
     let asked = c .before .before .before in
-    rw (free (asked .before)) (c .new-within .ensures ∙ sym (then-second _ _ _ (asked .admitted .ensures) (c .before .enum-told .given .1) _))
+    rw (free (asked .before))
+    (c .new-within .ensures ∙ sym (then-second _ _ _ (asked .admitted .ensures) (c .before .enum-told .given .1) _))
 
 returns-3 : tie.Need-returns-3
 unfolding newRest firstNo

@@ -1,5 +1,4 @@
--- Of the blocks that were looked at, those that end with a smaller id are the first ones: ids ascend, so that behind a block that does not end
--- with a smaller id none does.
+-- The blocks that end with a smaller id are the first ones: ids ascend, so that behind a block that does not end with one none does.
 use Prim.Native.Nat.{ℕ, _+_, _*_, _-_, _≤_, _<_}
 use mathlib.Core.Path.{_≡_}
 use mathlib.Core.List.{List}

@@ -1,4 +1,4 @@
--- The order with the id, if one is open, is in the block that is searched: the ids before the block are smaller, and those behind it larger.
+-- The order with the id, if one is open, is in the block that is searched: ids before the block are smaller, and those behind it larger.
 use mathlib.Core.Path.{ap}
 use native.Mathlib.Omega.{arith}
 use borrow.Author.Needs.{needs}

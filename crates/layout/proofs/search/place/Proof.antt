@@ -1,5 +1,4 @@
--- An id above the last one has its place at the end. Any other has it in the first block that does not end with a smaller id, or behind that
--- block's last record.
+-- An id above the last one has its place at the end, any other in the first block that does not end with a smaller id, or at its end.
 use native.Mathlib.Omega.{arith}
 use borrow.Author.Needs.{needs}
 use borrow.Author.Tests.{ltb-true}

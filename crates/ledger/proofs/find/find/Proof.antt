@@ -1,4 +1,4 @@
--- The loop yields the first place from `from` on: each record that it leaves has another id, so that the first place from p on stays the same.
+-- The loop yields the first place from `from` on: a record that it leaves has another id, so the first place from p on stays the same.
 use Prim.Native.Nat.{_-_, _≤_}
 use mathlib.Core.Path.{_≡_, refl, _∙_, sym}
 use native.Mathlib.Omega.{arith}
@@ -19,7 +19,7 @@ loop-again c =
       omega arith,
       omega arith,
       at .loop .inv .2
-          ∙ seek-on _ _ _ (at .loop .p) (omega arith) (λ same. c .if2 .left (c .before .id-in .ensures ∙ sym (id-at _ _) ∙ same)),
+          ∙ seek-on _ _ _ (at .loop .p) _ (omega arith) (c .before .id-in .ensures ∙ sym (id-at _ _)) (c .if2 .left),
     )
 
 returns : tie.Need-returns Inv-loop μ-loop
@@ -34,7 +34,7 @@ returns-2 c =
     let at = c .before .before .before in
     sym
     (at .loop .inv .2
-    ∙ seek-here _ _ _ (at .loop .p) (omega arith) (id-at _ _ ∙ sym (c .before .id-in .ensures) ∙ c .if2 .taken))
+    ∙ seek-here _ _ _ (at .loop .p) _ (omega arith) (c .before .id-in .ensures ∙ sym (id-at _ _)) (c .if2 .taken))
 
 pub find-spec : {M : Type 1} → statement M
 find-spec =
