@@ -28,7 +28,8 @@ extern "C" {
  * (8 each); little-endian. */
 #define DESK_EVENT 48
 
-/* The answers: 0, or the number of the first question that is answered no; behind it document 01's own term, where it has one. */
+/* The answers: 0, or the number of the first question that is answered no; behind it document 01's own term, where it has one.
+ * docs/RULES.md says what each question asks. */
 enum desk_answer {
     DESK_ACCEPTED = 0,
     /* an opening */

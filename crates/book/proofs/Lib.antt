@@ -1,3 +1,4 @@
+-- Laws of the plain book: sound books stay sound, positions stay within limits, demand 3 of any desk; and days that are computed.
 pub mod Days
 pub mod Edges
 pub mod Listing
@@ -11,6 +12,7 @@ pub mod TableLaws
 pub mod Marks
 pub mod Shifts
 pub mod Potentials
+pub mod GroupPotentials
 pub mod Decoded
 pub mod Within
 pub mod SoundLines

@@ -1,3 +1,4 @@
+-- The desk over bytes: a step, a run, what is read, and the three demands; with days that are computed of the plain book and carried over.
 pub mod Checks
 pub mod Opened
 pub mod Gate

@@ -1,3 +1,4 @@
+-- Questions 14 to 24 at a sound desk: the words and parts that are read, and the answers that they give.
 mod OnDesk
 mod Blocks
 mod LineBytes

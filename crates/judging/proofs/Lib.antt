@@ -1,3 +1,4 @@
+-- What the proofs of the judge's functions use: the table kind by kind, two lists of questions in turn, orders by id, verdicts.
 mod Said
 mod ByKind
 mod Places

@@ -1,3 +1,4 @@
+-- Laws of the memory: which words a field of the view is made of, what each store changes, and records that move. One module a subject.
 pub mod RosterLaws
 pub mod GuardedTables
 pub mod Blank

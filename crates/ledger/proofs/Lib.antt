@@ -1,3 +1,4 @@
+-- Laws of orders, sums, positions and fillings: no filling passes a potential position, and one reaches it. And of records and bounds.
 pub mod Fits
 pub mod Search
 pub mod RosterWords

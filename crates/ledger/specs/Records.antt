@@ -15,10 +15,6 @@ use Rattle.ledger.specs.Roster.{Roster, Numbered}
 unfoldable pub sideOf : ℕ → Side
 sideOf n = cond (eqb n 1) Buy Sell
 
-unfoldable pub numberOf : Side → ℕ
-numberOf Buy = 1
-numberOf Sell = 2
-
 -- side, account and instrument as one number: 64 for each account before this one, 32 for a sell, 1 for each instrument before
 -- this one
 unfoldable pub packed : Side → ℕ → ℕ → ℕ

@@ -2,7 +2,7 @@
 ghost use mathlib.Core.Path.{_≡_};
 ghost use Prim.Native.Nat.{ℕ, _+_, _*_, _≤_};
 ghost use lib.ListN.{length};
-ghost use Rattle.ledger.specs.Records.{sideOf, numberOf, packed, Packable, packedSide, packedAccount, packedInstrument, detail, detailPacked, detailFilled, detailRemaining, Storable, Within, orderOf, idAt, detailAt, orderAt};
+ghost use Rattle.ledger.specs.Records.{sideOf, packed, Packable, packedSide, packedAccount, packedInstrument, detail, detailPacked, detailFilled, detailRemaining, Storable, Within, orderOf, idAt, detailAt, orderAt};
 use crate::order::Order;
 use crate::order::Side;
 use words::word;
@@ -12,16 +12,6 @@ pub fn side_of(n: u64) -> Side
     ensures { λ r. ⌜ r ≡ sideOf n ⌝ }
 {
     if n == 1 { Side::Buy } else { Side::Sell }
-}
-
-// The number that stands for a side.
-pub fn number_of(side: Side) -> u64
-    ensures { λ r. ⌜ r ≡ numberOf side ⌝ }
-{
-    match side {
-        Side::Buy => 1,
-        Side::Sell => 2,
-    }
 }
 
 // Side, account and instrument as one number.

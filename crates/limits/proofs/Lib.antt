@@ -1,3 +1,4 @@
+-- Lines and questions 17 and 19 to 24: the tables by the tests that the code makes, what a rise does to a position, and the bounds.
 pub mod LinesRead
 pub mod Agreement
 pub mod Raising

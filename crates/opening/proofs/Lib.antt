@@ -1,3 +1,4 @@
+-- Questions 1 to 4, their tests number by number, and what an accepted opening writes.
 pub mod Tests
 pub mod Written
 pub mod Answers

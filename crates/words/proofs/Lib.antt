@@ -1,3 +1,4 @@
+-- Little-endian numbers in lent bytes: words stored, moved and left, parts, halves, bits, and two's complement.
 mod Unrolled
 mod Complement
 pub mod Numbers

@@ -1,3 +1,4 @@
+-- Working an accepted event: what an acceptance tells, what is then stored, and that the view becomes the book's and stays sound.
 pub mod Told
 pub mod FirstRecord
 pub mod Writes

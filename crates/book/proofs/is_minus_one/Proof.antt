@@ -1,3 +1,4 @@
+-- The 64 bits of −1 are all set, and no other number that fits 64 bits has these: the comparison of bits tells −1 alone.
 use Prim.Native.Nat.{zero, suc}
 use mathlib.Core.Path.{_≡_, refl, sym, ap, _∙_}
 use mathlib.Core.Bool.{false, true≢false}

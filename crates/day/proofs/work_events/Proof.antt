@@ -1,3 +1,4 @@
+-- Memory, buffer and block keep their lengths; the events before the block stay below 2^63 and rise by a block's each turn.
 use Prim.Native.Nat.{_-_}
 use mathlib.Core.Path.{_≡_}
 use lib.ListN.{length}

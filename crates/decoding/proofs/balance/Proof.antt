@@ -1,3 +1,4 @@
+-- BALANCE names account, item and one figure: side, level, id and the other figures are zero, or it is junk (`balance-law`).
 use borrow.Author.Needs.{needs}
 use borrow.Author.Tests.{eq-eqb, ne-eqb}
 use Rattle.decoding.proofs.Laws.{and-false, refused, passed, balance-law}

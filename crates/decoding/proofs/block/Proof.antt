@@ -1,3 +1,4 @@
+-- BLOCK names no side and no id, and one figure; the rest is `block_at`'s by level, account and item (`block-law`).
 use borrow.Author.Needs.{needs}
 use borrow.Author.Tests.{eq-eqb, ne-eqb}
 use Rattle.decoding.proofs.Laws.{and-false, refused, passed, block-law}

@@ -1,3 +1,4 @@
+-- Level 1 names no item, level 2 no account, level 3 both, any other is junk: the arms are `blockAt`'s cases.
 use mathlib.Core.Path.{refl}
 use borrow.Author.Tests.{eq-eqb, ne-eqb}
 use Rattle.decoding.specs.Kinds.{blockAt}

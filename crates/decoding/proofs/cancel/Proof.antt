@@ -1,3 +1,4 @@
+-- CANCEL is an id alone: `id_and_figure` allows figure one, which is then tested for zero (`cancel-law`).
 use borrow.Author.Needs.{needs}
 use borrow.Author.Tests.{eq-eqb, ne-eqb}
 use Rattle.decoding.proofs.Laws.{refused, passed, cancel-law}

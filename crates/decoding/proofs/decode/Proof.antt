@@ -1,3 +1,5 @@
+-- 48 bytes, byte 7 zero and a kind from 1 to 7, or the bytes are junk (`other-length`, `byte-not-zero`, `no-kind`); each kind's function
+-- then decodes its own.
 use mathlib.Core.Path.{_∙_, sym}
 use borrow.Author.Needs.{needs}
 use Rattle.decoding.proofs.Laws.{other-length, byte-not-zero, no-kind}

@@ -1,3 +1,4 @@
+-- The four figures are the signed fields at bytes 16, 24, 32 and 40, each of which reads back from 64 bits as itself.
 use borrow.Author.Needs.{needs}
 use Rattle.decoding.proofs.Signed.{handed-on}
 use Rattle.decoding.proofs.figures.Statement.{statement}

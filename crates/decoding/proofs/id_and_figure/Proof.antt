@@ -1,3 +1,4 @@
+-- No header, then an id and one figure at most: the definition's conjunction, by its two tests in turn.
 use borrow.Author.Needs.{needs}
 use Rattle.decoding.specs.Kinds.{ofOrder, idAndFigure}
 use Rattle.decoding.proofs.Laws.{refused, passed}

@@ -1,3 +1,4 @@
+-- LIMIT names no side and no id: a byte there makes junk, and the rest is `limit_at`'s by level, account and item (`limit-law`).
 use borrow.Author.Needs.{needs}
 use borrow.Author.Tests.{eq-eqb, ne-eqb}
 use Rattle.decoding.proofs.Laws.{and-false, limit-law}

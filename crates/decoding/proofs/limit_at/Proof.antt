@@ -1,3 +1,4 @@
+-- Levels 1 and 2 take four figures, level 3 two with the others zero, any other level is junk: the arms are `limitAt`'s cases.
 use borrow.Author.Needs.{needs}
 use borrow.Author.Tests.{ne-eqb}
 use Rattle.decoding.specs.Kinds.{limitAt}

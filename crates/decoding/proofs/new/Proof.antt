@@ -1,3 +1,4 @@
+-- NEW names a side of 1 or 2, account, item, an id and one figure, and no level: junk is one of these tests failing (`new-law`).
 use borrow.Author.Needs.{needs}
 use borrow.Author.Tests.{eq-eqb, ne-eqb, le-leb, lt-leb}
 use Rattle.decoding.proofs.Laws.{and-false, refused, passed, new-law}

@@ -1,3 +1,4 @@
+-- Side, account, item and level are tested in turn: the first that is not zero makes the conjunction false, else the last decides.
 use borrow.Author.Needs.{needs}
 use borrow.Author.Tests.{eq-eqb, ne-eqb}
 use Rattle.decoding.specs.Kinds.{noHeader}

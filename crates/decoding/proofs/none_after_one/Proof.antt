@@ -1,3 +1,4 @@
+-- Figure two is zero exactly where its 64 bits are (`figure-zero`); the rest is `none_after_two`.
 use borrow.Author.Needs.{needs}
 use borrow.Author.Tests.{eq-eqb, ne-eqb}
 use Rattle.decoding.specs.Kinds.{noneAfterOne}

@@ -1,3 +1,4 @@
+-- Figures three and four are zero exactly where their 64 bits are (`figure-zero`).
 use borrow.Author.Needs.{needs}
 use borrow.Author.Tests.{eq-eqb, ne-eqb}
 use Rattle.decoding.specs.Kinds.{noneAfterTwo}

@@ -1,3 +1,4 @@
+-- The id is not zero and no figure follows the first: the definition's conjunction, by its two tests in turn.
 use borrow.Author.Needs.{needs}
 use borrow.Author.Tests.{eq-eqb, ne-eqb}
 use Rattle.decoding.specs.Kinds.{ofOrder}

@@ -1,3 +1,4 @@
+-- REPLACE is an id and one figure with all else zero, as `id_and_figure` tests, or it is junk (`replace-law`).
 use borrow.Author.Needs.{needs}
 use Rattle.decoding.proofs.Laws.{refused, passed, replace-law}
 use Rattle.decoding.proofs.Signed.{handed-on}

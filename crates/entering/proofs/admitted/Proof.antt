@@ -1,3 +1,4 @@
+-- Each block's word that is not 0 is the first no of 14 to 16 (`by-blocks`); where none is set, 17 decides.
 use mathlib.Core.Path.{refl, _∙_, sym}
 use borrow.Author.Tests.{eq-eqb, ne-eqb}
 use borrow.Author.Needs.{needs}

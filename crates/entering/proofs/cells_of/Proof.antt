@@ -1,3 +1,4 @@
+-- The 65 cells from account × 64 on are the account's; at most 16 accounts, so they end within 1,089.
 use Prim.Native.Nat.{_+_, _*_, _-_}
 use mathlib.Core.Path.{_≡_}
 use native.Mathlib.Omega.{arith}

@@ -1,3 +1,4 @@
+-- The three set words are those of the order's own, default and group line (`lines-set`), so `limits_exist` answers question 17.
 use mathlib.Core.Path.{_≡_, _∙_, sym, ap}
 use borrow.Author.Needs.{needs}
 use Rattle.limits.specs.Questions.{firstNo}

@@ -1,3 +1,4 @@
+-- The word read is the instrument's contract, and a sound roster names one of its own (`contract-read`).
 use borrow.Author.Needs.{needs}
 use Rattle.entering.proofs.OnDesk.{contract-read}
 use Rattle.entering.proofs.contract_of.Statement.{statement}

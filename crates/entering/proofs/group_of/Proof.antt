@@ -1,3 +1,4 @@
+-- The word read is the contract's group, and a sound roster names one of its own (`group-read`).
 use borrow.Author.Needs.{needs}
 use Rattle.entering.proofs.OnDesk.{group-read}
 use Rattle.entering.proofs.group_of.Statement.{statement}

@@ -1,3 +1,4 @@
+-- Own and default lines are parts of the account's row, and the own set word chooses between them as the definition does.
 use mathlib.Core.Path.{_∙_}
 use native.Mathlib.Omega.{arith}
 use borrow.Author.Needs.{needs}

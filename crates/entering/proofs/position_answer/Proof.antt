@@ -1,3 +1,4 @@
+-- The answer of each arm has the number of the arm's position answer: 0 and 21 to 24.
 use mathlib.Core.Path.{sym, ap}
 use borrow.Author.Needs.{needs}
 use Rattle.limits.specs.Numbers.{positionNumber}

@@ -1,3 +1,4 @@
+-- The line read is the one in force: a total that it refuses is a 19 or 20 (`size-refuses`), and else 21 to 24 decide (`size-fits`).
 use mathlib.Core.Path.{_≡_, refl, _∙_, sym, ap}
 use native.Mathlib.Omega.{arith}
 use borrow.Author.Needs.{needs}

@@ -1,3 +1,4 @@
+-- The verdict on an event of any kind is that of its kind's judge; kinds that name no order need no place, and junk is answered 6.
 use mathlib.Core.Path.{sym}
 use borrow.Author.Needs.{needs}
 use mir.Syntax.{w64}

@@ -1,3 +1,5 @@
+-- Questions 1 to 4 in turn, each return being the first that fails with the memory untouched; past them the cleared words, the kind and
+-- the roster are what an accepted opening leaves (`accepted`).
 use mathlib.Core.Path.{_∙_, sym}
 use borrow.Author.Needs.{needs}
 use borrow.Author.Tests.{not-true, not-false}

@@ -1,3 +1,4 @@
+-- An order of the account adds what remains to its cell (`added-own`), any other changes nothing; the required bound keeps it in 64 bits.
 use Prim.Native.Nat.{_<_}
 use native.Mathlib.Omega.{arith}
 use borrow.Author.Needs.{needs}

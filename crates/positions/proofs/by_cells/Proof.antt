@@ -1,3 +1,4 @@
+-- The position by balance and cells is that of the definition: a cell is at most 100,000,000,000 and reads as itself signed.
 use Prim.Native.Nat.{_+_}
 use mathlib.Core.Path.{_≡_, _∙_}
 use native.Mathlib.Omega.{arith}

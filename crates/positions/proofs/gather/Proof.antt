@@ -1,3 +1,5 @@
+-- After p records each cell with what is left to count is the whole B or V (`Passed`): a turn adds record p to its cell alone, and the
+-- bound on the whole keeps every cell in 64 bits.
 use Prim.Native.Nat.{_-_}
 use native.Mathlib.Omega.{arith}
 use Rattle.positions.proofs.Gathering.{Passed, passed-none, passed-numbered, passed-fits, passed-more, passed-all}

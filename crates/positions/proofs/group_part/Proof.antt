@@ -1,3 +1,4 @@
+-- A weight below 0 takes the other side's position times its magnitude (`part-other`), any other its own side's (`part-own`).
 use mathlib.Core.Path.{_∙_, sym, ap}
 use native.Mathlib.Omega.{arith}
 use borrow.Author.Needs.{needs}

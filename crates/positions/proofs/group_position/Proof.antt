@@ -1,3 +1,4 @@
+-- The cells hold B and V of the account after one pass, so the weighed sum over the cells is the sum over the orders (`sum-potential`).
 use mathlib.Core.Path.{refl, sym}
 use Rattle.ledger.specs.Positions.{long, short}
 use Rattle.positions.proofs.Gathering.{empty-at}

@@ -1,3 +1,4 @@
+-- The balance is its word, B and V are `open_on`'s, and the bounds on their sums are what `position_by` asks for.
 use mathlib.Core.Path.{_≡_, _∙_}
 use native.Mathlib.Omega.{arith}
 use borrow.Author.Needs.{needs}

@@ -1,3 +1,4 @@
+-- The sum with what is left to count from record p on is the whole (`counted-more`), so the sum is at most the whole, which fits.
 use Prim.Native.Nat.{_+_, _-_, _≤_}
 use mathlib.Core.Path.{_≡_, _∙_}
 use native.Mathlib.Omega.{arith}

@@ -1,3 +1,4 @@
+-- PCI is S + B and PVI −S + V: negating S keeps its magnitude, so the bound on both magnitudes is that of either sum.
 use mathlib.Core.Path.{ap}
 use native.Mathlib.Omega.{arith}
 use borrow.Author.Needs.{needs}

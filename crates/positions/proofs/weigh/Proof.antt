@@ -1,3 +1,4 @@
+-- After j instruments both sides are the sums of the first j parts: each turn adds the next (`sum-more`), and 32 bounded parts fit.
 use Prim.Native.Nat.{ℕ, _+_, _-_, _≤_}
 use mathlib.Core.Path.{_≡_, _∙_, ap}
 use native.Mathlib.Omega.{arith}

@@ -1,3 +1,5 @@
+-- An instrument outside the group adds nothing; one inside adds its part on either side (`part-inside`), read by the roster's words for
+-- contract, group and weight. Weights and positions are bounded, so the sums fit 64 bits.
 use Prim.Native.Nat.{_≤_}
 use mathlib.Core.Path.{_≡_, _∙_, sym, ap}
 use native.Mathlib.Omega.{arith}

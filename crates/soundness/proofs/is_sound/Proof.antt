@@ -1,3 +1,4 @@
+-- The cells begin empty, so `is_sound_with_sums` may be called on them, and its answer is question 5's.
 use mathlib.Core.Path.{refl}
 use Rattle.soundness.proofs.Gathering.{empty-cells}
 use Rattle.soundness.proofs.is_sound.Statement.{statement}

@@ -1,3 +1,5 @@
+-- Seven tests in turn, each return being question 5's no by the first that fails; length, count and first make the records readable,
+-- a sound roster bounds every table, and the last test's answer and cells are those of the whole.
 use mathlib.Core.Path.{_≡_, _∙_, sym}
 use mathlib.Core.Bool.{true, false≢true}
 use native.Mathlib.Omega.{arith}

@@ -1,3 +1,4 @@
+-- What remains of the order found counts before, and nothing after, since it leaves (`cancel-shifted`).
 use borrow.Author.Needs.{needs}
 use Rattle.working.proofs.Told.{records}
 use Rattle.working.proofs.Changing.{loadable}

@@ -1,3 +1,4 @@
+-- The order is the NEW's with nothing filled, and its quantity counts where 0 did; not below 0, the quantity fits as an unsigned number.
 use mathlib.Core.Path.{refl}
 use mir.Syntax.{w64}
 use mir.ValLaws.{toZ-ofZ}

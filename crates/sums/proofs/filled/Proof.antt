@@ -1,3 +1,4 @@
+-- What remains counts before, less the quantity after (`fill-shifted`): an accepted fill is at most what remains (`fill-most`).
 use borrow.Author.Needs.{needs}
 use Rattle.working.proofs.Told.{records, told}
 use Rattle.working.proofs.Rooms.{cast-fits}

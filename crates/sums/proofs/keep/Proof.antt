@@ -1,3 +1,5 @@
+-- The event shifts what counts of one order, so its cell alone changes, by what counts after less what counted before (`kept`).
+-- The cell holds at least what counted before, and at most 257,000,000 with what counts after.
 use Prim.Native.Nat.{_+_, _*_, _≤_, _<_}
 use mathlib.Core.Path.{_≡_}
 use native.Mathlib.Omega.{arith}

@@ -1,3 +1,4 @@
+-- What remains of the order found counts before, and what remains at the new total after (`replace-shifted`).
 use borrow.Author.Needs.{needs}
 use Rattle.working.proofs.Told.{records, told}
 use Rattle.working.proofs.Rooms.{cast-fits}

@@ -1,3 +1,5 @@
+-- A setting or junk leaves the open orders as they are, so nothing shifts (`unshifted`); a NEW shifts from 0 to its quantity, and the
+-- other kinds by their own functions, on the event with its figure read back as itself.
 use mathlib.Core.Path.{refl}
 use borrow.Author.Needs.{needs}
 use mir.Syntax.{w64}

@@ -1,3 +1,4 @@
+-- What is left to store from word i on is what was to be stored from the start (`falling-turn`): a store spares the words after it.
 use Prim.Native.Nat.{_-_, _≤_}
 use mathlib.Core.Path.{_≡_, refl, _∙_, sym}
 use native.Mathlib.Omega.{arith}

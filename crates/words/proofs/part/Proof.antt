@@ -1,3 +1,4 @@
+-- The bytes from 8k to 8(k + n) are the definition's 8n bytes from 8k on: the difference of the ends is 8n.
 use Prim.Native.Nat.{_+_, _*_, _-_}
 use mathlib.Core.Path.{_≡_}
 use native.Mathlib.Omega.{arith}

@@ -1,3 +1,4 @@
+-- The word stored is the number's two's complement bits, as `bits64` makes them of a number that fits 64 bits.
 use mathlib.Core.Path.{_∙_, ap}
 use borrow.Author.Needs.{needs}
 use mir.Syntax.{w64}

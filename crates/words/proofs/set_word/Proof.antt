@@ -1,3 +1,4 @@
+-- The eight bytes stored are v's digits to base 256, lowest first, which is the word's store (`store-eight`); no store changes the length.
 use mathlib.Core.Path.{sym}
 use native.Mathlib.Omega.{arith}
 use borrow.Author.Needs.{needs}

@@ -1,3 +1,4 @@
+-- The word read, as two's complement, is the definition's signed number, and the result reads back from 64 bits as itself.
 use mathlib.Core.Path.{_∙_, ap}
 use borrow.Author.Needs.{needs}
 use mir.Syntax.{w64}

@@ -1,3 +1,4 @@
+-- The words from i on have moved (`risen-turn`). The last goes first, so a store never reaches a word that is still to be read.
 use Prim.Native.Nat.{_≤_}
 use mathlib.Core.Path.{_≡_, refl, _∙_}
 use native.Mathlib.Omega.{arith}

@@ -1,3 +1,5 @@
+-- What is left to store from word i on is what was to be stored from the start (`falling-turn`): a store at a lower word spares
+-- the words still to be read.
 use Prim.Native.Nat.{_-_, _≤_}
 use mathlib.Core.Path.{_≡_, refl, _∙_, sym}
 use native.Mathlib.Omega.{arith}

@@ -1,3 +1,4 @@
+-- The loop over the part from word k on moves it by `by`; what is before the part stays, so the whole has moved (`moved-behind`).
 use mathlib.Core.Path.{refl}
 use native.Mathlib.Omega.{arith}
 use borrow.Author.Needs.{needs}

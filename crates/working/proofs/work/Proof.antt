@@ -1,3 +1,5 @@
+-- The memory and the quantity moved are those of the event's kind: each arm calls its kind's function on the event under another name
+-- (`handed`: a figure kept as 64 bits reads back as itself). Only a FILL moves a quantity, and junk stores nothing.
 use mathlib.Core.Path.{refl}
 use borrow.Author.Needs.{needs}
 use Rattle.book.specs.declared.Event.the-variants.{Balance, Block, New, Replace, Fill}

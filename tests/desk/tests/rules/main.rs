@@ -31,6 +31,8 @@ mod precedence;
 mod readers;
 #[path = "../../../reference/tests/rules/rosters.rs"]
 mod rosters;
+#[path = "../../../reference/tests/rules/signs.rs"]
+mod signs;
 #[path = "../../../reference/tests/rules/trial.rs"]
 mod trial;
 #[path = "../../../reference/tests/rules/walk.rs"]

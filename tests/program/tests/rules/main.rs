@@ -13,5 +13,7 @@ mod example_a;
 mod example_b;
 #[path = "../../../reference/tests/rules/faults.rs"]
 mod faults;
+#[path = "../../../reference/tests/rules/signs.rs"]
+mod signs;
 #[path = "../../../reference/tests/rules/trial.rs"]
 mod trial;

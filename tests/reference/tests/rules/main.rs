@@ -17,6 +17,7 @@ mod precedence;
 mod readers;
 mod refusals;
 mod rosters;
+mod signs;
 mod soundness;
 mod trial;
 mod walk;

@@ -1,6 +1,6 @@
 //! Reading positions: refused by 5, 7 and 8 in that order.
 
-use crate::trial::{Trial, ONE};
+use crate::trial::{default_line, group_line, Trial, ONE};
 use crate::{Lent, MEMORY};
 use reference::{GroupPosition, InstrumentPosition};
 use wire::{balance, new, RosterSpec, SELL};
@@ -90,6 +90,23 @@ fn group_sums_only_its_own_instruments() {
     assert_eq!(trial.group(2, 2), (-900_000, 900_000));
     assert_eq!(trial.group(1, 2), (0, 0));
     assert_eq!(trial.group(3, 2), (0, 0));
+}
+
+#[test]
+fn group_without_contracts_and_contract_without_instruments() {
+    let mut trial = Trial::open(&RosterSpec {
+        accounts: 1,
+        groups: 3,
+        groups_of: vec![1, 2],
+        instruments: vec![(1, ONE)],
+    });
+    trial.accept(default_line(1, 2, [7; 4]));
+    trial.accept(group_line(1, 2, 7, 7));
+    trial.accept(group_line(1, 3, 7, 7));
+    trial.accept(balance(1, 1, 5));
+    assert_eq!(trial.group(1, 1), (50_000, -50_000));
+    assert_eq!(trial.group(1, 2), (0, 0));
+    assert_eq!(trial.group(1, 3), (0, 0));
 }
 
 #[test]

@@ -1,3 +1,4 @@
+-- The conjunction of four tests for −1, in its order: the first figure that is not −1 makes it false, else the last decides.
 use mathlib.Core.Path.{_≡_, _∙_, sym, ap}
 use mathlib.Core.Bool.{Bool, true, false, not}
 use borrow.Author.Needs.{needs}

@@ -1,3 +1,4 @@
+-- Safe: a place fits 64 bits, since `before` is below 2^63, and the tens have at most 19 digits, made anew or not, as a line asks.
 use Prim.Native.Nat.{_-_, _≤_}
 use mathlib.Core.Logic.{⊎-elim}
 use mathlib.Core.Path.{_≡_}

@@ -1,3 +1,4 @@
+-- All 20 bytes are within the buffer, since it has 20 from `at` on and keeps its length.
 use Prim.Native.Nat.{_-_}
 use mathlib.Core.Path.{_≡_}
 use lib.ListN.{length}

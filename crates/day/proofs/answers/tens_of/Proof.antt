@@ -1,3 +1,4 @@
+-- A tenth of a 64-bit number is below 10^19, so its fewest digits are at most 19; a place below 10 has none.
 use Prim.Native.Nat.{ℕ, _-_, _/_, _^_, _≤_, _<_}
 use native.Mathlib.Nat.{lt-of-not-le, pow-le-pow-right}
 use native.Mathlib.Omega.{arith}

@@ -1,3 +1,4 @@
+-- Every read is between `done` and `end`, and the block reaches to `end`; a turn reads at least a byte and at most what is missing.
 use Prim.Native.Nat.{_-_, _≤_}
 use mathlib.Core.Path.{_≡_}
 use lib.ListN.{length}

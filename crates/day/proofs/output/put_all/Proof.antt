@@ -1,3 +1,4 @@
+-- Each byte of the text is read within it, and the buffer keeps its length through every `put`.
 use Prim.Native.Nat.{_-_}
 use mathlib.Core.Path.{_≡_}
 use lib.ListN.{length}

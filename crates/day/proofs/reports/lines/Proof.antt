@@ -1,3 +1,4 @@
+-- Safe: a + 1 and i + 1 are at most the numbers counted to, so they fit 16 bits; no line changes the buffer's length.
 use Prim.Native.Nat.{_-_}
 use mathlib.Core.Path.{_≡_}
 use lib.ListN.{length}

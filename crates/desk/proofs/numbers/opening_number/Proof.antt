@@ -1,3 +1,4 @@
+-- Each arm returns the number that the definition gives to its answer: 0 to 4.
 use mathlib.Core.Path.{sym, ap}
 use borrow.Author.Needs.{needs}
 use Rattle.opening.specs.Opening.{numberOf}

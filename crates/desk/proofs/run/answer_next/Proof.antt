@@ -1,3 +1,5 @@
+-- An unsound desk answers 5 and writes nothing (`unsound-event`); a sound one steps on the decoded event (`sound-event`). Either way
+-- the memory stays as sound as it was (`sound-after`), so the next event need not ask again.
 use mathlib.Core.Path.{_∙_, sym, ap}
 use borrow.Author.Needs.{needs}
 use borrow.Author.Tests.{not-false}

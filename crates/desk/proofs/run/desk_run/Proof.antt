@@ -1,3 +1,5 @@
+-- What is left to answer from memory, room and place as they stand is what the whole run answers (`Running`). A turn cuts off one event,
+-- which has at least one byte, so the loop ends; question 5 is asked once, since each turn leaves `sound` and the sums true.
 use Prim.Native.Nat.{_-_}
 use mathlib.Core.Path.{_≡_, refl, _∙_}
 use mathlib.Core.Bool.{true}

@@ -1,3 +1,4 @@
+-- Fewer than 48 bytes left are taken whole (`rest-taken`), else the next 48.
 use native.Mathlib.Nat.{add-sub-cancel-left}
 use borrow.Author.Needs.{needs}
 use Rattle.desk.proofs.Cutting.{rest-taken}

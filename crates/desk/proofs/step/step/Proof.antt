@@ -1,3 +1,4 @@
+-- An acceptance keeps the sums and works the event, both ready because the judge names the order's place; a refusal changes nothing.
 use mathlib.Core.Path.{_∙_}
 use borrow.Author.Needs.{needs}
 use Rattle.desk.proofs.Stepped.{is-zero, stepped-worked, moves, stepped-same, moves-nothing}

@@ -1,3 +1,4 @@
+-- 7, 8 and 9 in turn, then `new_order` on an order that they put on the roster, with the id's rank as the place where it joins.
 use mathlib.Core.Path.{_≡_, refl, sym, _∙_}
 use mathlib.Core.Bool.{true, false}
 use native.Mathlib.Omega.{arith}

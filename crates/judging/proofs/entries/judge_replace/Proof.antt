@@ -1,3 +1,4 @@
+-- 9, then 11 by the search, then the rest asked of the order loaded from the place that the search found.
 use mathlib.Core.Path.{_≡_, sym, _∙_}
 use mathlib.Core.Bool.{true}
 use native.Mathlib.Omega.{arith}

@@ -1,3 +1,4 @@
+-- A NEW is refused by 18 where the count word says 256 orders; else 19 to 24 decide, the order raising the sums by its whole total.
 use native.Mathlib.Omega.{arith}
 use borrow.Author.Needs.{needs}
 use borrow.Author.Tests.{lt-ltb, le-ltb}

@@ -1,3 +1,4 @@
+-- At most what is filled is a 12, at most the present total an acceptance: questions on a rise are asked of a larger total only.
 use mathlib.Core.Path.{_∙_}
 use native.Mathlib.Omega.{arith}
 use borrow.Author.Needs.{needs}

@@ -1,3 +1,4 @@
+-- The account is known where it is from 1 to the roster's count, which `accounts` reads from the memory.
 use borrow.Author.Needs.{needs}
 use Rattle.judging.proofs.known.account_known.Statement.{statement}
 use Rattle.judging.proofs.known.account_known.Tie as tie

@@ -1,3 +1,4 @@
+-- The contract is known where it is from 1 to the roster's count, which `contracts` reads from the memory.
 use borrow.Author.Needs.{needs}
 use Rattle.judging.proofs.known.contract_known.Statement.{statement}
 use Rattle.judging.proofs.known.contract_known.Tie as tie

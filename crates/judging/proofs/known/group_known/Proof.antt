@@ -1,3 +1,4 @@
+-- The group is known where it is from 1 to the roster's count, which `groups` reads from the memory.
 use borrow.Author.Needs.{needs}
 use Rattle.judging.proofs.known.group_known.Statement.{statement}
 use Rattle.judging.proofs.known.group_known.Tie as tie

@@ -1,3 +1,4 @@
+-- The instrument is known where it is from 1 to the roster's count, which `instruments` reads from the memory.
 use borrow.Author.Needs.{needs}
 use Rattle.judging.proofs.known.instrument_known.Statement.{statement}
 use Rattle.judging.proofs.known.instrument_known.Tie as tie

@@ -1,3 +1,4 @@
+-- The answer is 0 or 12 as the quantity is at most what remains of the order or not: the branch compares these two numbers.
 use Prim.Native.Nat.{ℕ}
 use mathlib.Core.Path.{sym, ap}
 use mathlib.Core.Bool.{Bool, cond}

@@ -1,3 +1,4 @@
+-- CANCEL is asked 11 alone: the search finds an order where the book does, so a place is an acceptance, and none is a 11.
 use mathlib.Core.Path.{sym, _∙_}
 use mathlib.Core.Option.{none, some}
 use native.Mathlib.Omega.{arith}

@@ -1,3 +1,4 @@
+-- FILL is asked 9, 11 and 12 in this order: each return is the first that fails, and 12 is asked of the order loaded from its place.
 use mathlib.Core.Path.{_≡_, refl, sym, _∙_}
 use mathlib.Core.Bool.{true, false}
 use mathlib.Core.Option.{none, some}

@@ -1,3 +1,4 @@
+-- The conjunction of two tests for −1: false where the first fails, else what the second says.
 use mathlib.Core.Path.{_∙_}
 use borrow.Author.Needs.{needs}
 use Rattle.book.specs.Books.{isMinusOne}

@@ -1,3 +1,4 @@
+-- Two figures fit where both are −1, or both are limits: the second test decides where the first fails.
 use mathlib.Core.Path.{_∙_, sym}
 use mathlib.Core.Bool.{_&&_}
 use borrow.Author.Needs.{needs}

@@ -1,3 +1,4 @@
+-- Both comparisons are those of `betweenℤ`, since each figure, carried as 64 bits, reads back as itself.
 use mir.Syntax.{w64}
 use mir.ValLaws.{toZ-ofZ}
 use Rattle.judging.proofs.ranges.in_range.Statement.{statement}

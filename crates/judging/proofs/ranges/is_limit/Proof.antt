@@ -1,3 +1,4 @@
+-- The bounds 0 and 1,000,000,000 that `in_range` is called with are those of a limit in the market of derivatives.
 use borrow.Author.Needs.{needs}
 use Rattle.book.specs.Market.{derivatives}
 use Rattle.book.specs.Table.{isLimit}

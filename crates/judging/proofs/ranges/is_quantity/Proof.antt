@@ -1,3 +1,4 @@
+-- The bounds 1 and 1,000,000 that `in_range` is called with are those of a quantity.
 use borrow.Author.Needs.{needs}
 use Rattle.book.specs.Table.{isQuantity}
 use Rattle.judging.proofs.Said.{said}

@@ -1,3 +1,4 @@
+-- The test of a LIMIT's figures is that of its level: four figures for an own or default line, two for a group's.
 use mathlib.Core.Path.{_∙_, sym, ap}
 use mathlib.Core.Bool.{_&&_, _||_}
 use borrow.Author.Needs.{needs}

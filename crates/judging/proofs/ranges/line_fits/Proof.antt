@@ -1,3 +1,4 @@
+-- Four figures fit where they unset the line, or are limits pair by pair: each return is where that disjunction is decided.
 use mathlib.Core.Path.{_∙_, sym}
 use mathlib.Core.Bool.{_&&_}
 use borrow.Author.Needs.{needs}

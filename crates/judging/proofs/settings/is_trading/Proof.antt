@@ -1,3 +1,4 @@
+-- The mark is the account's word, not zero; the account is on the roster, so the memory's reading of marks reaches that word.
 use borrow.Author.Needs.{needs}
 use Rattle.layout.specs.View.{rosterOf, tradingOf}
 use Rattle.soundness.proofs.Asked.{numbered-between}

@@ -1,3 +1,4 @@
+-- BALANCE is asked 7, 8, 9 and 10: each return is the first that fails; 10 reads the mark of an account that 7 has found known.
 use mathlib.Core.Path.{_≡_, refl, sym, _∙_}
 use mathlib.Core.Bool.{true, false}
 use borrow.Author.Needs.{needs}

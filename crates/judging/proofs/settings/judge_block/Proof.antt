@@ -1,3 +1,4 @@
+-- BLOCK is asked 7, 8 and 9 in this order: each return is the first of these tests that fails, or 0 where all pass.
 use mathlib.Core.Path.{refl, sym}
 use mathlib.Core.Bool.{true, false}
 use borrow.Author.Needs.{needs}

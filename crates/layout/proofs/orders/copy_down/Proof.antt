@@ -1,3 +1,4 @@
+-- 2n words copied are n records copied (`copied-down`); both runs lie in the region, since the lower one ends no later.
 use borrow.Author.Needs.{needs}
 use Rattle.layout.proofs.Shifting.{copied-down}
 use Rattle.layout.proofs.orders.copy_down.Statement.{statement}

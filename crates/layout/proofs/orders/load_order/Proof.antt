@@ -1,3 +1,4 @@
+-- The order loaded from record p of the part is the open order at p, because the part is the records in use; it holds record p.
 use mathlib.Core.Path.{_∙_, ap}
 use native.Mathlib.Omega.{arith}
 use borrow.Author.Needs.{needs}

@@ -1,3 +1,5 @@
+-- Three ways to room at place p: records before it move down, all are copied to the region's start, or those behind it move up.
+-- `joins-before`, `joins-again` and `joins-behind` say of each that the room is there and the first record where `joinedFirst` has it.
 use Prim.Native.Nat.{_*_, _≤_, _<_}
 use mathlib.Core.Path.{_≡_}
 use mathlib.Core.Bool.{false}

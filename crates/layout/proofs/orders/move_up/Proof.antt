@@ -1,3 +1,4 @@
+-- 2n words moved by two words are n records moved by one (`moved-up`); at + n below 512 keeps them in the region.
 use borrow.Author.Needs.{needs}
 use Rattle.layout.proofs.Shifting.{moved-up}
 use Rattle.layout.proofs.orders.move_up.Statement.{statement}

@@ -1,3 +1,4 @@
+-- The two words written, the id and the detail, are the fields of the order's record, in the definition's order.
 use borrow.Author.Needs.{needs}
 use Rattle.words.specs.Words.{putWords}
 use Rattle.layout.specs.Stores.{fields, putOrder}

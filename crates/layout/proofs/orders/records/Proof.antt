@@ -1,3 +1,4 @@
+-- The part lent is 512 words from the first record in use: `first_of` reads the number that the definition counts from.
 use mathlib.Core.Path.{_∙_, ap}
 use Prim.Native.Nat.{_+_, _*_}
 use borrow.Author.Needs.{needs}

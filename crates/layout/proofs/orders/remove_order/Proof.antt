@@ -1,3 +1,4 @@
+-- The gap is closed, then first and count are written: by `left-by` that stores the list without place p, from the new first record.
 use borrow.Author.Needs.{needs}
 use Rattle.layout.proofs.ListChanges.{left-by}
 use Rattle.layout.proofs.orders.remove_order.Statement.{statement}

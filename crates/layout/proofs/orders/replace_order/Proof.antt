@@ -1,3 +1,4 @@
+-- The order's record is first + p, and writing it stores the list with place p set (`changed`); nothing else moves.
 use mathlib.Core.Path.{_∙_, ap}
 use Prim.Native.Nat.{_+_}
 use borrow.Author.Needs.{needs}

@@ -1,3 +1,4 @@
+-- The id is read from record p of the part, which is that of the records in use, so it is the id of the open order at p.
 use mathlib.Core.Path.{_∙_, sym, ap}
 use native.Mathlib.Omega.{arith}
 use borrow.Author.Needs.{needs}

@@ -1,3 +1,4 @@
+-- One word is written, the account's block, with the bit that `bit_of` makes of `on`: the store of that block.
 use mathlib.Core.Path.{_∙_, ap}
 use borrow.Author.Needs.{needs}
 use Rattle.words.specs.Words.{putWord}

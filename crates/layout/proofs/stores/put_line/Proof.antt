@@ -1,3 +1,4 @@
+-- The three words written, two of figures in halves and the one that says set, are those of `storeLine`, in its order.
 use borrow.Author.Needs.{needs}
 use Rattle.words.specs.Words.{putWords}
 use Rattle.layout.proofs.stores.put_line.Statement.{statement}

@@ -1,3 +1,4 @@
+-- The balance's word is written with z, whose 64 bits read back as z because z fits them.
 use mathlib.Core.Path.{_∙_, ap}
 use borrow.Author.Needs.{needs}
 use mir.Syntax.{w64}

@@ -1,3 +1,4 @@
+-- The two words written, the group's figures in halves and that the line is set, are those of the definition, in its order.
 use borrow.Author.Needs.{needs}
 use Rattle.words.specs.Words.{putWords}
 use Rattle.layout.proofs.stores.set_of_group.Statement.{statement}

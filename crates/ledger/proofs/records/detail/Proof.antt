@@ -1,3 +1,4 @@
+-- Packed names, filled and remaining are put at their bits: a storable order has each below its bound, so the sum fits 64 bits.
 use native.Mathlib.Omega.{arith}
 use borrow.Author.Needs.{needs}
 use Rattle.ledger.specs.Orders.{remaining}

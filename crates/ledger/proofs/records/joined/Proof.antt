@@ -1,3 +1,4 @@
+-- The joined detail is at least either in each figure: the bits of both are in it (`joined-before`, `joined-here`).
 use Rattle.ledger.proofs.Details.{joined-before, joined-here}
 use Rattle.ledger.proofs.records.joined.Statement.{statement}
 use Rattle.ledger.proofs.records.joined.Tie as tie

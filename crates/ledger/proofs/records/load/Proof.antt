@@ -1,3 +1,4 @@
+-- Each field is read from its bits of the detail, as `orderOf` does; filled and remaining are below 2^27, so the total fits.
 use borrow.Author.Needs.{needs}
 use Rattle.ledger.specs.Records.{orderOf, orderAt}
 use Rattle.ledger.proofs.records.load.Statement.{statement}

@@ -1,3 +1,4 @@
+-- 1 is a buy and any other number a sell, as the definition's test has it.
 use borrow.Author.Tests.{eq-eqb, ne-eqb}
 use Rattle.ledger.specs.Records.{sideOf}
 use Rattle.ledger.proofs.records.side_of.Statement.{statement}

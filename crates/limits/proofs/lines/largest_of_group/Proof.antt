@@ -1,3 +1,4 @@
+-- The figure is the half of the group line's word that belongs to the side (`group-figure`); 32 bits read as themselves in 64.
 use mathlib.Core.Path.{_∙_, ap}
 use native.Mathlib.Omega.{arith}
 use borrow.Author.Needs.{needs}

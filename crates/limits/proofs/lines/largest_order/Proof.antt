@@ -1,3 +1,4 @@
+-- TCI and TVI are the halves of the line's first word, by the side (`order-figure`).
 use mathlib.Core.Path.{_∙_, ap}
 use native.Mathlib.Omega.{arith}
 use borrow.Author.Needs.{needs}

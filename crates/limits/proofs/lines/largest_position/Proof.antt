@@ -1,3 +1,4 @@
+-- LCI and LVI are the halves of the line's second word, by the side (`position-figure`); 32 bits read as themselves in 64.
 use Prim.Native.Nat.{ℕ, _+_}
 use mathlib.Core.Path.{_∙_, ap}
 use native.Mathlib.Omega.{arith}

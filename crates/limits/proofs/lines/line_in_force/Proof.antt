@@ -1,3 +1,4 @@
+-- A set own line is the line in force (`own-part`), else the default line is (`default-part`): the branch tests the own set word.
 use mathlib.Core.Path.{_∙_}
 use borrow.Author.Needs.{needs}
 use Rattle.limits.proofs.LinesRead.{own-part, default-part}

@@ -1,3 +1,4 @@
+-- A total at most the side's figure of the line in force passes (`fits`); else 19 or 20 by the side (`too-large`).
 use mathlib.Core.Path.{_∙_, sym, ap}
 use borrow.Author.Needs.{needs}
 use Rattle.limits.specs.Numbers.{orderNumber}

@@ -1,3 +1,4 @@
+-- A weight below 0 turns the side (`turns`), any other keeps it (`keeps`): what the definition's `wayBy` does.
 use mathlib.Core.Path.{_∙_, sym, ap}
 use borrow.Author.Needs.{needs}
 use lib.IntN.{pos}

@@ -1,3 +1,5 @@
+-- The group's sum by the cells, on the side it moves to, plus |K| times the rise; the roster's words name the group, and both terms
+-- have room below 64 bits (`group-room`, `rise-room`).
 use Prim.Native.Nat.{_≤_}
 use mathlib.Core.Path.{_≡_, _∙_, ap}
 use native.Mathlib.Omega.{arith}

@@ -1,3 +1,5 @@
+-- PCI or PVI after the event is S toward the side with the order's cell and the rise (`with-more`); balance, cell and rise are
+-- bounded, so no sum leaves 64 bits.
 use Prim.Native.Nat.{_≤_, _<_}
 use mathlib.Core.Path.{_≡_, _∙_}
 use native.Mathlib.Omega.{arith}

@@ -1,3 +1,4 @@
+-- The weight itself, or its negation below 0, is its magnitude; at most 1,000,000, the negation fits 64 bits.
 use mathlib.Core.Path.{_∙_}
 use native.Mathlib.Omega.{arith}
 use lib.IntN.{pos}

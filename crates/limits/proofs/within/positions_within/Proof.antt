@@ -1,3 +1,5 @@
+-- 21 or 22 first, then 23 or 24: the cells are B and V before the event, so with the rise they are the positions after it.
+-- A weight of 0 moves no group, and else the group's test decides (`by-group`), against its limit times 10,000.
 use mathlib.Core.Path.{_≡_, _∙_, sym, ap}
 use mathlib.Core.Bool.{Bool, true, false, cond}
 use mathlib.Core.List.{List}

@@ -1,3 +1,4 @@
+-- The first k bytes are from 1 to `most`: one outside ends the loop by `bytes-fail`, one inside goes on by `bytes-more`.
 use Prim.Native.Nat.{_-_, _≤_}
 use mathlib.Core.Path.{_≡_, _∙_, sym}
 use mathlib.Core.Bool.{true}

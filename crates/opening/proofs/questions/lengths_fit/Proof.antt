@@ -1,3 +1,4 @@
+-- Four sizes in turn, each return being one outside its limit; where all pass, the exact length decides (`lengths-exact`).
 use mathlib.Core.Path.{_∙_, sym}
 use borrow.Author.Needs.{needs}
 use borrow.Author.Tests.{not-true, not-false}

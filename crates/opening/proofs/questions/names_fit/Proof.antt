@@ -1,3 +1,4 @@
+-- Contracts' groups first, then instruments' contracts: the bytes tested are the roster's names (`names-first`, `names-second`).
 use mathlib.Core.Path.{_∙_}
 use native.Mathlib.Omega.{arith}
 use borrow.Author.Needs.{needs}

@@ -1,3 +1,4 @@
+-- Below 1 the conjunction of `between` is false; from there on it is the comparison with `most`.
 use native.Mathlib.Omega.{arith}
 use borrow.Author.Tests.{le-leb, lt-leb}
 use Rattle.opening.proofs.questions.numbered.Statement.{statement}

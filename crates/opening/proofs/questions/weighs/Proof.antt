@@ -1,3 +1,4 @@
+-- Below −1,000,000 the magnitude is too large (`weight-low`); from there on the upper comparison decides (`weight-high`).
 use mathlib.Core.Path.{sym}
 use mir.Syntax.{w32}
 use mir.ValLaws.{toZ-ofZ}

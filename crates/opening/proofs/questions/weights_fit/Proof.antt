@@ -1,3 +1,4 @@
+-- Sizes that fit say where the weights stand in the bytes, so the test of those bytes is that of the roster's weights (`weights-read`).
 use mathlib.Core.Path.{_∙_}
 use native.Mathlib.Omega.{arith}
 use borrow.Author.Needs.{needs}

@@ -1,3 +1,4 @@
+-- The first k weights are in range: one that is not ends the loop by `weights-fail`, one that is goes on by `weights-more`.
 use Prim.Native.Nat.{_-_, _≤_}
 use mathlib.Core.Path.{_≡_, _∙_, sym}
 use mathlib.Core.Bool.{true}

@@ -1,3 +1,4 @@
+-- After k turns the first k words are 0 (`cleared-more`); k ends at 8,192, all words of a desk.
 use Prim.Native.Nat.{_-_, _≤_}
 use mathlib.Core.Path.{_≡_, refl, _∙_, sym, ap}
 use native.Mathlib.Omega.{arith}

@@ -1,3 +1,4 @@
+-- After i turns the first i bytes are written, each as a word of its own (`bytes-turn`).
 use Prim.Native.Nat.{_-_, _≤_}
 use mathlib.Core.Path.{_≡_, refl, _∙_, sym}
 use native.Mathlib.Omega.{arith}

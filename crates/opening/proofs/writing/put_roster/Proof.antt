@@ -1,3 +1,5 @@
+-- Sizes, groups of contracts, contracts of instruments and weights, each at its words, are the roster of the bytes (`roster-written`);
+-- sizes that fit keep every read within the bytes and every word within the memory.
 use native.Mathlib.Omega.{arith}
 use borrow.Author.Needs.{needs}
 use Rattle.opening.proofs.Tests.{lengths-out, lengths-long}

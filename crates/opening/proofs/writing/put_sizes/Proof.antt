@@ -1,3 +1,4 @@
+-- The four words written are the roster's sizes, in the definition's order.
 use borrow.Author.Needs.{needs}
 use Rattle.words.specs.Words.{putWords}
 use Rattle.layout.specs.Rosters.{listed}

@@ -1,3 +1,4 @@
+-- After i turns the first i weights are written (`weights-turn`); 32 signed bits fit 64, so a weight is stored as itself.
 use Prim.Native.Nat.{_-_, _≤_}
 use mathlib.Core.Path.{_≡_, refl, _∙_, sym, ap}
 use native.Mathlib.Omega.{arith}

@@ -1,3 +1,4 @@
+-- Where the orders are sound the cells hold their B and V, which is what the positions are then asked by; a no of either is the no.
 use mathlib.Core.Path.{_∙_}
 use mathlib.Core.Bool.{false≢true}
 use borrow.Author.Needs.{needs}

@@ -1,3 +1,5 @@
+-- S + B and −S + V are compared by what S may be, 1,000,000,000 − B and V − 1,000,000,000: B and V are small, so both differences
+-- fit 64 bits, while S may be any word.
 use mathlib.Core.Path.{_≡_}
 use borrow.Author.Needs.{needs}
 use mir.Syntax.{w64}

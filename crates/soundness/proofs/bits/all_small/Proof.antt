@@ -1,3 +1,4 @@
+-- Every moved word is at most the joined one; one below 2^30 stands for a number of at most 536,870,912 either way (`moved-small`).
 use native.Mathlib.Omega.{arith}
 use borrow.Author.Needs.{needs}
 use borrow.Author.Tests.{ltb-true}

@@ -1,3 +1,4 @@
+-- After j numbers each of them is at most `all`: a number with the bits of others is at least each (`joined-more`).
 use Prim.Native.Nat.{ℕ, _+_, _*_, _-_, _≤_, _<_}
 use native.Mathlib.Omega.{arith}
 use Rattle.words.specs.Fields.{u32At}

@@ -1,3 +1,4 @@
+-- After j words each of them, moved up, is at most `all`: a number with the bits of others is at least each (`joined-more`).
 use Prim.Native.Nat.{ℕ, _+_, _-_, _≤_, _<_}
 use native.Mathlib.Omega.{arith}
 use borrow.Author.Needs.{needs}

@@ -1,3 +1,4 @@
+-- Where all 168 figures of the row are in range, so are those on the roster (`row-within`); else own, default and group lines in turn.
 use Prim.Native.Nat.{_+_, _*_}
 use mathlib.Core.Path.{_≡_, _∙_, sym}
 use borrow.Author.Needs.{needs}

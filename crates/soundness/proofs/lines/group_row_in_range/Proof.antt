@@ -1,3 +1,4 @@
+-- The first j group lines are in range: one that is not refutes `every` (`every-no`), one that is extends it (`every-on`).
 use Prim.Native.Nat.{_+_, _-_, _≤_}
 use mathlib.Core.Path.{_≡_}
 use mathlib.Core.Bool.{true}

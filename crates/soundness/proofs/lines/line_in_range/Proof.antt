@@ -1,3 +1,4 @@
+-- A line's four figures are the halves of its two words: it is in range where both words are.
 use borrow.Author.Needs.{needs}
 use Rattle.limits.specs.InBytes.{lineAt, groupLineAt}
 use Rattle.soundness.specs.Soundness.{lineInRange, groupLineInRange}

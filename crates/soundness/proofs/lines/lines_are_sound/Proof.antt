@@ -1,3 +1,4 @@
+-- The lines of the first j accounts are sound: `every-no` ends at an account whose lines are not, `every-on` goes on.
 use Prim.Native.Nat.{_-_, _≤_}
 use mathlib.Core.Path.{_≡_}
 use mathlib.Core.Bool.{true}

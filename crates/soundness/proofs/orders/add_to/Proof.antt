@@ -1,3 +1,4 @@
+-- The detail names the order's cell and what remains, so the sum is `added`; below 2^27 remain, and the cell had at most 256 times that.
 use Prim.Native.Nat.{_+_}
 use native.Mathlib.Omega.{arith}
 use borrow.Author.Needs.{needs}

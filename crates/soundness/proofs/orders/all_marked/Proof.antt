@@ -1,3 +1,4 @@
+-- A yes of the details is one for every record within them; else the loop asks record by record, all before p having been marked.
 use Prim.Native.Nat.{_-_, _<_}
 use mathlib.Core.Path.{_≡_}
 use native.Mathlib.Omega.{arith}

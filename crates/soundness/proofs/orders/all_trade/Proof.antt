@@ -1,3 +1,5 @@
+-- The loop has seen the first a marks set. A yes covers the largest account and instrument that the details' bits allow, so each order
+-- within the details has its account and instrument on the roster and its account's mark among those seen.
 use Prim.Native.Nat.{ℕ, _+_, _-_, _≤_, _<_}
 use mathlib.Core.Path.{_≡_, _∙_}
 use mathlib.Core.Logic.{_≢_}

@@ -1,3 +1,5 @@
+-- Each return is the first of the orders' conditions that fails: ids and remainders, totals, marks. With all of them the cells hold
+-- B and V, each of them small because 256 totals in range are.
 use mathlib.Core.Bool.{false≢true}
 use borrow.Author.Needs.{needs}
 use borrow.Author.Tests.{not-false}

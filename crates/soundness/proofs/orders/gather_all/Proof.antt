@@ -1,3 +1,5 @@
+-- After p records: the ids ascend as the rest does from the last, each remains, each detail is within `all`, and each cell with what
+-- is left to count is the whole B or V. A cell holds at most p times 2^27, p at most 256, so no sum overflows.
 use Prim.Native.Nat.{_-_, _<_}
 use mathlib.Core.Path.{_≡_}
 use mathlib.Core.Bool.{false≢true}

@@ -1,3 +1,5 @@
+-- Yes exactly where account and instrument are on the roster and the mark is set: a no is one of these failing; the roster test
+-- bounds the account, so the mark's word is inside the memory.
 use Prim.Native.Nat.{_≤_}
 use mathlib.Core.Path.{_≡_, _∙_, sym}
 use mathlib.Core.Bool.{not, true≢false}

@@ -1,3 +1,4 @@
+-- Below `low` the conjunction is false (`below-range`); from there on it is the comparison with `high` (`above-low`).
 use Rattle.soundness.proofs.Asked.{below-range, above-low}
 use Rattle.soundness.proofs.ranges.between.Statement.{statement}
 use Rattle.soundness.proofs.ranges.between.Tie as tie

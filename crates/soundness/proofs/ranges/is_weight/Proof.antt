@@ -1,3 +1,4 @@
+-- Below −1,000,000 the magnitude is too large (`weight-low`); from there on the upper comparison decides (`weight-high`).
 use mir.Syntax.{w64}
 use mir.ValLaws.{toZ-ofZ}
 use Rattle.soundness.proofs.Asked.{weight-low, weight-high}

@@ -1,3 +1,4 @@
+-- The first j words are from 1 to `most`: one outside refutes `every` (`every-no`), one inside extends it (`every-on`).
 use Prim.Native.Nat.{_+_, _-_, _≤_}
 use mathlib.Core.Path.{_≡_, _∙_}
 use mathlib.Core.Bool.{true}

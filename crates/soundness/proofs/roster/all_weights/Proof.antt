@@ -1,3 +1,4 @@
+-- The first j weights are in range, as read back from 64 bits: `every-no` ends at one that is not, `every-on` goes on.
 use Prim.Native.Nat.{_+_, _-_, _≤_}
 use mathlib.Core.Path.{_≡_, _∙_}
 use mathlib.Core.Bool.{true}

@@ -1,3 +1,4 @@
+-- The fourth word of the roster's part is the number of instruments; the part has 608 bytes because the memory is long enough.
 use mathlib.Core.Path.{_∙_}
 use native.Mathlib.Omega.{arith}
 use borrow.Author.Needs.{needs}

@@ -1,3 +1,4 @@
+-- Sizes first, since they keep the tables inside the part; then each contract's group, each instrument's contract, each weight.
 use Prim.Native.Nat.{_+_, _≤_}
 use mathlib.Core.Path.{_≡_, _∙_, ap}
 use mathlib.Core.Bool.{true}

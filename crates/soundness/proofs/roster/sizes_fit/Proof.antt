@@ -1,3 +1,4 @@
+-- The four sizes are tested in the definition's order with its bounds 16, 4, 8 and 32: each return is the first that fails, or the last.
 use Prim.Native.Nat.{ℕ}
 use mathlib.Core.Path.{_≡_, _∙_, ap}
 use borrow.Author.Needs.{needs}

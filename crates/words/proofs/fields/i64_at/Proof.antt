@@ -1,3 +1,4 @@
+-- The unsigned field read as two's complement of 64 bits is the definition's signed field, which reads back as itself.
 use mathlib.Core.Path.{_∙_, ap}
 use borrow.Author.Needs.{needs}
 use mir.Syntax.{w64}

@@ -1,3 +1,4 @@
+-- Two bytes joined with six zeros are the number of two bytes; each is below 256, so it fits 16 bits.
 use Prim.Native.Nat.{_+_}
 use native.Mathlib.Omega.{arith}
 use borrow.Author.Needs.{needs}

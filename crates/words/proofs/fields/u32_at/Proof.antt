@@ -1,3 +1,4 @@
+-- Four bytes joined with four zeros are the number of four bytes (`number-four`); each is below 256, so it fits 32 bits.
 use Prim.Native.Nat.{_+_}
 use mathlib.Core.Path.{_∙_, sym}
 use native.Mathlib.Omega.{arith}

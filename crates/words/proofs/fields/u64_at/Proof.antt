@@ -1,3 +1,4 @@
+-- Eight bytes joined are the little-endian number of eight bytes (`number-eight`).
 use mathlib.Core.Path.{_∙_, sym}
 use borrow.Author.Needs.{needs}
 use Rattle.words.specs.Fields.{u64At}

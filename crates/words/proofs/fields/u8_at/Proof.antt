@@ -1,3 +1,4 @@
+-- A number of one byte is that byte.
 use native.Mathlib.Omega.{arith}
 use borrow.Author.Needs.{needs}
 use Rattle.words.specs.Bytes.{number}

@@ -1,3 +1,4 @@
+-- A number not below 0 is its own bits; below 0, 2^64 − 1 less its complement is 2^64 less its magnitude (`bits-negative`).
 use mathlib.Core.Path.{sym}
 use lib.IntN.{pos}
 use lib.Signed.{_≤ℤ_, _<ℤ_}

@@ -1,3 +1,4 @@
+-- Below 2^31 the number is itself; from there on −1 less the complement is the two's complement number (`complement-read`).
 use mathlib.Core.Path.{sym}
 use native.Mathlib.Omega.{arith}
 use borrow.Author.Needs.{needs}

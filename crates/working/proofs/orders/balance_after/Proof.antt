@@ -1,3 +1,4 @@
+-- A buy adds n and a sell subtracts it, as `toward` does; at most 1,000,000,000 and 1,000,000, neither result leaves 64 bits.
 use borrow.Author.Needs.{needs}
 use Rattle.working.proofs.Filling.{raised-fits, lowered-fits, raised, lowered}
 use Rattle.working.proofs.orders.balance_after.Statement.{statement}

@@ -1,3 +1,5 @@
+-- At remaining 0 the record leaves and else it is replaced, which is what `kept` makes of the filled order in the book's `change`;
+-- one that stays can be stored: its filled fits the record, and not more than its total is filled, since something remains.
 use mathlib.Core.Path.{_∙_}
 use borrow.Author.Needs.{needs}
 use Rattle.working.proofs.Changing.{at-place, filled-storable, filled-leaves, filled-stays}

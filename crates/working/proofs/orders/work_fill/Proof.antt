@@ -1,3 +1,5 @@
+-- The loaded order is the one that the id names, and the balance is read before the records move: filled order and moved S are stored as
+-- the book has them (`fill-worked`). A sound desk's S is at most 1,000,000,000 and a quantity 1,000,000, so the new S fits.
 use native.Mathlib.Omega.{arith}
 use borrow.Author.Needs.{needs}
 use Rattle.ledger.specs.declared.order.Side.the-variants.{Buy, Sell}

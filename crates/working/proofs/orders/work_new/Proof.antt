@@ -1,3 +1,5 @@
+-- The order joins at the id's rank and its account is marked: both stores are the event's (`joined`). An acceptance says that a place
+-- is free and the quantity in range, so the order can be stored.
 use native.Mathlib.Omega.{arith}
 use borrow.Author.Needs.{needs}
 use Rattle.working.proofs.Told.{records, told}

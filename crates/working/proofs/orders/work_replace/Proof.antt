@@ -1,3 +1,4 @@
+-- The order that the id names gets the new total at its place, which is the book's `change` (`replaced`); the total is in range.
 use borrow.Author.Needs.{needs}
 use Rattle.working.proofs.Told.{records, told}
 use Rattle.working.proofs.Rooms.{cast-fits}

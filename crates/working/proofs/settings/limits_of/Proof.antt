@@ -1,3 +1,4 @@
+-- Figures that fit and do not unset the line are four limits, so none is negative, each fits 32 bits, and they are `lineOf`'s.
 use mir.Syntax.{w64}
 use mir.ValLaws.{toZ-ofZ}
 use Rattle.working.proofs.LineFigures.{limit-cast, all-limits, line-set}

@@ -1,3 +1,4 @@
+-- S is stored at the account and instrument, which an acceptance has put on the roster, as the 64 bits that read back as it.
 use mathlib.Core.Path.{_∙_, ap}
 use borrow.Author.Needs.{needs}
 use mir.Syntax.{w64}

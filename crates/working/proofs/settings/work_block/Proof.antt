@@ -1,3 +1,4 @@
+-- Each kind of block stores one bit, which is set where the figure is not 0; its account, instrument or group is on the roster.
 use native.Mathlib.Omega.{arith}
 use borrow.Author.Needs.{needs}
 use Rattle.working.proofs.Rooms.{room}

@@ -1,3 +1,4 @@
+-- The line is stored by the function of its level, on the event with the line told apart; group figures read back as themselves.
 use borrow.Author.Needs.{needs}
 use Rattle.working.proofs.LineFigures.{ready-line, worked-line, group-handed}
 use Rattle.working.proofs.settings.work_limit.Statement.{statement}

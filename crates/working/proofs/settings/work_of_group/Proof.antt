@@ -1,3 +1,4 @@
+-- An LCC of −1 means both are −1 in an accepted LIMIT, and the line is unset; else both are limits, which fit 32 bits.
 use mathlib.Core.Path.{_∙_, ap}
 use borrow.Author.Needs.{needs}
 use Rattle.layout.specs.FieldStores.{storeOfGroup}

@@ -1,3 +1,4 @@
+-- −1 throughout unsets the line and other figures set it, as `lineOf` says; the roster has account and instrument, so the words are there.
 use mathlib.Core.Path.{_∙_, sym, ap}
 use borrow.Author.Needs.{needs}
 use Rattle.layout.specs.FieldStores.{storeOwn}

@@ -1,3 +1,4 @@
+-- The filled quantity alone rises, by n, and the required bound keeps it in 64 bits.
 use mathlib.Core.Path.{refl}
 use borrow.Author.Needs.{needs}
 use Rattle.ledger.specs.Orders.{filledBy}

@@ -1,3 +1,4 @@
+-- The difference is taken where it is not below 0, and 0 elsewhere: subtraction of natural numbers.
 use mathlib.Core.Path.{refl}
 use native.Mathlib.Omega.{arith}
 use Rattle.ledger.specs.Orders.{remaining}

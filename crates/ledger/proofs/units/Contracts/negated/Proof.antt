@@ -1,3 +1,4 @@
+-- The magnitude is at most 9 × 10^18, so the negation fits 64 bits (`negation-fits`) and is read back as itself.
 use Rattle.ledger.proofs.Fits.{negation-fits, negation-again}
 use Rattle.ledger.proofs.units.Contracts.negated.Statement.{statement}
 use Rattle.ledger.proofs.units.Contracts.negated.Tie as tie

@@ -1,3 +1,4 @@
+-- Magnitudes of at most 2 × 10^11 and 10^6 have a product within 64 bits (`product-fits`), which is read back as itself.
 use Rattle.ledger.proofs.Fits.{product-fits, product-again}
 use Rattle.ledger.proofs.units.Contracts.times.Statement.{statement}
 use Rattle.ledger.proofs.units.Contracts.times.Tie as tie

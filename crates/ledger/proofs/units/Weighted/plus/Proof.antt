@@ -1,3 +1,4 @@
+-- Magnitudes that add up to at most 9 × 10^18 have a sum within 64 bits (`sum-fits`), which is read back as itself.
 use Rattle.ledger.proofs.Fits.{sum-fits, sum-again}
 use Rattle.ledger.proofs.units.Weighted.plus.Statement.{statement}
 use Rattle.ledger.proofs.units.Weighted.plus.Tie as tie
