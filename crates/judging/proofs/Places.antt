@@ -32,7 +32,9 @@ module _ (id : ℕ) where
   from-place s zero q p e = let z : _≡_ {A = ℕ} 0 1 = cc in absurd (omega arith)
   from-place s (suc n) q p e = by (eqb (orderAt s q .id) id) e (from-place s n (q + 1) p)
     where
-      by : (t : Bool) → cond t (At q) (placeFrom (q + 1) id (ordersFrom s (q + 1) n)) ≡ At p → (placeFrom (q + 1) id (ordersFrom s (q + 1) n) ≡ At p → find id (ordersFrom s (q + 1) n) ≡ some (orderAt s p)) → cond t (some (orderAt s q)) (find id (ordersFrom s (q + 1) n)) ≡ some (orderAt s p)
+      by : (t : Bool) → cond t (At q) (placeFrom (q + 1) id (ordersFrom s (q + 1) n)) ≡ At p
+          → (placeFrom (q + 1) id (ordersFrom s (q + 1) n) ≡ At p → find id (ordersFrom s (q + 1) n) ≡ some (orderAt s p))
+          → cond t (some (orderAt s q)) (find id (ordersFrom s (q + 1) n)) ≡ some (orderAt s p)
       by true d later = let same : q ≡ p = cc in rw same
       by false d later = later d
 
@@ -41,7 +43,8 @@ module _ (id : ℕ) where
   from-nowhere q [] e = refl
   from-nowhere q (o ∷ os) e = by (eqb (o .id) id) e (from-nowhere (q + 1) os)
     where
-      by : (t : Bool) → cond t (At q) (placeFrom (q + 1) id os) ≡ Nothing → (placeFrom (q + 1) id os ≡ Nothing → find id os ≡ none) → cond t (some o) (find id os) ≡ none
+      by : (t : Bool) → cond t (At q) (placeFrom (q + 1) id os) ≡ Nothing → (placeFrom (q + 1) id os ≡ Nothing → find id os ≡ none)
+          → cond t (some o) (find id os) ≡ none
       by true d later = let z : _≡_ {A = ℕ} 0 1 = cc in absurd (omega arith)
       by false d later = later d
 

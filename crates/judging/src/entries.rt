@@ -77,7 +77,8 @@ pub fn judge_new(
 ) -> Verdict
     requires { ⌜ Held (now m) × Sums (now cells) (openOrders (now m)) ⌝ }
     ensures answer { λ r. ⌜ numberOf (r .answer) ≡ judged (now (m .entry)) (New side account instrument id quantity) ⌝ }
-    ensures place { λ r. ⌜ (judged (now (m .entry)) (New side account instrument id quantity) ≡ 0 → NamedAt (New side account instrument id quantity) (openOrders (now (m .entry))) (r .place)) ⌝ }
+    ensures place { λ r. ⌜ (judged (now (m .entry)) (New side account instrument id quantity) ≡ 0
+        → NamedAt (New side account instrument id quantity) (openOrders (now (m .entry))) (r .place)) ⌝ }
 {
     if !account_known(m, account) {
         return plain(Answer::UnknownAccount);
@@ -134,7 +135,8 @@ fn replaced(m: &[u8], cells: &[u64], o: Order, total: u64) -> Answer
 pub fn judge_replace(m: &[u8], cells: &[u64], id: u64, total: i64) -> Verdict
     requires { ⌜ Held (now m) × Sums (now cells) (openOrders (now m)) ⌝ }
     ensures answer { λ r. ⌜ numberOf (r .answer) ≡ judged (now (m .entry)) (Replace id total) ⌝ }
-    ensures place { λ r. ⌜ (judged (now (m .entry)) (Replace id total) ≡ 0 → NamedAt (Replace id total) (openOrders (now (m .entry))) (r .place)) ⌝ }
+    ensures place { λ r. ⌜ (judged (now (m .entry)) (Replace id total) ≡ 0
+        → NamedAt (Replace id total) (openOrders (now (m .entry))) (r .place)) ⌝ }
 {
     if !is_quantity(total) {
         return plain(Answer::FigureOutOfRange);

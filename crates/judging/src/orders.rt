@@ -47,7 +47,8 @@ fn filled(o: Order, quantity: u64) -> Answer
 pub fn judge_fill(m: &[u8], id: u64, quantity: i64) -> Verdict
     requires { ⌜ Held (now m) ⌝ }
     ensures answer { λ r. ⌜ numberOf (r .answer) ≡ judged (now (m .entry)) (Fill id quantity) ⌝ }
-    ensures place { λ r. ⌜ (judged (now (m .entry)) (Fill id quantity) ≡ 0 → NamedAt (Fill id quantity) (openOrders (now (m .entry))) (r .place)) ⌝ }
+    ensures place { λ r. ⌜ (judged (now (m .entry)) (Fill id quantity) ≡ 0
+        → NamedAt (Fill id quantity) (openOrders (now (m .entry))) (r .place)) ⌝ }
 {
     if !is_quantity(quantity) {
         return plain(Answer::FigureOutOfRange);

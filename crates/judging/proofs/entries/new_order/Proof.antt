@@ -43,11 +43,5 @@ returns-3 c =
 pub new-order-spec : {M : Type 1} → statement M
 new-order-spec =
     tie.close
-    (tie.spec
-    (λ c κs. let pre = c .before .before .pre in (pre .0 .on .held, pre .2))
-    returns
-    (λ c κs. search needs)
-    (λ c. search needs)
-    new-within-requires
-    returns-2
-    returns-3)
+    (tie.spec (λ c κs. let pre = c .before .before .pre in (pre .0 .on .held, pre .2)) returns
+    (λ c κs. search needs) (λ c. search needs) new-within-requires returns-2 returns-3)
