@@ -31,7 +31,8 @@ module _ (m : List ℕ) (o : Order) (total : ℕ) (r : Replaceable m o total) wh
   replaced-on = record { held = r .held; account = open-fits .account; instrument = open-fits .instrument }
 
   -- the rise is added
-  pub replaced-raises : o .total < total → Raised (total - o .total) (replacedTotal o total) (openOrders m) (change (o .id) (λ x. replacedTotal x total ∷ []) (openOrders m))
+  pub replaced-raises : o .total < total
+      → Raised (total - o .total) (replacedTotal o total) (openOrders m) (change (o .id) (λ x. replacedTotal x total ∷ []) (openOrders m))
   unfolding remaining
   replaced-raises h =
       let f : Order → List Order = λ x. replacedTotal x total ∷ [] in

@@ -14,7 +14,8 @@ use Rattle.book.proofs.Tables.{betweenℤ-both}
 pub said : (test : ℤ → Bool) {t : Bool} {z : ℤ} → SFits w64 z → t ≡ test (toZ w64 (ofZ w64 z)) → t ≡ test z
 said test {z = z} f e = e ∙ ap test (toZ-ofZ w64 z f)
 
-pub said-both : (test : ℤ → ℤ → Bool) {t : Bool} (x y : ℤ) → SFits w64 x → SFits w64 y → t ≡ test (toZ w64 (ofZ w64 x)) (toZ w64 (ofZ w64 y)) → t ≡ test x y
+pub said-both : (test : ℤ → ℤ → Bool) {t : Bool} (x y : ℤ) → SFits w64 x → SFits w64 y
+    → t ≡ test (toZ w64 (ofZ w64 x)) (toZ w64 (ofZ w64 y)) → t ≡ test x y
 said-both test x y f g e = said (λ z. test z y) f (said (test (toZ w64 (ofZ w64 x))) g e)
 
 -- it is not negative, and fits

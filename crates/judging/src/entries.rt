@@ -1,9 +1,11 @@
 // The judge of NEW and REPLACE. The cells hold B and V of all accounts.
 ghost use mathlib.Core.Path.{_≡_};
 ghost use Prim.Native.Nat.{_<_};
+ghost use Rattle.limits.specs.Lines.{isSet};
 ghost use Rattle.limits.specs.Questions.{firstNo};
 ghost use Rattle.book.specs.declared.Event.the-variants.{New, Replace};
 ghost use Rattle.book.specs.Answers.{numberOf};
+ghost use Rattle.book.specs.OpenOrders.{find};
 ghost use Rattle.layout.specs.View.{openOrders};
 ghost use Rattle.layout.specs.Stores.{rank};
 ghost use Rattle.layout.specs.Judged.{judged, NamedAt};
@@ -14,20 +16,29 @@ ghost use Rattle.judging.specs.Rest.{newWithin, newRest, Fresh, raisedRe
 use crate::Verdict;
 use crate::known::account_known;
 use crate::known::instrument_known;
-use crate::orders::find_order;
-use crate::orders::found_before;
 use crate::plain;
 use crate::ranges::is_quantity;
 use book::Answer;
 use entering::admitted;
 use entering::within_limits;
 use layout::orders::load_order;
+use layout::search::find_order;
+use layout::search::id_at;
 use layout::search::place;
 use layout::table::COUNT;
 use ledger::find::Found;
 use ledger::order::Order;
 use ledger::order::Side;
 use words::word;
+
+// Whether an order with that id is open, `p` being the place of the first larger id. Ids ascend, so that it stands just before `p`: one
+// comparison, and no search.
+fn is_open(m: &[u8], p: usize, id: u64) -> bool
+    requires { ⌜ Held (now m) × (p ≡ rank id (openOrders (now m))) ⌝ }
+    ensures { λ r. ⌜ r ≡ isSet (find id (openOrders (now (m .entry)))) ⌝ }
+{
+    0 < p && id_at(m, p - 1) == id
+}
 
 // 18 to 24 of a NEW.
 fn new_within(m: &[u8], cells: &[u64], o: Order) -> Answer
@@ -45,12 +56,12 @@ fn new_order(m: &[u8], cells: &[u64], o: Order, p: usize) -> Answer
     requires { ⌜ Fresh (now m) o × Sums (now cells) (openOrders (now m)) × (p ≡ rank (o .id) (openOrders (now m))) ⌝ }
     ensures { λ r. ⌜ numberOf r ≡ firstNo (newRest (now (m .entry)) o) ⌝ }
 {
-    match found_before(m, p, o.id) {
-        Found::At(q) => Answer::DuplicateOrder,
-        Found::Nothing => match admitted(m, o) {
-            Answer::Accepted => new_within(m, cells, o),
-            no => no,
-        },
+    if is_open(m, p, o.id) {
+        return Answer::DuplicateOrder;
+    }
+    match admitted(m, o) {
+        Answer::Accepted => new_within(m, cells, o),
+        no => no,
     }
 }
 
@@ -66,7 +77,8 @@ pub fn judge_new(
 ) -> Verdict
     requires { ⌜ Held (now m) × Sums (now cells) (openOrders (now m)) ⌝ }
     ensures answer { λ r. ⌜ numberOf (r .answer) ≡ judged (now (m .entry)) (New side account instrument id quantity) ⌝ }
-    ensures place { λ r. ⌜ (judged (now (m .entry)) (New side account instrument id quantity) ≡ 0 → NamedAt (New side account instrument id quantity) (openOrders (now (m .entry))) (r .place)) ⌝ }
+    ensures place { λ r. ⌜ (judged (now (m .entry)) (New side account instrument id quantity) ≡ 0
+        → NamedAt (New side account instrument id quantity) (openOrders (now (m .entry))) (r .place)) ⌝ }
 {
     if !account_known(m, account) {
         return plain(Answer::UnknownAccount);
@@ -123,7 +135,8 @@ fn replaced(m: &[u8], cells: &[u64], o: Order, total: u64) -> Answer
 pub fn judge_replace(m: &[u8], cells: &[u64], id: u64, total: i64) -> Verdict
     requires { ⌜ Held (now m) × Sums (now cells) (openOrders (now m)) ⌝ }
     ensures answer { λ r. ⌜ numberOf (r .answer) ≡ judged (now (m .entry)) (Replace id total) ⌝ }
-    ensures place { λ r. ⌜ (judged (now (m .entry)) (Replace id total) ≡ 0 → NamedAt (Replace id total) (openOrders (now (m .entry))) (r .place)) ⌝ }
+    ensures place { λ r. ⌜ (judged (now (m .entry)) (Replace id total) ≡ 0
+        → NamedAt (Replace id total) (openOrders (now (m .entry))) (r .place)) ⌝ }
 {
     if !is_quantity(total) {
         return plain(Answer::FigureOutOfRange);

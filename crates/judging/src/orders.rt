@@ -1,12 +1,11 @@
-// The judge of CANCEL and FILL, and the search by id.
+// The judge of CANCEL and FILL.
 ghost use mathlib.Core.Path.{_≡_};
 ghost use mathlib.Core.Bool.{cond};
 ghost use lib.Dec.{leb};
-ghost use Rattle.ledger.specs.Orders.{placeFrom, remaining};
+ghost use Rattle.ledger.specs.Orders.{remaining};
 ghost use Rattle.book.specs.declared.Event.the-variants.{Cancel, Fill};
 ghost use Rattle.book.specs.Answers.{numberOf};
 ghost use Rattle.layout.specs.View.{openOrders};
-ghost use Rattle.layout.specs.Stores.{rank};
 ghost use Rattle.layout.specs.Judged.{judged, NamedAt};
 ghost use Rattle.soundness.specs.Held.{Held};
 use crate::Verdict;
@@ -14,40 +13,9 @@ use crate::plain;
 use crate::ranges::is_quantity;
 use book::Answer;
 use layout::orders::load_order;
-use layout::search::id_at;
-use layout::search::place;
+use layout::search::find_order;
 use ledger::find::Found;
 use ledger::order::Order;
-
-// The place of the open order with that id: the search goes down from `p`, the place of the first larger id, and ends at the first match, or
-// at a smaller id.
-pub fn found_before(m: &[u8], p: usize, id: u64) -> Found
-    requires { ⌜ Held (now m) × (p ≡ rank id (openOrders (now m))) ⌝ }
-    ensures { λ r. ⌜ r ≡ placeFrom 0 id (openOrders (now (m .entry))) ⌝ }
-{
-    let mut q = p;
-    loop {
-        if q == 0 {
-            break Found::Nothing;
-        }
-        q -= 1;
-        let here = id_at(m, q);
-        if here == id {
-            break Found::At(q);
-        }
-        if here < id {
-            break Found::Nothing;
-        }
-    }
-}
-
-// The place of the open order with that id.
-pub fn find_order(m: &[u8], id: u64) -> Found
-    requires { ⌜ Held (now m) ⌝ }
-    ensures { λ r. ⌜ r ≡ placeFrom 0 id (openOrders (now (m .entry))) ⌝ }
-{
-    found_before(m, place(m, id), id)
-}
 
 // CANCEL: question 11.
 pub fn judge_cancel(m: &[u8], id: u64) -> Verdict
@@ -79,7 +47,8 @@ fn filled(o: Order, quantity: u64) -> Answer
 pub fn judge_fill(m: &[u8], id: u64, quantity: i64) -> Verdict
     requires { ⌜ Held (now m) ⌝ }
     ensures answer { λ r. ⌜ numberOf (r .answer) ≡ judged (now (m .entry)) (Fill id quantity) ⌝ }
-    ensures place { λ r. ⌜ (judged (now (m .entry)) (Fill id quantity) ≡ 0 → NamedAt (Fill id quantity) (openOrders (now (m .entry))) (r .place)) ⌝ }
+    ensures place { λ r. ⌜ (judged (now (m .entry)) (Fill id quantity) ≡ 0
+        → NamedAt (Fill id quantity) (openOrders (now (m .entry))) (r .place)) ⌝ }
 {
     if !is_quantity(quantity) {
         return plain(Answer::FigureOutOfRange);

@@ -1,16 +1,18 @@
--- The search for the place of an id among records whose ids ascend: what the id in a record says of the place.
-use Prim.Native.Nat.{ℕ, zero, suc, _+_, _-_, _≤_, _<_}
+-- The search by id among records whose ids ascend: what the id in a record says of the records before it and behind it.
+use Prim.Native.Nat.{ℕ, zero, suc, _+_, _*_, _-_, _/_, _≤_, _<_}
 use mathlib.Core.Path.{_≡_, refl, _∙_, sym, ap}
 use mathlib.Core.Logic.{_≢_}
 use mathlib.Core.List.{List, _∷_}
 use native.Mathlib.Decide.{ℕ-discrete, decLe}
 use native.Mathlib.Omega.{arith}
-use borrow.Author.Tests.{lt-ltb, le-ltb, eq-eqb, ne-eqb}
+use borrow.Author.Tests.{lt-ltb, le-ltb}
 use Rattle.words.specs.Words.{wordAt}
 use Rattle.ledger.specs.declared.order.Order.{Order}
+use Rattle.ledger.specs.declared.find.Found.{Found}
 use Rattle.ledger.specs.declared.find.Found.the-variants.{At, Nothing}
 use Rattle.ledger.specs.Orders.{placeFrom}
 use Rattle.ledger.specs.Records.{orderAt, ordersFrom}
+use Rattle.ledger.proofs.Search.{NotIn, seek, seek-all, seek-here, seek-nowhere, seek-between, passed}
 use Rattle.book.specs.Sound.{Ascending, next}
 use Rattle.layout.specs.Layout.{countWord}
 use Rattle.layout.specs.View.{recordsOf, openOrders}
@@ -20,13 +22,13 @@ use Rattle.layout.proofs.Lengths.{rank-open}
 ascending-out : {least : ℕ} {o : Order} {os : List Order} → Ascending least (o ∷ os) → (least < o .id) × Ascending (o .id) os
 ascending-out (next l a) = (l, a)
 
--- what k, which is 1 for an id x that is not larger and else 0, has where both cases have it
-pub by-id : (P : ℕ → Type 0) {x id k : ℕ} → (id < x → k ≡ 0) × (x ≤ id → k ≡ 1) × (k ≤ 1) → (id < x → P 0) → (x ≤ id → P 1) → P k
-by-id P {x} {id} {k} is larger other = by (decLe x id)
+-- what k, which is 1 where a is smaller than b and else 0, has where both cases have it
+pub by-smaller : (P : ℕ → Type 0) {a b k : ℕ} → (a < b → k ≡ 1) × (b ≤ a → k ≡ 0) × (k ≤ 1) → (a < b → P 1) → (b ≤ a → P 0) → P k
+by-smaller P {a} {b} {k} is less other = by (decLe b a)
   where
-    by : Dec (x ≤ id) → P k
+    by : Dec (b ≤ a) → P k
     by (yes h) = rw (is .1 h) (other h)
-    by (no h) = let l : id < x = omega (arith, h) in rw (is .0 l) (larger l)
+    by (no h) = let l : a < b = omega (arith, h) in rw (is .0 l) (less l)
 
 -- ---- the records s from p on
 module _ (s : List ℕ) where
@@ -63,44 +65,28 @@ module _ (s : List ℕ) where
     not-before zero p q low high larger = absurd (omega arith)
     not-before (suc n) p q low high larger = by (decLe (orderAt s p .id) id) (not-before n (p + 1) q)
       where
-        by : Dec (orderAt s p .id ≤ id) → (p + 1 ≤ q → q < p + 1 + n → id < orderAt s q .id → p + 1 + rank id (ordersFrom s (p + 1) n) ≤ q) → p + rank id (ordersFrom s p (suc n)) ≤ q
+        by : Dec (orderAt s p .id ≤ id)
+            → (p + 1 ≤ q → q < p + 1 + n → id < orderAt s q .id → p + 1 + rank id (ordersFrom s (p + 1) n) ≤ q)
+            → p + rank id (ordersFrom s p (suc n)) ≤ q
         by (yes small) later =
             let other : p ≢ q = λ e. absurd (omega (arith, ap (λ r. orderAt s r .id) e)) in
             omega (arith, rank-more n p small, later (omega arith) (omega arith) larger)
         by (no large) later = omega (arith, rank-none n p (omega (arith, large)))
 
     -- any other is
-    before : (n p q least : ℕ) → Ascending least (ordersFrom s p n) → p ≤ q → q < p + n → orderAt s q .id ≤ id → q < p + rank id (ordersFrom s p n)
+    before : (n p q least : ℕ) → Ascending least (ordersFrom s p n) → p ≤ q → q < p + n → orderAt s q .id ≤ id
+        → q < p + rank id (ordersFrom s p n)
     unfolding ordersFrom
     before zero p q least up low high small = absurd (omega arith)
     before (suc n) p q least up low high small = by (ℕ-discrete p q) (before n (p + 1) q (orderAt s p .id) (ascending-out up .1))
       where
-        by : Dec (p ≡ q) → (p + 1 ≤ q → q < p + 1 + n → orderAt s q .id ≤ id → q < p + 1 + rank id (ordersFrom s (p + 1) n)) → q < p + rank id (ordersFrom s p (suc n))
+        by : Dec (p ≡ q)
+            → (p + 1 ≤ q → q < p + 1 + n → orderAt s q .id ≤ id → q < p + 1 + rank id (ordersFrom s (p + 1) n))
+            → q < p + rank id (ordersFrom s p (suc n))
         by (yes here) later = omega (arith, rank-more n p (rw here small))
         by (no other) later =
             let l = above n (p + 1) q (orderAt s p .id) (ascending-out up .1) (omega arith) (omega arith) in
             omega (arith, rank-more n p (omega arith), later (omega arith) (omega arith) small)
-
-    -- an order with the id is found, and where there is none nothing is
-    found-there : (n p q least : ℕ) → Ascending least (ordersFrom s p n) → p ≤ q → q < p + n → orderAt s q .id ≡ id → placeFrom p id (ordersFrom s p n) ≡ At q
-    unfolding ordersFrom placeFrom
-    found-there zero p q least up low high same = absurd (omega arith)
-    found-there (suc n) p q least up low high same = by (ℕ-discrete p q) (found-there n (p + 1) q (orderAt s p .id) (ascending-out up .1))
-      where
-        by : Dec (p ≡ q) → (p + 1 ≤ q → q < p + 1 + n → orderAt s q .id ≡ id → placeFrom (p + 1) id (ordersFrom s (p + 1) n) ≡ At q) → placeFrom p id (ordersFrom s p (suc n)) ≡ At q
-        by (yes here) later =
-            let e : orderAt s p .id ≡ id = rw here same in
-            simp (eq-eqb (orderAt s p .id) id e) (ap At here)
-        by (no other) later =
-            let l = above n (p + 1) q (orderAt s p .id) (ascending-out up .1) (omega arith) (omega arith) in
-            simp (ne-eqb (orderAt s p .id) id (λ e. absurd (omega arith))) (later (omega arith) (omega arith) same)
-
-    found-nowhere : (n p : ℕ) → ((q : ℕ) → p ≤ q → q < p + n → orderAt s q .id ≢ id) → placeFrom p id (ordersFrom s p n) ≡ Nothing
-    unfolding ordersFrom placeFrom
-    found-nowhere zero p none = refl
-    found-nowhere (suc n) p none =
-        simp (ne-eqb (orderAt s p .id) id (none p (omega arith) (omega arith)))
-        (found-nowhere n (p + 1) (λ q low high. none q (omega arith) (omega arith)))
 
 -- ---- the open orders
 module _ (m : List ℕ) (id : ℕ) where
@@ -113,33 +99,120 @@ module _ (m : List ℕ) (id : ℕ) where
     unfolding openOrders
     at-larger h = omega (arith, not-before (recordsOf m) id count 0 q (omega arith) (omega arith) (omega arith))
 
-    module _ (up : Ascending 0 (openOrders m)) where
-      pub at-other : x ≤ id → q < rank id (openOrders m)
-      unfolding openOrders
-      at-other h = omega (arith, before (recordsOf m) id count 0 q 0 up (omega arith) (omega arith) (omega arith))
-
-  -- the order with the id, if there is one, stands just before the place p
-  module _ (up : Ascending 0 (openOrders m)) (p x : ℕ) (is : p ≡ rank id (openOrders m)) (read : x ≡ orderIn m (p - 1) .id) where
-    pub found-before : 1 ≤ p → x ≡ id → placeFrom 0 id (openOrders m) ≡ At (p - 1)
+    pub at-other : Ascending 0 (openOrders m) → x ≤ id → q < rank id (openOrders m)
     unfolding openOrders
-    found-before h same =
-        let inside : p - 1 < count = omega (arith, rank-open m id) in
-        found-there (recordsOf m) id count 0 (p - 1) 0 up (omega arith) (omega arith) (sym read ∙ same)
+    at-other up h = omega (arith, before (recordsOf m) id count 0 q 0 up (omega arith) (omega arith) (omega arith))
 
-    pub found-none : (1 ≤ p → x ≢ id) → placeFrom 0 id (openOrders m) ≡ Nothing
+  module _ (up : Ascending 0 (openOrders m)) where
+    pub ids-rise : (q r : ℕ) → q < r → r < count → orderIn m q .id < orderIn m r .id
     unfolding openOrders
-    found-none other =
-        let s : List ℕ = recordsOf m in
-        found-nowhere s id count 0
-        (λ q low high same. by q high same (before s id count 0 q 0 up (omega arith) (omega arith) (omega arith)) (ℕ-discrete (q + 1) p))
+    ids-rise q r less high = rises (recordsOf m) count 0 q r 0 up (omega arith) less (omega arith)
+
+    -- up to a place whose id is smaller, and behind one whose id is not, no order has the id
+    none-upto : (r : ℕ) → r < count → orderIn m r .id < id → NotIn (recordsOf m) id 0 (r + 1)
+    none-upto r high small q low less same = by (ℕ-discrete q r)
       where
-        by : (q : ℕ) → q < 0 + count → orderAt (recordsOf m) q .id ≡ id → q < 0 + rank id (openOrders m) → Dec (q + 1 ≡ p) → ⊥
-        by q high same passed (yes last) =
-            let e : q ≡ p - 1 = omega arith in
-            other (omega arith) (read ∙ ap (λ r. orderAt (recordsOf m) r .id) (sym e) ∙ same)
-        by q high same passed (no earlier) =
-            let s : List ℕ = recordsOf m in
-            let within : rank id (openOrders m) ≤ count = rank-open m id in
-            let more : orderAt s q .id < orderAt s (q + 1) .id = rises s count 0 q (q + 1) 0 up (omega arith) (omega arith) (omega (arith, earlier)) in
-            let upto : 0 + rank id (openOrders m) ≤ q + 1 = not-before s id count 0 (q + 1) (omega arith) (omega (arith, earlier)) (omega arith) in
-            omega (arith, earlier)
+        by : Dec (q ≡ r) → ⊥
+        by (yes here) = omega (arith, ap (λ k. orderIn m k .id) here)
+        by (no other) = omega (arith, ids-rise q r (omega arith) high)
+
+    none-behind : (r : ℕ) → id ≤ orderIn m r .id → NotIn (recordsOf m) id (r + 1) count
+    none-behind r large q low high same = omega (arith, ids-rise r q (omega arith) high)
+
+    -- the first larger id is not further behind such a place
+    rank-behind : (r : ℕ) → r < count → id ≤ orderIn m r .id → rank id (openOrders m) ≤ r + 1
+    rank-behind r high large = by (decLe count (r + 1))
+      where
+        by : Dec (count ≤ r + 1) → rank id (openOrders m) ≤ r + 1
+        by (yes last) = omega (arith, rank-open m id)
+        by (no more) =
+            let inside : r + 1 < count = omega (arith, more) in
+            at-larger (r + 1) _ inside refl (omega (arith, ids-rise r (r + 1) (omega arith) inside))
+
+    -- the order with the id, if there is one, stands just before the place p of the first larger id
+    module _ (p x : ℕ) (is : p ≡ rank id (openOrders m)) (read : x ≡ orderIn m (p - 1) .id) where
+      pub found-before : 1 ≤ p → x ≡ id → placeFrom 0 id (openOrders m) ≡ At (p - 1)
+      unfolding openOrders
+      found-before h same =
+          let s : List ℕ = recordsOf m in
+          let inside : p - 1 < count = omega (arith, rank-open m id) in
+          let e : 0 + (p - 1) ≡ p - 1 = omega arith in
+          sym (seek-all s count id)
+          ∙ passed s count id (p - 1) 0 (omega arith) (λ q low less there. omega (arith, ids-rise q (p - 1) (omega arith) inside))
+          ∙ ap (seek s count id) e
+          ∙ seek-here s count id (p - 1) x inside read same
+
+      pub found-none : (1 ≤ p → x ≢ id) → placeFrom 0 id (openOrders m) ≡ Nothing
+      unfolding openOrders
+      found-none other =
+          let s : List ℕ = recordsOf m in
+          sym (seek-all s count id)
+          ∙ seek-nowhere s count id 0 (omega arith)
+          (λ q low high same. by q high same (at-other q _ high refl up (omega arith)) (ℕ-discrete (q + 1) p))
+        where
+          by : (q : ℕ) → q < count → orderIn m q .id ≡ id → q < rank id (openOrders m) → Dec (q + 1 ≡ p) → ⊥
+          by q high same there (yes last) =
+              let e : q ≡ p - 1 = omega arith in
+              other (omega arith) (read ∙ ap (λ r. orderIn m r .id) (sym e) ∙ same)
+          by q high same there (no earlier) = omega (arith, earlier, rank-behind q high (omega arith))
+
+-- ---- the block that is searched: it stands behind the first r blocks, which end with a smaller id, and ends at `to`
+pub record Block (m : List ℕ) (id r to : ℕ) : Type 0 where
+  pub inside : r * 16 ≤ wordAt m countWord
+  pub small : 1 ≤ r → orderIn m (r * 16 - 1) .id < id
+  pub large : r * 16 + 16 ≤ wordAt m countWord → id ≤ orderIn m (r * 16 + 15) .id
+  pub low : r * 16 ≤ to
+  pub high : to ≤ wordAt m countWord
+  pub ends : to < wordAt m countWord → to ≡ r * 16 + 16
+
+-- as counting the blocks and asking for the end told it
+pub block-told : (m : List ℕ) (id r to n : ℕ) → n ≡ wordAt m countWord
+    → (r ≤ n / 16) × (1 ≤ r → orderIn m (r * 16 - 1) .id < id) × (r < n / 16 → id ≤ orderIn m (r * 16 + 15) .id)
+    → (r * 16 ≤ to) × (to ≤ n) × (to ≤ r * 16 + 16) × (to < n → to ≡ r * 16 + 16)
+    → Block m id r to
+block-told m id r to n is few end =
+    record {
+      inside = omega arith;
+      small = few .1;
+      large = λ h. few .2 (omega arith);
+      low = end .0;
+      high = omega arith;
+      ends = λ h. end .3 (omega arith);
+    }
+
+module _ (m : List ℕ) (id r to : ℕ) (up : Ascending 0 (openOrders m)) (b : Block m id r to) where
+  -- no order before it or behind it has the id
+  none-before : NotIn (recordsOf m) id 0 (r * 16)
+  none-before q low high =
+      none-upto m id up (r * 16 - 1) (omega (arith, b .inside)) (b .small (omega arith)) q low (omega arith)
+
+  none-after : NotIn (recordsOf m) id to (wordAt m countWord)
+  none-after q low high =
+      let e = b .ends (omega arith) in
+      none-behind m id up (r * 16 + 15) (b .large (omega arith)) q (omega arith) high
+
+  -- so what the search finds in it, in records s, is what there is to find
+  pub found-in-block : (f : Found) (s : List ℕ) → s ≡ recordsOf m
+      → f ≡ placeFrom (r * 16) id (ordersFrom s (r * 16) (to - r * 16)) → f ≡ placeFrom 0 id (openOrders m)
+  unfolding openOrders seek
+  found-in-block f s is found =
+      rw is at found
+      ∙ seek-between (recordsOf m) id (wordAt m countWord) to (b .high) none-after (r * 16) (b .low) none-before
+      ∙ seek-all (recordsOf m) (wordAt m countWord) id
+
+  -- and the place of the first larger id is in it, or at its end
+  pub rank-from : r * 16 ≤ rank id (openOrders m)
+  rank-from = by (decLe 1 r)
+    where
+      by : Dec (1 ≤ r) → r * 16 ≤ rank id (openOrders m)
+      by (yes some) = omega (arith, at-other m id (r * 16 - 1) _ (omega (arith, b .inside)) refl up (omega (arith, b .small some)))
+      by (no none) = omega (arith, none)
+
+  pub rank-upto : rank id (openOrders m) ≤ to
+  rank-upto = by (decLe (wordAt m countWord) to)
+    where
+      by : Dec (wordAt m countWord ≤ to) → rank id (openOrders m) ≤ to
+      by (yes all) = omega (arith, rank-open m id)
+      by (no some) =
+          let e = b .ends (omega (arith, some)) in
+          omega (arith, rank-behind m id up (r * 16 + 15) (omega (arith, some)) (b .large (omega (arith, some))))

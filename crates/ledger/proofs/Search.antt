@@ -1,6 +1,6 @@
--- The search from record p on: what a turn of it finds, and what it says of the place that it answers.
-use Prim.Native.Nat.{ℕ, zero, suc, _+_, _*_, _-_, _<_}
-use mathlib.Core.Path.{_≡_, _∙_}
+-- The search from record p on: what a turn of it finds, which records it may leave out, and what it says of the place that it answers.
+use Prim.Native.Nat.{ℕ, zero, suc, _+_, _-_, _≤_, _<_}
+use mathlib.Core.Path.{_≡_, refl, _∙_, sym, ap}
 use mathlib.Core.Logic.{_≢_}
 use mathlib.Core.Bool.{cond}
 use mathlib.Core.List.{List}
@@ -8,19 +8,22 @@ use native.Mathlib.Decide.{ℕ-discrete}
 use native.Mathlib.Omega.{arith}
 use lib.Dec.{eqb}
 use borrow.Author.Tests.{eq-eqb, ne-eqb}
-use Rattle.words.specs.Words.{wordAt}
 use Rattle.ledger.specs.declared.find.Found.{Found}
 use Rattle.ledger.specs.declared.find.Found.the-variants.{At, Nothing}
 use Rattle.ledger.specs.Orders.{placeFrom}
-use Rattle.ledger.specs.Records.{orderOf, orderAt, ordersFrom}
+use Rattle.ledger.specs.Records.{orderAt, ordersFrom}
+
+-- no record from p on and before q has that id
+abbrev pub NotIn : List ℕ → ℕ → ℕ → ℕ → Type 0
+NotIn m id p q = (k : ℕ) → p ≤ k → k < q → orderAt m k .id ≢ id
 
 module _ (m : List ℕ) (n id : ℕ) where
-  -- the first place from p on
-  pub seek : ℕ → Found
+  -- the first place from p on and before n
+  unfoldable pub seek : ℕ → Found
   seek p = placeFrom p id (ordersFrom m p (n - p))
 
-  turn : (p : ℕ) → p < n → seek p ≡ cond (eqb (wordAt m (p * 2)) id) (At p) (seek (p + 1))
-  unfolding seek placeFrom ordersFrom orderAt orderOf
+  turn : (p : ℕ) → p < n → seek p ≡ cond (eqb (orderAt m p .id) id) (At p) (seek (p + 1))
+  unfolding seek placeFrom ordersFrom
   turn p h =
       let e : n - p ≡ suc (n - (p + 1)) = omega arith in
       rw e
@@ -33,11 +36,47 @@ module _ (m : List ℕ) (n id : ℕ) where
   unfolding seek placeFrom ordersFrom
   seek-end p h = let e : n - p ≡ 0 = omega arith in rw e
 
-  pub seek-here : (p x : ℕ) → p < n → x ≡ wordAt m (p * 2) → x ≡ id → seek p ≡ At p
-  seek-here p x h e same = turn p h ∙ simp (eq-eqb (wordAt m (p * 2)) id (cc))
+  -- x is the id of record p
+  module _ (p x : ℕ) (h : p < n) (read : x ≡ orderAt m p .id) where
+    pub seek-here : x ≡ id → seek p ≡ At p
+    seek-here same = turn p h ∙ simp (eq-eqb (orderAt m p .id) id (sym read ∙ same))
 
-  pub seek-on : (p x : ℕ) → p < n → x ≡ wordAt m (p * 2) → x ≢ id → seek p ≡ seek (p + 1)
-  seek-on p x h e other = turn p h ∙ simp (ne-eqb (wordAt m (p * 2)) id (λ s. other (e ∙ s)))
+    pub seek-on : x ≢ id → seek p ≡ seek (p + 1)
+    seek-on other = turn p h ∙ simp (ne-eqb (orderAt m p .id) id (λ same. other (read ∙ same)))
+
+  -- records without the id are passed over
+  pub passed : (k p : ℕ) → p + k ≤ n → NotIn m id p (p + k) → seek p ≡ seek (p + k)
+  passed zero p h none = let e : p + 0 ≡ p = omega arith in rw e
+  passed (suc k) p h none =
+      let e : p + 1 + k ≡ p + suc k = omega arith in
+      seek-on p _ (omega arith) refl (none p (omega arith) (omega arith))
+      ∙ passed k (p + 1) (omega arith) (λ q low high. none q (omega arith) (omega arith))
+      ∙ ap seek e
+
+  pub seek-nowhere : (p : ℕ) → p ≤ n → NotIn m id p n → seek p ≡ Nothing
+  seek-nowhere p h none =
+      let e : p + (n - p) ≡ n = omega arith in
+      passed (n - p) p (omega arith) (λ q low high. none q low (omega arith)) ∙ seek-end (p + (n - p)) e
+
+-- where no other record has the id, the search may keep to the records from `from` on and before `to`
+module _ (m : List ℕ) (id n to : ℕ) (inside : to ≤ n) (after : NotIn m id to n) where
+  -- those from `to` on are left out
+  cut : (k p : ℕ) → p + k ≡ to → seek m to id p ≡ seek m n id p
+  cut zero p e =
+      let none = seek-nowhere m n id p (omega arith) (λ q low high. after q (omega arith) high) in
+      seek-end m to id p (omega arith) ∙ sym none
+  cut (suc k) p e = by (ℕ-discrete (orderAt m p .id) id) (cut k (p + 1) (omega arith))
+    where
+      by : Dec (orderAt m p .id ≡ id) → seek m to id (p + 1) ≡ seek m n id (p + 1) → seek m to id p ≡ seek m n id p
+      by (yes same) later = seek-here m to id p _ (omega arith) refl same ∙ sym (seek-here m n id p _ (omega arith) refl same)
+      by (no other) later =
+          seek-on m to id p _ (omega arith) refl other ∙ later ∙ sym (seek-on m n id p _ (omega arith) refl other)
+
+  pub seek-between : (from : ℕ) → from ≤ to → NotIn m id 0 from → seek m to id from ≡ seek m n id 0
+  seek-between from h before =
+      let e : 0 + from ≡ from = omega arith in
+      cut (to - from) from (omega arith)
+      ∙ sym (passed m n id from 0 (omega arith) (λ q low high. before q low (omega arith)) ∙ ap (seek m n id) e)
 
 -- ---- what a caller learns
 module _ (m : List ℕ) (id : ℕ) where
@@ -46,7 +85,9 @@ module _ (m : List ℕ) (id : ℕ) where
   from-place zero q p e = let z : _≡_ {A = ℕ} 0 1 = cc in absurd (omega arith)
   from-place (suc n) q p e = by (ℕ-discrete (orderAt m q .id) id) (from-place n (q + 1) p)
     where
-      by : Dec (orderAt m q .id ≡ id) → (placeFrom (q + 1) id (ordersFrom m (q + 1) n) ≡ At p → (p < q + 1 + n) × (orderAt m p .id ≡ id)) → (p < q + suc n) × (orderAt m p .id ≡ id)
+      by : Dec (orderAt m q .id ≡ id)
+          → (placeFrom (q + 1) id (ordersFrom m (q + 1) n) ≡ At p → (p < q + 1 + n) × (orderAt m p .id ≡ id))
+          → (p < q + suc n) × (orderAt m p .id ≡ id)
       by (yes same) later =
           let here : q ≡ p = cc (eq-eqb (orderAt m q .id) id same) in
           (omega arith, rw (← here) same)

@@ -1,10 +1,10 @@
 // The search of an open order by its id.
 ghost use mathlib.Core.Path.{_≡_};
-ghost use Prim.Native.Nat.{_*_, _≤_};
+ghost use Prim.Native.Nat.{_*_, _-_, _≤_};
 ghost use lib.ListN.{length};
 ghost use Rattle.ledger.specs.Orders.{placeFrom};
 ghost use Rattle.ledger.specs.Records.{ordersFrom};
-use words::word;
+use crate::records::id_in;
 
 // The place of an open order, if there is one.
 pub enum Found {
@@ -12,17 +12,17 @@ pub enum Found {
     Nothing,
 }
 
-// The place of the first of the `n` orders with that id.
-pub fn find(orders: &[u8], n: usize, id: u64) -> Found
-    requires { ⌜ n * 16 ≤ length (now orders) ⌝ }
-    ensures { λ r. ⌜ r ≡ placeFrom 0 id (ordersFrom (now (orders .entry)) 0 n) ⌝ }
+// The place of the first order with that id among the records from `from` on and before `to`.
+pub fn find(orders: &[u8], from: usize, to: usize, id: u64) -> Found
+    requires { ⌜ (from ≤ to) × (to * 16 ≤ length (now orders)) ⌝ }
+    ensures { λ r. ⌜ r ≡ placeFrom from id (ordersFrom (now (orders .entry)) from (to - from)) ⌝ }
 {
-    let mut p = 0;
+    let mut p = from;
     loop {
-        if p == n {
+        if p == to {
             break Found::Nothing;
         }
-        if word(orders, p * 2) == id {
+        if id_in(orders, p) == id {
             break Found::At(p);
         }
         p += 1;

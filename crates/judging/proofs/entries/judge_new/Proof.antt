@@ -13,18 +13,18 @@ use Rattle.book.specs.Table.{isQuantity}
 use Rattle.book.proofs.Tables.{between-numbered, quantity-numbered}
 use Rattle.layout.specs.View.{rosterOf}
 use Rattle.soundness.proofs.Asked.{said-no, said-yes}
-use Rattle.soundness.proofs.SoundDesk.{held-records}
 use Rattle.judging.proofs.Said.{said, quantity-cast}
 use Rattle.judging.proofs.Verdicts.{refused}
 use Rattle.judging.proofs.ByKind.{new-answer}
-use Rattle.judging.proofs.Places.{held-ids}
+use Rattle.judging.proofs.Places.{held-ranked}
 use Rattle.judging.proofs.entries.judge_new.Statement.{statement}
 use Rattle.judging.proofs.entries.judge_new.Tie as tie
 
 known : (c : tie.Else1) → let a = c .before .before .before .before .args in between 1 (rosterOf (a .m .now) .accounts) (a .account) ≡ true
 known c = said-yes _ _ (c .before .account-known .ensures) (c .if1 .left)
 
-listed : (c : tie.Else2) → let a = c .before .before .before .before .before .before .args in between 1 (rosterOf (a .m .now) .instruments) (a .instrument) ≡ true
+listed : (c : tie.Else2) → let a = c .before .before .before .before .before .before .args in
+    between 1 (rosterOf (a .m .now) .instruments) (a .instrument) ≡ true
 listed c = said-yes _ _ (c .before .instrument-known .ensures) (c .if2 .left)
 
 whole : (c : tie.Else3) → isQuantity (c .before .before .before .before .before .before .before .before .args .quantity) ≡ true
@@ -36,13 +36,15 @@ returns : tie.Need-returns
 unfolding numberOf
 returns c =
     let asked = c .before in
-    refused UnknownAccount (c .plain .ensures) (new-answer _ _ _ _ _ _ false _ _ (said-no _ _ (asked .before .account-known .ensures) (asked .if1 .taken)) refl refl) (omega arith)
+    refused UnknownAccount (c .plain .ensures) (new-answer _ _ _ _ _ _ false _ _
+    (said-no _ _ (asked .before .account-known .ensures) (asked .if1 .taken)) refl refl) (omega arith)
 
 returns-2 : tie.Need-returns-2
 unfolding numberOf
 returns-2 c =
     let asked = c .before in
-    refused UnknownItem (c .plain2 .ensures) (new-answer _ _ _ _ _ _ true false _ (known (asked .before .before)) (said-no _ _ (asked .before .instrument-known .ensures) (asked .if2 .taken)) refl) (omega arith)
+    refused UnknownItem (c .plain2 .ensures) (new-answer _ _ _ _ _ _ true false _ (known (asked .before .before))
+    (said-no _ _ (asked .before .instrument-known .ensures) (asked .if2 .taken)) refl) (omega arith)
 
 returns-3 : tie.Need-returns-3
 unfolding numberOf
@@ -51,16 +53,15 @@ returns-3 c =
     let two = asked .before .before in
     let s = two .before .before .before .before .before .before in
     refused FigureOutOfRange (c .plain3 .ensures)
-    (new-answer _ _ _ _ _ _ true true false (known (two .before .before)) (listed two) (said-no _ _ (said isQuantity (s .fits .quantity) (asked .before .is-quantity .ensures)) (asked .if3 .taken)))
+    (new-answer _ _ _ _ _ _ true true false (known (two .before .before)) (listed two)
+    (said-no _ _ (said isQuantity (s .fits .quantity) (asked .before .is-quantity .ensures)) (asked .if3 .taken)))
     (omega arith)
 
 cast-t15 : tie.Need-cast-t15
 cast-t15 c = quantity-cast _ (c .before .before .before .before .before .before .before .before .fits .quantity) (whole c)
 
 place-requires : tie.Need-place-requires
-place-requires c κs =
-    let held = c .before .before .before .before .before .before .before .before .pre .0 in
-    (held-records _ held, held-ids _ held)
+place-requires c κs = held-ranked _ (c .before .before .before .before .before .before .before .before .pre .0)
 
 new-order-requires : tie.Need-new-order-requires
 new-order-requires c κs =
@@ -71,7 +72,11 @@ new-order-requires c κs =
     let a = s .args in
     let r = rosterOf (a .m .now) in (
       record {
-        on = record { held = s .pre .0; account = between-numbered (r .accounts) (a .account) (known one); instrument = between-numbered (r .instruments) (a .instrument) (listed two) };
+        on = record {
+          held = s .pre .0;
+          account = between-numbered (r .accounts) (a .account) (known one);
+          instrument = between-numbered (r .instruments) (a .instrument) (listed two);
+        };
         small = rw (toZ-ofZ w64 (a .quantity) (s .fits .quantity)) (quantity-numbered (a .quantity) (whole three) .1);
         unfilled = refl;
       },
@@ -94,17 +99,6 @@ returns-4 c =
 pub judge-new-spec : {M : Type 1} → statement M
 judge-new-spec =
     tie.close
-    (tie.spec
-    (λ c κs. search needs)
-    (λ c κs. search needs)
-    returns
-    (λ c κs. search needs)
-    (λ c κs. search needs)
-    returns-2
-    (λ c κs. search needs)
-    (λ c κs. search needs)
-    returns-3
-    cast-t15
-    place-requires
-    new-order-requires
+    (tie.spec (λ c κs. search needs) (λ c κs. search needs) returns (λ c κs. search needs) (λ c κs. search needs)
+    returns-2 (λ c κs. search needs) (λ c κs. search needs) returns-3 cast-t15 place-requires new-order-requires
     returns-4)

@@ -17,21 +17,23 @@ use Rattle.soundness.proofs.SoundDesk.{held-records}
 use Rattle.judging.proofs.Said.{said, quantity-cast}
 use Rattle.judging.proofs.Verdicts.{refused}
 use Rattle.judging.proofs.ByKind.{replace-figure, replace-none, replace-found}
-use Rattle.judging.proofs.Places.{found-order, order-named, place-small, no-order}
+use Rattle.judging.proofs.Places.{held-ranked, found-order, order-named, place-small, no-order}
 use Rattle.judging.proofs.entries.judge_replace.Statement.{statement}
 use Rattle.judging.proofs.entries.judge_replace.Tie as tie
 
 whole : (c : tie.Else1) → isQuantity (c .before .before .before .before .args .total) ≡ true
 whole c = said-yes _ _ (said isQuantity (c .before .before .before .before .fits .total) (c .before .is-quantity .ensures)) (c .if1 .left)
 
-found : (c : tie.After-p) → let a = c .before .before .before .before .before .before .before .args in placeFrom 0 (a .id) (openOrders (a .m .now)) ≡ At (c .p .given .0 .0)
+found : (c : tie.After-p) → let a = c .before .before .before .before .before .before .before .args in
+    placeFrom 0 (a .id) (openOrders (a .m .now)) ≡ At (c .p .given .0 .0)
 found c = sym (c .before .before .find-order .ensures) ∙ c .p .given .1
 
 returns : tie.Need-returns
 unfolding numberOf
 returns c =
     let s = c .before .before .before .before .before in
-    refused FigureOutOfRange (c .plain .ensures) (replace-figure _ _ _ (said-no _ _ (said isQuantity (s .fits .total) (c .before .before .is-quantity .ensures)) (c .before .if1 .taken))) (omega arith)
+    refused FigureOutOfRange (c .plain .ensures) (replace-figure _ _ _
+    (said-no _ _ (said isQuantity (s .fits .total) (c .before .before .is-quantity .ensures)) (c .before .if1 .taken))) (omega arith)
 
 load-order-requires : tie.Need-load-order-requires
 load-order-requires c κs =
@@ -56,28 +58,22 @@ returns-2 c =
     let p = c .before .before .before in
     let one = p .before .before .before in
     let s = one .before .before .before .before in
-    let again = toZ-ofZ w64 (s .args .total) (s .fits .total) in
-    (rw (c .before .load-order .ensures, again) at (c .replaced .ensures) ∙ sym (replace-found _ _ _ _ (whole one) (found-order _ _ _ (found p))), λ z. found p)
+    let again = toZ-ofZ w64 (s .args .total) (s .fits .total) in (
+      rw (c .before .load-order .ensures, again) at (c .replaced .ensures)
+          ∙ sym (replace-found _ _ _ _ (whole one) (found-order _ _ _ (found p))),
+      λ z. found p,
+    )
 
 returns-3 : tie.Need-returns-3
 unfolding numberOf
 returns-3 c =
     let find = c .before .before .before in
-    refused OrderNotFound (c .plain2 .ensures) (replace-none _ _ _ (whole (find .before)) (no-order _ _ (sym (find .find-order .ensures) ∙ c .before .enum-told .given .1))) (omega arith)
+    refused OrderNotFound (c .plain2 .ensures) (replace-none _ _ _ (whole (find .before))
+    (no-order _ _ (sym (find .find-order .ensures) ∙ c .before .enum-told .given .1))) (omega arith)
 
 pub judge-replace-spec : {M : Type 1} → statement M
 judge-replace-spec =
     tie.close
-    (tie.spec
-    (λ c κs. search needs)
-    (λ c κs. search needs)
-    returns
-    (λ c κs. search needs)
-    (λ c. search needs)
-    load-order-requires
-    cast-replaced
-    replaced-requires
-    (λ c. search needs)
-    (λ c κs. search needs)
-    returns-2
-    returns-3)
+    (tie.spec (λ c κs. search needs) (λ c κs. search needs) returns
+    (λ c κs. held-ranked _ (c .before .before .before .before .pre .0)) (λ c. search needs) load-order-requires
+    cast-replaced replaced-requires (λ c. search needs) (λ c κs. search needs) returns-2 returns-3)

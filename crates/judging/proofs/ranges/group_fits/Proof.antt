@@ -19,7 +19,8 @@ returns-2 c =
     let one = c .before in
     let f = one .before .before .fits in
     said-both (λ x y. isLimit derivatives x && isLimit derivatives y) _ _ (f .lcc) (f .lvc) (c .both-limits .ensures)
-    ∙ rw (sym (said-both (λ x y. isMinusOne x && isMinusOne y) _ _ (f .lcc) (f .lvc) (one .before .both-minus-one .ensures)) ∙ one .if1 .left)
+    ∙ rw (sym (said-both (λ x y. isMinusOne x && isMinusOne y) _ _ (f .lcc) (f .lvc) (one .before .both-minus-one .ensures))
+    ∙ one .if1 .left)
 
 pub group-fits-spec : {M : Type 1} → statement M
 group-fits-spec = tie.close (tie.spec (λ c κs. search needs) returns (λ c κs. search needs) returns-2)

@@ -17,7 +17,12 @@ returns-2 c =
     let one = c .before .before .before .before in
     let f = one .before .before .args .f in
     let fits = c .before .before .before .struct-told .given in
-    rw (sym (one .before .unsets .ensures) ∙ one .if1 .left, said-no _ _ (said-both (λ x y. isLimit derivatives x && isLimit derivatives y) (f .tci) (f .tvi) (record { sfits = fits .0 .1 }) (record { sfits = fits .1 .0 .1 }) (c .before .both-limits .ensures)) (c .if2 .taken))
+    rw (
+      sym (one .before .unsets .ensures) ∙ one .if1 .left,
+      said-no _ _
+          (said-both (λ x y. isLimit derivatives x && isLimit derivatives y) (f .tci) (f .tvi) (record { sfits = fits .0 .1 })
+          (record { sfits = fits .1 .0 .1 }) (c .before .both-limits .ensures)) (c .if2 .taken),
+    )
 
 returns-3 : tie.Need-returns-3
 returns-3 c =
@@ -25,8 +30,14 @@ returns-3 c =
     let one = two .before .before .before .before in
     let f = one .before .before .args .f in
     let fits = two .before .before .before .struct-told .given in
-    said-both (λ x y. isLimit derivatives x && isLimit derivatives y) (f .lci) (f .lvi) (record { sfits = fits .1 .1 .0 .1 }) (record { sfits = fits .1 .1 .1 .0 .1 }) (c .both-limits2 .ensures)
-    ∙ rw (sym (one .before .unsets .ensures) ∙ one .if1 .left, said-yes _ _ (said-both (λ x y. isLimit derivatives x && isLimit derivatives y) (f .tci) (f .tvi) (record { sfits = fits .0 .1 }) (record { sfits = fits .1 .0 .1 }) (two .before .both-limits .ensures)) (two .if2 .left))
+    said-both (λ x y. isLimit derivatives x && isLimit derivatives y) (f .lci) (f .lvi) (record { sfits = fits .1 .1 .0 .1 })
+    (record { sfits = fits .1 .1 .1 .0 .1 }) (c .both-limits2 .ensures)
+    ∙ rw (
+      sym (one .before .unsets .ensures) ∙ one .if1 .left,
+      said-yes _ _
+          (said-both (λ x y. isLimit derivatives x && isLimit derivatives y) (f .tci) (f .tvi) (record { sfits = fits .0 .1 })
+          (record { sfits = fits .1 .0 .1 }) (two .before .both-limits .ensures)) (two .if2 .left),
+    )
 
 pub line-fits-spec : {M : Type 1} → statement M
 line-fits-spec =

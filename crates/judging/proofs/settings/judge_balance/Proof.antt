@@ -1,13 +1,15 @@
 -- BALANCE is asked 7, 8, 9 and 10: each return is the first that fails; 10 reads the mark of an account that 7 has found known.
 use mathlib.Core.Path.{_≡_, refl, sym, _∙_}
-use mathlib.Core.Bool.{true, false}
+use mathlib.Core.Bool.{Bool, true, false, not, cond}
 use borrow.Author.Needs.{needs}
 use lib.IntN.{pos, negsuc}
+use Rattle.book.specs.declared.Event.the-variants.{Balance}
 use Rattle.book.specs.Answers.{numberOf}
 use Rattle.book.specs.Decoding.{between}
 use Rattle.book.specs.Table.{betweenℤ}
 use Rattle.book.proofs.Tables.{between-numbered}
-use Rattle.layout.specs.View.{rosterOf}
+use Rattle.layout.specs.View.{rosterOf, tradingOf}
+use Rattle.layout.specs.Judged.{judged}
 use Rattle.soundness.proofs.Asked.{said-no, said-yes}
 use Rattle.judging.proofs.Said.{said}
 use Rattle.judging.proofs.ByKind.{balance-answer}
@@ -18,10 +20,12 @@ use Rattle.judging.proofs.settings.judge_balance.Tie as tie
 known : (c : tie.Else1) → let a = c .before .before .before .args in between 1 (rosterOf (a .m .now) .accounts) (a .account) ≡ true
 known c = said-yes _ _ (c .before .account-known .ensures) (c .if1 .left)
 
-listed : (c : tie.Else2) → let a = c .before .before .before .before .before .args in between 1 (rosterOf (a .m .now) .instruments) (a .instrument) ≡ true
+listed : (c : tie.Else2) → let a = c .before .before .before .before .before .args in
+    between 1 (rosterOf (a .m .now) .instruments) (a .instrument) ≡ true
 listed c = said-yes _ _ (c .before .instrument-known .ensures) (c .if2 .left)
 
-in-range : (c : tie.Else3) → let a = c .before .before .before .before .before .before .before .args in betweenℤ (negsuc 999999999) (pos 1000000000) (a .balance) ≡ true
+in-range : (c : tie.Else3) → let a = c .before .before .before .before .before .before .before .args in
+    betweenℤ (negsuc 999999999) (pos 1000000000) (a .balance) ≡ true
 in-range c =
     let s = c .before .before .before .before .before .before .before in
     said-yes _ _ (said (betweenℤ (negsuc 999999999) (pos 1000000000)) (s .fits .balance) (c .before .in-range .ensures)) (c .if3 .left)
@@ -32,14 +36,18 @@ returns c = sym (balance-answer _ _ _ _ false _ _ _ (said-no _ _ (c .before .acc
 
 returns-2 : tie.Need-returns-2
 unfolding numberOf
-returns-2 c = sym (balance-answer _ _ _ _ true false _ _ (known (c .before .before)) (said-no _ _ (c .before .instrument-known .ensures) (c .if2 .taken)) refl refl)
+returns-2 c =
+    sym (balance-answer _ _ _ _ true false _ _ (known (c .before .before))
+    (said-no _ _ (c .before .instrument-known .ensures) (c .if2 .taken)) refl refl)
 
 returns-3 : tie.Need-returns-3
 unfolding numberOf
 returns-3 c =
     let two = c .before .before in
     let s = two .before .before .before .before .before in
-    sym (balance-answer _ _ _ _ true true false _ (known (two .before .before)) (listed two) (said-no _ _ (said (betweenℤ (negsuc 999999999) (pos 1000000000)) (s .fits .balance) (c .before .in-range .ensures)) (c .if3 .taken)) refl)
+    sym (balance-answer _ _ _ _ true true false _ (known (two .before .before)) (listed two)
+    (said-no _ _ (said (betweenℤ (negsuc 999999999) (pos 1000000000)) (s .fits .balance) (c .before .in-range .ensures))
+    (c .if3 .taken)) refl)
 
 is-trading-requires : tie.Need-is-trading-requires
 is-trading-requires c κs =
@@ -47,30 +55,24 @@ is-trading-requires c κs =
     let s = one .before .before .before in
     (s .pre, between-numbered (rosterOf (s .args .m .now) .accounts) (s .args .account) (known one))
 
+-- the three tests are passed, and t says whether the account trades
+answered : (c : tie.After-is-trading) (t : Bool) → let a = c .before .before .before .before .before .before .before .before .args in
+    tradingOf (a .m .now) (a .account) ≡ t → judged (a .m .now) (Balance (a .account) (a .instrument) (a .balance)) ≡ cond (not t) 0 10
+answered c t e =
+    let three = c .before in
+    let two = three .before .before in
+    balance-answer _ _ _ _ true true true t (known (two .before .before)) (listed two) (in-range three) e
+
 returns-4 : tie.Need-returns-4
 unfolding numberOf
-returns-4 c =
-    let three = c .before .before in
-    let two = three .before .before in
-    sym (balance-answer _ _ _ _ true true true true (known (two .before .before)) (listed two) (in-range three) (sym (c .before .is-trading .ensures) ∙ c .if4 .taken))
+returns-4 c = sym (answered (c .before) true (sym (c .before .is-trading .ensures) ∙ c .if4 .taken))
 
 returns-5 : tie.Need-returns-5
 unfolding numberOf
-returns-5 c =
-    let three = c .before .before in
-    let two = three .before .before in
-    sym (balance-answer _ _ _ _ true true true false (known (two .before .before)) (listed two) (in-range three) (sym (c .before .is-trading .ensures) ∙ c .if4 .left))
+returns-5 c = sym (answered (c .before) false (sym (c .before .is-trading .ensures) ∙ c .if4 .left))
 
 pub judge-balance-spec : {M : Type 1} → statement M
 judge-balance-spec =
     tie.close
-    (tie.spec
-    (λ c κs. search needs)
-    returns
-    (λ c κs. search needs)
-    returns-2
-    (λ c κs. search needs)
-    returns-3
-    is-trading-requires
-    returns-4
-    returns-5)
+    (tie.spec (λ c κs. search needs) returns (λ c κs. search needs) returns-2 (λ c κs. search needs) returns-3
+    is-trading-requires returns-4 returns-5)

@@ -1,15 +1,25 @@
 -- BLOCK is asked 7, 8 and 9 in this order: each return is the first of these tests that fails, or 0 where all pass.
-use mathlib.Core.Path.{refl, sym}
-use mathlib.Core.Bool.{true, false}
+use mathlib.Core.Path.{_≡_, refl, sym}
+use mathlib.Core.Bool.{Bool, true, false, cond}
 use borrow.Author.Needs.{needs}
 use lib.IntN.{pos}
+use Rattle.book.specs.declared.Event.the-variants.{Block}
 use Rattle.book.specs.Answers.{numberOf}
-use Rattle.book.specs.Table.{betweenℤ}
+use Rattle.book.specs.Table.{blockAccountKnown, blockItemKnown, betweenℤ}
+use Rattle.layout.specs.View.{rosterOf}
+use Rattle.layout.specs.Judged.{judged}
 use Rattle.soundness.proofs.Asked.{said-no, said-yes}
 use Rattle.judging.proofs.Said.{said}
 use Rattle.judging.proofs.ByKind.{block-answer}
 use Rattle.judging.proofs.settings.judge_block.Statement.{statement}
 use Rattle.judging.proofs.settings.judge_block.Tie as tie
+
+known : (c : tie.Else1) → let a = c .before .before .before .args in blockAccountKnown (rosterOf (a .m .now)) (a .what) ≡ true
+known c = said-yes _ _ (c .before .blocked-account-known .ensures) (c .if1 .left)
+
+listed : (c : tie.Else2) → let a = c .before .before .before .before .before .args in
+    blockItemKnown (rosterOf (a .m .now)) (a .what) ≡ true
+listed c = said-yes _ _ (c .before .blocked-item-known .ensures) (c .if2 .left)
 
 returns : tie.Need-returns
 unfolding numberOf
@@ -18,33 +28,28 @@ returns c = sym (block-answer _ _ _ false _ _ (said-no _ _ (c .before .blocked-a
 returns-2 : tie.Need-returns-2
 unfolding numberOf
 returns-2 c =
-    let one = c .before .before in
-    sym (block-answer _ _ _ true false _ (said-yes _ _ (one .before .blocked-account-known .ensures) (one .if1 .left)) (said-no _ _ (c .before .blocked-item-known .ensures) (c .if2 .taken)) refl)
+    let unlisted = said-no _ _ (c .before .blocked-item-known .ensures) (c .if2 .taken) in
+    sym (block-answer _ _ _ true false _ (known (c .before .before)) unlisted refl)
+
+-- the account and the item are known, and z says whether the block's figure fits
+answered : (c : tie.After-in-range) (z : Bool) → let a = c .before .before .before .before .before .before .args in
+    betweenℤ (pos 0) (pos 1) (a .on) ≡ z → judged (a .m .now) (Block (a .what) (a .on)) ≡ cond z 0 9
+answered c z e = block-answer _ _ _ true true z (known (c .before .before .before)) (listed (c .before)) e
+
+fits : (c : tie.After-in-range) → let a = c .before .before .before .before .before .before .args in
+    c .in-range .result ≡ betweenℤ (pos 0) (pos 1) (a .on)
+fits c = said (betweenℤ (pos 0) (pos 1)) (c .before .before .before .before .before .before .fits .on) (c .in-range .ensures)
 
 returns-3 : tie.Need-returns-3
 unfolding numberOf
-returns-3 c =
-    let two = c .before .before in
-    let one = two .before .before in
-    let s = one .before .before .before in
-    sym (block-answer _ _ _ true true false (said-yes _ _ (one .before .blocked-account-known .ensures) (one .if1 .left)) (said-yes _ _ (two .before .blocked-item-known .ensures) (two .if2 .left)) (said-no _ _ (said (betweenℤ (pos 0) (pos 1)) (s .fits .on) (c .before .in-range .ensures)) (c .if3 .taken)))
+returns-3 c = sym (answered (c .before) false (said-no _ _ (fits (c .before)) (c .if3 .taken)))
 
 returns-4 : tie.Need-returns-4
 unfolding numberOf
-returns-4 c =
-    let two = c .before .before in
-    let one = two .before .before in
-    let s = one .before .before .before in
-    sym (block-answer _ _ _ true true true (said-yes _ _ (one .before .blocked-account-known .ensures) (one .if1 .left)) (said-yes _ _ (two .before .blocked-item-known .ensures) (two .if2 .left)) (said-yes _ _ (said (betweenℤ (pos 0) (pos 1)) (s .fits .on) (c .before .in-range .ensures)) (c .if3 .left)))
+returns-4 c = sym (answered (c .before) true (said-yes _ _ (fits (c .before)) (c .if3 .left)))
 
 pub judge-block-spec : {M : Type 1} → statement M
 judge-block-spec =
     tie.close
-    (tie.spec
-    (λ c κs. search needs)
-    returns
-    (λ c κs. search needs)
-    returns-2
-    (λ c κs. search needs)
-    returns-3
+    (tie.spec (λ c κs. search needs) returns (λ c κs. search needs) returns-2 (λ c κs. search needs) returns-3
     returns-4)

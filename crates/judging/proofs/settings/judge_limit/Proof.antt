@@ -1,12 +1,24 @@
 -- LIMIT is asked 7, 8 and 9 in this order: each return is the first of these tests that fails, or 0 where all pass.
-use mathlib.Core.Path.{refl, sym}
-use mathlib.Core.Bool.{true, false}
+use mathlib.Core.Path.{_≡_, refl, sym}
+use mathlib.Core.Bool.{Bool, true, false, cond}
 use borrow.Author.Needs.{needs}
+use Rattle.book.specs.declared.Event.the-variants.{Limit}
+use Rattle.book.specs.Market.{derivatives}
 use Rattle.book.specs.Answers.{numberOf}
+use Rattle.book.specs.Decoding.{between}
+use Rattle.book.specs.Table.{lineKnown, lineFits}
+use Rattle.layout.specs.View.{rosterOf}
+use Rattle.layout.specs.Judged.{judged}
 use Rattle.soundness.proofs.Asked.{said-no, said-yes}
 use Rattle.judging.proofs.ByKind.{limit-answer}
 use Rattle.judging.proofs.settings.judge_limit.Statement.{statement}
 use Rattle.judging.proofs.settings.judge_limit.Tie as tie
+
+known : (c : tie.Else1) → let a = c .before .before .before .args in between 1 (rosterOf (a .m .now) .accounts) (a .account) ≡ true
+known c = said-yes _ _ (c .before .account-known .ensures) (c .if1 .left)
+
+listed : (c : tie.Else2) → let a = c .before .before .before .before .before .args in lineKnown (rosterOf (a .m .now)) (a .line) ≡ true
+listed c = said-yes _ _ (c .before .line-known .ensures) (c .if2 .left)
 
 returns : tie.Need-returns
 unfolding numberOf
@@ -15,31 +27,23 @@ returns c = sym (limit-answer _ _ _ false _ _ (said-no _ _ (c .before .account-k
 returns-2 : tie.Need-returns-2
 unfolding numberOf
 returns-2 c =
-    let one = c .before .before in
-    sym (limit-answer _ _ _ true false _ (said-yes _ _ (one .before .account-known .ensures) (one .if1 .left)) (said-no _ _ (c .before .line-known .ensures) (c .if2 .taken)) refl)
+    sym (limit-answer _ _ _ true false _ (known (c .before .before)) (said-no _ _ (c .before .line-known .ensures) (c .if2 .taken)) refl)
+
+-- the two questions before the figures are passed, and z says whether those fit
+answered : (c : tie.After-limit-fits) (z : Bool) → let a = c .before .before .before .before .before .before .args in
+    lineFits derivatives (a .line) ≡ z → judged (a .m .now) (Limit (a .account) (a .line)) ≡ cond z 0 9
+answered c z e = limit-answer _ _ _ true true z (known (c .before .before .before)) (listed (c .before)) e
 
 returns-3 : tie.Need-returns-3
 unfolding numberOf
-returns-3 c =
-    let two = c .before .before in
-    let one = two .before .before in
-    sym (limit-answer _ _ _ true true false (said-yes _ _ (one .before .account-known .ensures) (one .if1 .left)) (said-yes _ _ (two .before .line-known .ensures) (two .if2 .left)) (said-no _ _ (c .before .limit-fits .ensures) (c .if3 .taken)))
+returns-3 c = sym (answered (c .before) false (said-no _ _ (c .before .limit-fits .ensures) (c .if3 .taken)))
 
 returns-4 : tie.Need-returns-4
 unfolding numberOf
-returns-4 c =
-    let two = c .before .before in
-    let one = two .before .before in
-    sym (limit-answer _ _ _ true true true (said-yes _ _ (one .before .account-known .ensures) (one .if1 .left)) (said-yes _ _ (two .before .line-known .ensures) (two .if2 .left)) (said-yes _ _ (c .before .limit-fits .ensures) (c .if3 .left)))
+returns-4 c = sym (answered (c .before) true (said-yes _ _ (c .before .limit-fits .ensures) (c .if3 .left)))
 
 pub judge-limit-spec : {M : Type 1} → statement M
 judge-limit-spec =
     tie.close
-    (tie.spec
-    (λ c κs. search needs)
-    returns
-    (λ c κs. search needs)
-    returns-2
-    (λ c κs. search needs)
-    returns-3
+    (tie.spec (λ c κs. search needs) returns (λ c κs. search needs) returns-2 (λ c κs. search needs) returns-3
     returns-4)

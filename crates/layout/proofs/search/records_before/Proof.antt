@@ -1,4 +1,4 @@
--- Up to the rank each record counts one, from there on none: `at-other` and `at-larger` turn the compared id into a side of the rank.
+-- Of the records that were looked at, those before the place were counted: an id that is larger is not before it, any other is.
 use Prim.Native.Nat.{ℕ, _+_, _-_, _≤_, _<_}
 use mathlib.Core.Path.{_≡_}
 use native.Mathlib.Omega.{arith}
@@ -6,7 +6,7 @@ use Rattle.words.specs.Words.{wordAt}
 use Rattle.layout.specs.Layout.{countWord}
 use Rattle.layout.specs.View.{openOrders}
 use Rattle.layout.specs.Stores.{rank}
-use Rattle.layout.proofs.Ranking.{by-id, at-larger, at-other}
+use Rattle.layout.proofs.Ranking.{by-smaller, at-larger, at-other}
 use Rattle.layout.proofs.search.records_before.Statement.{statement}
 use Rattle.layout.proofs.search.records_before.Tie as tie
 
@@ -41,7 +41,7 @@ loop-again c =
       omega arith,
       omega arith,
       omega arith,
-      by-id (λ k. Before r (a .from) (p + 1) (s .loop .before + k)) (c .counted .ensures)
+      by-smaller (λ k. Before r (a .from) (p + 1) (s .loop .before + (1 - k))) (c .smaller .ensures)
           (λ larger. none-before r (a .from) p (s .loop .before) was (at-larger _ _ _ _ inside read larger))
           (λ other. one-before r (a .from) p (s .loop .before) was (at-other _ _ _ _ inside read (pre .0 .1) other)),
     )
@@ -55,6 +55,7 @@ records-before-spec =
     (λ c. (omega arith, omega arith, omega arith, (λ h. omega arith, λ h. omega arith)))
     (λ c κs. (c .before .before .before .pre .0 .0, omega arith))
     (λ c κs. tt)
+    (λ c. omega arith)
     (λ c. omega arith)
     (λ c. omega arith)
     (λ c. omega arith)
