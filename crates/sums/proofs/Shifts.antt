@@ -131,8 +131,8 @@ new-shifts {m} {s} {a} {i} {id} {p} {n} bytes word ready r made =
       is-before = made .1;
       is-after = made .2 ∙ omega (signed, magnitude-parts n);
       shifted = rw (made .0)
-      (told-shift m bytes (ready .held) e word (ready .accepted) o 0 (natAbs n) 0 (remaining o) account instrument (omega (arith, t .2 .1 .1))
-      refl (omega arith) (new-shift derivatives (bookOf m) s a i id n));
+          (told-shift m bytes (ready .held) e word (ready .accepted) o 0 (natAbs n) 0 (remaining o) account instrument (omega (arith, t .2 .1 .1))
+          refl (omega arith) (new-shift derivatives (bookOf m) s a i id n));
     }
 
 -- ---- the order in record p is the one that the event names

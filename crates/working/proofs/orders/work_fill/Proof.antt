@@ -65,8 +65,8 @@ returns c =
     let loaded = read .before .before in
     let start = loaded .before .before .before in (
       fill-worked (start .pre) (start .fits .quantity) (loaded .load-order .ensures) (record { sfits = read .signed-word .ok })
-      (read .signed-word .ensures) (stored .fill-record .ensures) (after .balance-after .ensures)
-      (c .before .before .before .set-balance .ensures),
+          (read .signed-word .ensures) (stored .fill-record .ensures) (after .balance-after .ensures)
+          (c .before .before .before .set-balance .ensures),
       (fill-moved (start .pre) (start .fits .quantity) (loaded .load-order .ensures) Buy _ (c .moved-by .ensures .0), fill-moved (start .pre) (start .fits .quantity) (loaded .load-order .ensures) Sell _ (c .moved-by .ensures .1)),
     )
 
