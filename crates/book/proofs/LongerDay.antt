@@ -17,7 +17,8 @@ use Rattle.book.specs.Sound.{RosterFits, Sound}
 use Rattle.book.specs.Kept.{Desk, Kept, begun, memoryAfter}
 use Rattle.book.specs.Written.{written, writtenAll}
 use Rattle.book.specs.Rosters.{rosterIn}
-use Rattle.book.specs.LongerDay.{longerTables, morning, tooLong, tooShort, putSold, putBought, raisedTooFar, putSoldToTheLimit, putBoughtToTheLimit, raisedToTheLimit, afternoon, evening}
+use Rattle.book.specs.LongerDay.{longerTables, morning, tooLong, tooShort, putSold, putBought, raisedTooFar, afternoon, evening}
+use Rattle.book.specs.LongerDay.{putSoldToTheLimit, putBoughtToTheLimit, raisedToTheLimit}
 use Rattle.book.proofs.Plain.{derivatives-unit, plain-sound}
 use Rattle.book.proofs.PlainPromise.{plainDesk, keptOf, Refused, Past, both-ways}
 use Rattle.book.proofs.Rosters.{at-each-number}

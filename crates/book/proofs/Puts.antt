@@ -50,12 +50,23 @@ morning =
     ∷ New Sell 1 2 4 (pos 1000)
     ∷ []
 
-morning-accepted : (answersTo roster begun morning ≡ 0 ∷ 0 ∷ 0 ∷ 0 ∷ 0 ∷ 0 ∷ 0 ∷ 0 ∷ 0 ∷ 0 ∷ []) × (groupIn roster (endOf roster begun morning .book) 1 1 ≡ minus 16200000 ∷ pos 43200000 ∷ [])
+morning-accepted : (answersTo roster begun morning ≡ 0 ∷ 0 ∷ 0 ∷ 0 ∷ 0 ∷ 0 ∷ 0 ∷ 0 ∷ 0 ∷ 0 ∷ [])
+    × (groupIn roster (endOf roster begun morning .book) 1 1 ≡ minus 16200000 ∷ pos 43200000 ∷ [])
 unfolding computes
 morning-accepted = (refl, refl)
 
 -- tables 12 to 14: a buy of 1,000 K8D5, a put, fails the group's short limit; a sell of 1,000 K888 its own; a buy of 1,000
 -- K885 passes
-tables : (answersTo roster (endOf roster begun morning) (New Buy 1 3 5 (pos 1000) ∷ New Sell 1 13 6 (pos 1000) ∷ New Buy 1 10 7 (pos 1000) ∷ []) ≡ 24 ∷ 22 ∷ 0 ∷ []) × (groupIn roster (endOf roster (endOf roster begun morning) (New Buy 1 10 7 (pos 1000) ∷ []) .book) 1 1 ≡ minus 13800000 ∷ pos 43200000 ∷ [])
+abbrev putBought : Event
+putBought = New Buy 1 3 5 (pos 1000)
+
+abbrev callSold : Event
+callSold = New Sell 1 13 6 (pos 1000)
+
+abbrev callBought : Event
+callBought = New Buy 1 10 7 (pos 1000)
+
+tables : (answersTo roster (endOf roster begun morning) (putBought ∷ callSold ∷ callBought ∷ []) ≡ 24 ∷ 22 ∷ 0 ∷ [])
+    × (groupIn roster (endOf roster (endOf roster begun morning) (callBought ∷ []) .book) 1 1 ≡ minus 13800000 ∷ pos 43200000 ∷ [])
 unfolding computes
 tables = (refl, refl)

@@ -12,7 +12,9 @@ use Rattle.ledger.specs.Positions.{instrument, group, long, short}
 use Rattle.book.specs.EventBytes.{newBytes, buy, sell}
 use Rattle.book.specs.Rosters.{rosterBytes}
 use Rattle.book.specs.Listing.{listingEvents}
-use Rattle.book.specs.LongerDay.{longerTables, morning, tooLong, tooShort, putSold, putBought, raisedTooFar, putSoldToTheLimit, putBoughtToTheLimit, raisedToTheLimit, afternoon, evening, noon, late, ownLineSet, elsewhere, secondAccount}
+use Rattle.book.specs.LongerDay.{longerTables, morning, tooLong, tooShort, putSold, putBought, raisedTooFar, afternoon, evening}
+use Rattle.book.specs.LongerDay.{putSoldToTheLimit, putBoughtToTheLimit, raisedToTheLimit}
+use Rattle.book.specs.LongerDay.{noon, late, ownLineSet, elsewhere, secondAccount}
 use Rattle.book.specs.Written.{writtenAll}
 use Rattle.opening.specs.Questions.{openingAnswer}
 use Rattle.opening.specs.Opening.{afterOpening}

@@ -50,6 +50,11 @@ abbrev Figures : Roster → List Order → (ℕ → ℤ) → ℕ → ℤ → ℤ
 Figures r orders S i pci pvi pcc pvc =
     (potential one r orders 1 S (instrument i) long ≡ pci) × (potential one r orders 1 S (instrument i) short ≡ pvi) × (potential one r orders 1 S (group 1) long ≡ pcc) × (potential one r orders 1 S (group 1) short ≡ pvc)
 
+-- all that a table computes with, as one name
+unfoldable computes : Unit {0}
+unfolding potential ofInstrument openOn standsIn groupPart sumGroup groupOfInstrument remaining sumOver below
+computes = tt
+
 -- ---- example A: instruments H08, N10 and F18
 abbrev rA : Roster
 rA = ofWeights 3 (pos 400 ∷ (pos 23800 ∷ (pos 98800 ∷ [])))
@@ -60,22 +65,13 @@ SA = balances (pos 100000 ∷ (minus 10000 ∷ (minus 5000 ∷ [])))
 abbrev startA : List Order
 startA = order 1 Buy 50000 ∷ (order 2 Buy 5000 ∷ (order 2 Sell 5000 ∷ []))
 
-table4 : Figures rA startA SA 1 (pos 150000) (minus 100000) (minus 553000000) (pos 811000000)
-unfolding potential ofInstrument openOn standsIn groupPart sumGroup groupOfInstrument remaining sumOver below
-table4 = (refl, refl, refl, refl)
-
--- a sell of N10, a sell of H08, a buy of F18
-table5 : Figures rA (order 2 Sell 10000 ∷ startA) SA 2 (minus 5000) (pos 25000) (minus 553000000) (pos 1049000000)
-unfolding potential ofInstrument openOn standsIn groupPart sumGroup groupOfInstrument remaining sumOver below
-table5 = (refl, refl, refl, refl)
-
-table6 : Figures rA (order 1 Sell 200000 ∷ startA) SA 1 (pos 150000) (pos 100000) (minus 553000000) (pos 891000000)
-unfolding potential ofInstrument openOn standsIn groupPart sumGroup groupOfInstrument remaining sumOver below
-table6 = (refl, refl, refl, refl)
-
-table7 : Figures rA (order 3 Buy 1000 ∷ startA) SA 3 (minus 4000) (pos 5000) (minus 454200000) (pos 811000000)
-unfolding potential ofInstrument openOn standsIn groupPart sumGroup groupOfInstrument remaining sumOver below
-table7 = (refl, refl, refl, refl)
+-- tables 4 to 7: as it stands; with a sell of N10, with a sell of H08, with a buy of F18
+tables-A : Figures rA startA SA 1 (pos 150000) (minus 100000) (minus 553000000) (pos 811000000)
+    × Figures rA (order 2 Sell 10000 ∷ startA) SA 2 (minus 5000) (pos 25000) (minus 553000000) (pos 1049000000)
+    × Figures rA (order 1 Sell 200000 ∷ startA) SA 1 (pos 150000) (pos 100000) (minus 553000000) (pos 891000000)
+    × Figures rA (order 3 Buy 1000 ∷ startA) SA 3 (minus 4000) (pos 5000) (minus 454200000) (pos 811000000)
+unfolding computes
+tables-A = ((refl, refl, refl, refl), (refl, refl, refl, refl), (refl, refl, refl, refl), (refl, refl, refl, refl))
 
 -- ---- example B: the puts K8DB, K8D0, K8D5, K8D8 and K8D9, of weight below 0, and the calls K885 and K888
 abbrev rB : Roster
@@ -87,25 +83,16 @@ SB = balances (pos 2000 ∷ (pos 2000 ∷ (pos 0 ∷ (pos 2000 ∷ (pos 2000 ∷
 abbrev startB : List Order
 startB = order 4 Sell 2000 ∷ (order 2 Sell 2000 ∷ [])
 
-table11 : Figures rB startB SB 4 (pos 2000) (pos 0) (minus 16200000) (pos 43200000)
-unfolding potential ofInstrument openOn standsIn groupPart sumGroup groupOfInstrument remaining sumOver below
-table11 = (refl, refl, refl, refl)
-
 abbrev put : Order
 put = order 3 Buy 1000
 
--- a buy of the put K8D5, a sell of the call K888, a buy of the call K885
-table12 : Figures rB (put ∷ startB) SB 3 (pos 1000) (pos 0) (minus 16200000) (pos 50800000)
-unfolding potential ofInstrument openOn standsIn groupPart sumGroup groupOfInstrument remaining sumOver below
-table12 = (refl, refl, refl, refl)
-
-table13 : Figures rB (order 7 Sell 1000 ∷ startB) SB 7 (pos 0) (pos 1000) (minus 16200000) (pos 49200000)
-unfolding potential ofInstrument openOn standsIn groupPart sumGroup groupOfInstrument remaining sumOver below
-table13 = (refl, refl, refl, refl)
-
-table14 : Figures rB (order 6 Buy 1000 ∷ startB) SB 6 (pos 1000) (pos 0) (minus 13800000) (pos 43200000)
-unfolding potential ofInstrument openOn standsIn groupPart sumGroup groupOfInstrument remaining sumOver below
-table14 = (refl, refl, refl, refl)
+-- tables 11 to 14: as it stands; with a buy of the put K8D5, with a sell of the call K888, with a buy of the call K885
+tables-B : Figures rB startB SB 4 (pos 2000) (pos 0) (minus 16200000) (pos 43200000)
+    × Figures rB (put ∷ startB) SB 3 (pos 1000) (pos 0) (minus 16200000) (pos 50800000)
+    × Figures rB (order 7 Sell 1000 ∷ startB) SB 7 (pos 0) (pos 1000) (minus 16200000) (pos 49200000)
+    × Figures rB (order 6 Buy 1000 ∷ startB) SB 6 (pos 1000) (pos 0) (minus 13800000) (pos 43200000)
+unfolding computes
+tables-B = ((refl, refl, refl, refl), (refl, refl, refl, refl), (refl, refl, refl, refl), (refl, refl, refl, refl))
 
 -- ---- the laws at work on table 12: the buy of a put moves its instrument long and its group short, and nothing else
 moves-short : Moves rB put (group 1) short
@@ -121,7 +108,7 @@ stays : potential one rB (put ∷ startB) 1 SB (group 1) long ≡ potential one 
 stays = shift-unmoved (entered one put startB (put ∷ startB) (joined-between put [] startB)) 1 SB rB (group 1) long moves-not-long
 
 past : (f : Filling (put ∷ startB)) × (pos 50000000 <ℤ position rB (after one 1 SB f) (group 1) short)
-past = past-iff one rB (put ∷ startB) 1 SB (group 1) short (pos 50000000) .0 (rw (table12 .3) (ltZ-yes tt))
+past = past-iff one rB (put ∷ startB) 1 SB (group 1) short (pos 50000000) .0 (rw (tables-B .1 .3) (ltZ-yes tt))
 
 -- a fill of one contract raises the short side, and the long side does not rise
 rises : position rB SB (group 1) short <ℤ position rB (afterFill one 1 SB put 1) (group 1) short
