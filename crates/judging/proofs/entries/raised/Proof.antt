@@ -24,13 +24,15 @@ unfolding replacedTotal
 within-limits-requires c κs =
     let at = c .before .before in
     let s = at .before .before .before .before in
-    rw (at .before .replaced-total .ensures)
-    (record {
-      on = replaced-on _ _ _ (s .pre .0);
-      set = limits-set _ _ _ (asked at) (c .enum-told .given .1);
-      total = s .pre .0 .small;
-      small = omega (arith, s .pre .0 .small);
-    }, s .pre .2)
+    rw (at .before .replaced-total .ensures) (
+      record {
+        on = replaced-on _ _ _ (s .pre .0);
+        set = limits-set _ _ _ (asked at) (c .enum-told .given .1);
+        total = s .pre .0 .small;
+        small = omega (arith, s .pre .0 .small);
+      },
+      s .pre .2,
+    )
 
 returns : tie.Need-returns
 unfolding raisedRest
