@@ -136,6 +136,8 @@ pub fn keep(cells: &mut [u64], m: &[u8], e: Event, place: usize)
     let o = s.order;
     let side = o.side;
     let j = o.account as usize * 64 + cell(side, o.instrument);
-    let raised = Contracts::of(cells[j]).plus(s.after);
-    cells[j] = raised.less(s.before).number();
+    cells[j] = Contracts::of(cells[j])
+        .plus(s.after)
+        .less(s.before)
+        .number();
 }
