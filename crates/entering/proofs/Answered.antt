@@ -42,17 +42,20 @@ module _ (m : List ℕ) (after : List Order) (o : Order) where
   pub size-fits : sizes ≡ 0 → firstNo (withinLimits m after o) ≡ positions
   unfolding withinLimits derivatives sizeQuestions
   size-fits e =
-      append-passed (sizeQuestions one (rosterOf m) (linesOf m (o .account)) o) (positionQuestions one (rosterOf m) (linesOf m (o .account)) after (balancesOf m (o .account)) o)
+      append-passed (sizeQuestions one (rosterOf m) (linesOf m (o .account)) o)
+      (positionQuestions one (rosterOf m) (linesOf m (o .account)) after (balancesOf m (o .account)) o)
       (zero-pass (sizeQuestions one (rosterOf m) (linesOf m (o .account)) o) (omega arith) e)
 
   pub size-refuses : (n : ℕ) → 1 ≤ n → sizes ≡ n → firstNo (withinLimits m after o) ≡ n
   unfolding withinLimits derivatives
   size-refuses n some e =
-      append-refused (sizeQuestions one (rosterOf m) (linesOf m (o .account)) o) (positionQuestions one (rosterOf m) (linesOf m (o .account)) after (balancesOf m (o .account)) o) (λ z. omega arith)
+      append-refused (sizeQuestions one (rosterOf m) (linesOf m (o .account)) o)
+      (positionQuestions one (rosterOf m) (linesOf m (o .account)) after (balancesOf m (o .account)) o) (λ z. omega arith)
       ∙ e
 
 -- ---- 21 to 24
-module _ (m : List ℕ) (cells : List ℕ) (o : Order) (z : ℤ) (n : ℕ) (s : Sizable m o n) (more : z ≡ pos n) (g : Sums cells (openOrders m)) where
+module _ (m : List ℕ) (cells : List ℕ) (o : Order) (z : ℤ) (n : ℕ) (s : Sizable m o n) (more : z ≡ pos n)
+    (g : Sums cells (openOrders m)) where
   account : Numbered 16 (o .account)
   account = (s .on .account .0, omega (arith, s .on .account .1, held-readable m (s .on .held) .accounts))
 
@@ -65,7 +68,9 @@ module _ (m : List ℕ) (cells : List ℕ) (o : Order) (z : ℤ) (n : ℕ) (s : 
       record {
         positions = record {
           size = own .0;
-          unfilled = cells-small (cellsOf cells (o .account)) (openOrders m) (o .account) (own .1) (λ side i. omega (arith, unfilled-small m (s .on .held) side (o .account) i));
+          unfilled =
+              cells-small (cellsOf cells (o .account)) (openOrders m) (o .account) (own .1)
+              (λ side i. omega (arith, unfilled-small m (s .on .held) side (o .account) i));
           balances-small = all .balances-small;
           roster-small = all .roster-small;
         };
@@ -93,4 +98,5 @@ module _ (m : List ℕ) (cells : List ℕ) (o : Order) (z : ℤ) (n : ℕ) (s : 
       (rw (← same-in-force ls o (rosterOf m) r contract) (line-in-force m o on (s .set)))
       (rw (← group-same m (on .held) (o .instrument) (on .instrument)) (line-of-group m o on (s .set)))
       raised
-      ∙ ap firstNo (sym (same-questions ls o (rosterOf m) r contract one after (balancesOf m (o .account)) (balancesIn (partOf m (balanceRow (o .account)) 33)) (words-agree m (on .held) (o .account) (on .account)) (on .instrument)))
+      ∙ ap firstNo (sym (same-questions ls o (rosterOf m) r contract one after (balancesOf m (o .account))
+      (balancesIn (partOf m (balanceRow (o .account)) 33)) (words-agree m (on .held) (o .account) (on .account)) (on .instrument)))

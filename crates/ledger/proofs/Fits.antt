@@ -1,4 +1,5 @@
--- What the machine does with signed numbers of bounded magnitude: a sum, a difference, a negation and a product fit, and are read back as themselves.
+-- What the machine does with signed numbers of bounded magnitude: a sum, a difference, a negation and a product fit, and are read back as
+-- themselves.
 use Prim.Native.Nat.{_+_, _≤_}
 use mathlib.Core.Path.{_≡_}
 use lib.IntN.{ℤ, pos, negℤ, natAbs, _+ℤ_, _-ℤ_, _*ℤ_, +ℤ-idl}
@@ -45,4 +46,8 @@ module _ (k x : ℤ) (h : natAbs x ≤ 200000000000) (l : natAbs k ≤ 1000000) 
 
   pub product-again : again (again k *ℤ again x) ≡ k *ℤ x
   product-again =
-      simp (toZ-ofZ w64 x (omega sized), toZ-ofZ w64 k (omega sized), toZ-ofZ w64 (k *ℤ x) (omega (sized, magnitude-product-≤ k x 1000000 200000000000 l h)))
+      simp (
+        toZ-ofZ w64 x (omega sized),
+        toZ-ofZ w64 k (omega sized),
+        toZ-ofZ w64 (k *ℤ x) (omega (sized, magnitude-product-≤ k x 1000000 200000000000 l h)),
+      )

@@ -45,7 +45,8 @@ group-first true false = refl
 group-first false true = refl
 group-first false false = refl
 
-pub existence : (r : Roster) (ls : Lines) (o : Order) (own default ofGroup : ℕ) → SetWords r ls o own default ofGroup → firstNo (existenceQuestions r ls o) ≡ cond (saysSet ofGroup) (cond (saysSet own || saysSet default) 0 17) 17
+pub existence : (r : Roster) (ls : Lines) (o : Order) (own default ofGroup : ℕ) → SetWords r ls o own default ofGroup
+    → firstNo (existenceQuestions r ls o) ≡ cond (saysSet ofGroup) (cond (saysSet own || saysSet default) 0 17) 17
 unfolding firstNo existenceQuestions limitsSet lineInForce
 existence r ls o own default ofGroup sets =
     rw (either, sets .own, sets .default, sets .of-group) (group-first (saysSet own || saysSet default) (saysSet ofGroup))
@@ -68,7 +69,14 @@ module _ (r : Roster) (ls : Lines) (o : Order) (line : List ℕ) (s : Side) (tot
 
 -- ---- 21 to 24
 -- an order that moves its instrument to side w and, unless its weight is zero, its group to side v
-in-order : (w v : Way) (z : Bool) (f g : Way → Bool) → firstNo (record { number = 21; passes = not (sameWay w long) || f long } ∷ record { number = 22; passes = not (sameWay w short) || f short } ∷ record { number = 23; passes = not (not z && sameWay v long) || g long } ∷ record { number = 24; passes = not (not z && sameWay v short) || g short } ∷ []) ≡ cond (f w) (cond (z || g v) 0 (groupNumber v)) (instrumentNumber w)
+in-order : (w v : Way) (z : Bool) (f g : Way → Bool)
+    → firstNo (record { number = 21; passes = not (sameWay w long) || f long } ∷ record {
+      number = 22;
+      passes =
+          not (sameWay w short) || f short;
+    } ∷ record { number = 23; passes = not (not z && sameWay v long) || g long }
+    ∷ record { number = 24; passes = not (not z && sameWay v short) || g short } ∷ []) ≡ cond (f w) (cond (z || g v) 0 (groupNumber v))
+    (instrumentNumber w)
 unfolding firstNo
 in-order long long true f g = refl
 in-order long long false f g = refl
@@ -87,19 +95,29 @@ weighty (pos n) h = ne-eqb n 0 (λ e. h (ap pos e))
 weighty (negsuc n) h = refl
 
 -- x and m are what the code finds for the instrument's position with the event applied and for its limit
-module _ (r : Roster) (ls : Lines) (before after : List Order) (S : ℕ → ℤ) (o : Order) (n : ℕ) (line groupLine : List ℕ) (in-force : InForce r ls o line) (of-group : OfGroup r ls o groupLine) (raised : Raised n o before after) (x m : ℤ) (found : x ≡ ofInstrument one before (o .account) S (o .instrument) (wayOf (o .side)) +ℤ pos n) (most : m ≡ pos (largestPosition (wayOf (o .side)) (lineAt line 0))) where
+module _ (r : Roster) (ls : Lines) (before after : List Order) (S : ℕ → ℤ) (o : Order) (n : ℕ) (line groupLine : List ℕ)
+    (in-force : InForce r ls o line) (of-group : OfGroup r ls o groupLine) (raised : Raised n o before after) (x m : ℤ)
+    (found : x ≡ ofInstrument one before (o .account) S (o .instrument) (wayOf (o .side)) +ℤ pos n)
+    (most : m ≡ pos (largestPosition (wayOf (o .side)) (lineAt line 0))) where
   of-instrument : within one r ls after S o (instrument (o .instrument)) (wayOf (o .side)) ≡ leZ x m
   unfolding within potential limit
   of-instrument = rw (found, most, instrument-raised n o before after raised S, in-force)
 
-  in-group : Numbered (r .instruments) (o .instrument) → (v : Way) → v ≡ wayBy (r .weight (o .instrument)) (wayOf (o .side)) → (y q : ℤ) → y ≡ potential one r before (o .account) S (group (groupOfInstrument r (o .instrument))) v +ℤ pos (natAbs (r .weight (o .instrument))) *ℤ pos n → q ≡ pos 10000 *ℤ pos (largestOfGroup v (groupLineAt groupLine 0)) → within one r ls after S o (group (groupOfInstrument r (o .instrument))) v ≡ leZ y q
+  in-group : Numbered (r .instruments) (o .instrument) → (v : Way) → v ≡ wayBy (r .weight (o .instrument)) (wayOf (o .side)) → (y q : ℤ)
+      → y ≡ potential one r before (o .account) S (group (groupOfInstrument r (o .instrument))) v +ℤ pos
+      (natAbs (r .weight (o .instrument))) *ℤ pos n → q ≡ pos 10000 *ℤ pos (largestOfGroup v (groupLineAt groupLine 0))
+      → within one r ls after S o (group (groupOfInstrument r (o .instrument))) v ≡ leZ y q
   unfolding within limit
   in-group numbered v way y q e f = rw (e, f, group-raised n o before after raised S r numbered v way, of-group)
 
-  by-tests : (t u : Bool) (v : Way) → v ≡ wayBy (r .weight (o .instrument)) (wayOf (o .side)) → leZ x m ≡ t → within one r ls after S o (group (groupOfInstrument r (o .instrument))) v ≡ u → firstNo (positionQuestions one r ls after S o) ≡ cond t (cond (isZero (r .weight (o .instrument)) || u) 0 (groupNumber v)) (instrumentNumber (wayOf (o .side)))
+  by-tests : (t u : Bool) (v : Way) → v ≡ wayBy (r .weight (o .instrument)) (wayOf (o .side)) → leZ x m ≡ t
+      → within one r ls after S o (group (groupOfInstrument r (o .instrument))) v ≡ u
+      → firstNo (positionQuestions one r ls after S o) ≡ cond t (cond (isZero (r .weight (o .instrument)) || u) 0 (groupNumber v))
+      (instrumentNumber (wayOf (o .side)))
   unfolding positionQuestions movesInstrument movesGroup
   by-tests t u v way e f =
-      rw (← way) (in-order (wayOf (o .side)) v (isZero (r .weight (o .instrument))) (within one r ls after S o (instrument (o .instrument))) (within one r ls after S o (group (groupOfInstrument r (o .instrument)))) ∙ rw (of-instrument, e, f))
+      rw (← way) (in-order (wayOf (o .side)) v (isZero (r .weight (o .instrument))) (within one r ls after S o (instrument (o .instrument)))
+      (within one r ls after S o (group (groupOfInstrument r (o .instrument)))) ∙ rw (of-instrument, e, f))
 
   pub instrument-passed : leZ x m ≡ false → firstNo (positionQuestions one r ls after S o) ≡ instrumentNumber (wayOf (o .side))
   instrument-passed e = by-tests false _ _ refl e refl
@@ -108,5 +126,10 @@ module _ (r : Roster) (ls : Lines) (before after : List Order) (S : ℕ → ℤ)
   no-group e zero = by-tests true _ _ refl e refl ∙ simp (weightless (r .weight (o .instrument)) zero)
 
   -- and y and q what it finds for the group's position, on the side that the order moves, and for its limit
-  pub by-group : leZ x m ≡ true → Numbered (r .instruments) (o .instrument) → r .weight (o .instrument) ≢ pos 0 → (v : Way) → v ≡ wayBy (r .weight (o .instrument)) (wayOf (o .side)) → (y q : ℤ) → y ≡ potential one r before (o .account) S (group (groupOfInstrument r (o .instrument))) v +ℤ pos (natAbs (r .weight (o .instrument))) *ℤ pos n → q ≡ pos 10000 *ℤ pos (largestOfGroup v (groupLineAt groupLine 0)) → (t : Bool) → leZ y q ≡ t → firstNo (positionQuestions one r ls after S o) ≡ cond t 0 (groupNumber v)
-  by-group e numbered weight v way y q d f t h = by-tests true t v way e (in-group numbered v way y q d f ∙ h) ∙ simp (weighty (r .weight (o .instrument)) weight)
+  pub by-group : leZ x m ≡ true → Numbered (r .instruments) (o .instrument) → r .weight (o .instrument) ≢ pos 0 → (v : Way)
+      → v ≡ wayBy (r .weight (o .instrument)) (wayOf (o .side)) → (y q : ℤ)
+      → y ≡ potential one r before (o .account) S (group (groupOfInstrument r (o .instrument))) v +ℤ pos
+      (natAbs (r .weight (o .instrument))) *ℤ pos n → q ≡ pos 10000 *ℤ pos (largestOfGroup v (groupLineAt groupLine 0)) → (t : Bool)
+      → leZ y q ≡ t → firstNo (positionQuestions one r ls after S o) ≡ cond t 0 (groupNumber v)
+  by-group e numbered weight v way y q d f t h =
+      by-tests true t v way e (in-group numbered v way y q d f ∙ h) ∙ simp (weighty (r .weight (o .instrument)) weight)

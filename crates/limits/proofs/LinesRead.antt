@@ -98,14 +98,17 @@ where-set {A} w l = by (saysSet w)
     by false e = absurd (false≢true e)
 
 -- the own line where it is set, else the default line
-whole : (t u : Bool) (l d : Line) (x y : List ℕ) → lineAt x 0 ≡ l → lineAt y 0 ≡ d → isSet (orElse (cond t (some l) none) (cond u (some d) none)) ≡ true → orElse (cond t (some l) none) (cond u (some d) none) ≡ some (lineAt (cond t x y) 0)
+whole : (t u : Bool) (l d : Line) (x y : List ℕ) → lineAt x 0 ≡ l → lineAt y 0 ≡ d
+    → isSet (orElse (cond t (some l) none) (cond u (some d) none)) ≡ true
+    → orElse (cond t (some l) none) (cond u (some d) none) ≡ some (lineAt (cond t x y) 0)
 whole true u l d x y e f h = rw e
 whole false true l d x y e f h = rw f
 whole false false l d x y e f h = absurd (false≢true h)
 
 module _ (own ownSet default defaultSet ofGroup groupSet : List ℕ) (r : Roster) (o : Order) where
   -- the set words that question 17 takes
-  pub set-words : SetWords r (linesIn own ownSet default defaultSet ofGroup groupSet) o (wordAt ownSet (o .instrument)) (wordAt defaultSet (r .contractOf (o .instrument))) (wordAt groupSet (groupOfInstrument r (o .instrument)))
+  pub set-words : SetWords r (linesIn own ownSet default defaultSet ofGroup groupSet) o (wordAt ownSet (o .instrument))
+      (wordAt defaultSet (r .contractOf (o .instrument))) (wordAt groupSet (groupOfInstrument r (o .instrument)))
   unfolding linesIn
   set-words =
       record {
@@ -115,7 +118,9 @@ module _ (own ownSet default defaultSet ofGroup groupSet : List ℕ) (r : Roster
       }
 
   -- the line in force, where it is set, stands in its part
-  pub in-force : isSet (lineInForce r (linesIn own ownSet default defaultSet ofGroup groupSet) (o .instrument)) ≡ true → InForce r (linesIn own ownSet default defaultSet ofGroup groupSet) o (linePart own default (wordAt ownSet (o .instrument)) (o .instrument) (r .contractOf (o .instrument)))
+  pub in-force : isSet (lineInForce r (linesIn own ownSet default defaultSet ofGroup groupSet) (o .instrument)) ≡ true
+      → InForce r (linesIn own ownSet default defaultSet ofGroup groupSet) o
+      (linePart own default (wordAt ownSet (o .instrument)) (o .instrument) (r .contractOf (o .instrument)))
   unfolding linesIn lineInForce linePart whereSet
   in-force =
       whole (saysSet (wordAt ownSet (o .instrument))) (saysSet (wordAt defaultSet (r .contractOf (o .instrument)))) _ _ _ _
@@ -123,7 +128,9 @@ module _ (own ownSet default defaultSet ofGroup groupSet : List ℕ) (r : Roster
       (line-in-part default (r .contractOf (o .instrument) * 2))
 
   -- the group's line, where it is set, stands in its part
-  pub of-group : isSet (linesIn own ownSet default defaultSet ofGroup groupSet .lineOfGroup (groupOfInstrument r (o .instrument))) ≡ true → OfGroup r (linesIn own ownSet default defaultSet ofGroup groupSet) o (partOf ofGroup (groupOfInstrument r (o .instrument)) 1)
+  pub of-group : isSet (linesIn own ownSet default defaultSet ofGroup groupSet .lineOfGroup (groupOfInstrument r (o .instrument))) ≡ true
+      → OfGroup r (linesIn own ownSet default defaultSet ofGroup groupSet) o (partOf ofGroup (groupOfInstrument r (o .instrument)) 1)
   unfolding linesIn
   of-group e =
-      rw (group-line-in-part ofGroup (groupOfInstrument r (o .instrument))) (where-set (wordAt groupSet (groupOfInstrument r (o .instrument))) (groupLineAt ofGroup (groupOfInstrument r (o .instrument))) e)
+      rw (group-line-in-part ofGroup (groupOfInstrument r (o .instrument)))
+      (where-set (wordAt groupSet (groupOfInstrument r (o .instrument))) (groupLineAt ofGroup (groupOfInstrument r (o .instrument))) e)

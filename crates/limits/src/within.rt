@@ -90,7 +90,8 @@ fn on_side(side: Side, at: GroupPosition) -> Weighted
 // PCI for Buy, PVI for Sell, of the order's account and instrument, with `added` more contracts of the order open.
 fn instrument_with(cells: &[u64], balances: &[u8], o: Order, added: Contracts) -> Contracts
     requires { ⌜ CellBounds (now cells) (now balances) (o .instrument) × (natAbs (added .0) ≤ 1000000000) ⌝ }
-    ensures { λ r. ⌜ r .0 ≡ byCells (now (cells .entry)) (balancesIn (now (balances .entry))) (o .instrument) (wayOf (o .side)) +ℤ added .0 ⌝ }
+    ensures { λ r. ⌜ r .0 ≡ byCells (now (cells .entry)) (balancesIn (now (balances .entry))) (o .instrument) (wayOf (o .side))
+        +ℤ added .0 ⌝ }
 {
     let side = o.side;
     let balance = Contracts(signed_word(balances, o.instrument as usize));
@@ -112,7 +113,8 @@ fn group_with(
     ensures { λ r. ⌜
         (let desk = rosterIn (now (roster .entry)) in
         r .0
-        ≡ sumByCells (now (cells .entry)) (balancesIn (now (balances .entry))) desk (groupOfInstrument desk (o .instrument)) (desk .instruments) (wayOf to)
+        ≡ sumByCells (now (cells .entry)) (balancesIn (now (balances .entry))) desk (groupOfInstrument desk (o .instrument))
+        (desk .instruments) (wayOf to)
         +ℤ pos (natAbs weight) *ℤ added .0)
         ⌝ }
 {

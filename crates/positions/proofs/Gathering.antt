@@ -19,7 +19,8 @@ use Rattle.ledger.specs.Records.{orderAt, ordersFrom}
 use Rattle.ledger.specs.Derivatives.{counted}
 use Rattle.positions.specs.Gathered.{cell, added, Gathered}
 use Rattle.positions.specs.Bounds.{GatherBounds}
-use Rattle.positions.proofs.Counting.{counted-other-account, counted-other-instrument, counted-other-side, counted-own, left, counted-more, counted-all, counted-small}
+use Rattle.positions.proofs.Counting.{counted-other-account, counted-other-instrument, counted-other-side, counted-own, left}
+use Rattle.positions.proofs.Counting.{counted-more, counted-all, counted-small}
 
 pub cell-numbered : (s : Side) (i : ℕ) → Numbered 32 i → Numbered 64 (cell s i)
 cell-numbered Buy i h = omega arith

@@ -34,7 +34,8 @@ unfolding groupPart
 part-other w (pos n) p h = absurd (omega signed)
 part-other w (negsuc n) p h = refl
 
-pub part-magnitude : (w : Way) (k : ℤ) (p : Way → ℤ) (m n : ℕ) → natAbs k ≤ m → ((v : Way) → natAbs (p v) ≤ n) → natAbs (groupPart w k p) ≤ m * n
+pub part-magnitude : (w : Way) (k : ℤ) (p : Way → ℤ) (m n : ℕ) → natAbs k ≤ m → ((v : Way) → natAbs (p v) ≤ n)
+    → natAbs (groupPart w k p) ≤ m * n
 unfolding groupPart
 part-magnitude w (pos j) p m n h small = magnitude-product-≤ (pos j) (p w) m n h (small w)
 part-magnitude w (negsuc j) p m n h small = magnitude-product-≤ (pos (suc j)) (p (opposite w)) m n h (small (opposite w))
@@ -49,12 +50,14 @@ on-way-sum x y u v f e g short = g
 
 -- ---- an instrument by the cells
 module _ (cells : List ℕ) (S : ℕ → ℤ) (i : ℕ) where
-  pub by-cells : (x y : ℤ) → x ≡ S i +ℤ pos (getD cells i 0) → y ≡ negℤ (S i) +ℤ pos (getD cells (32 + i) 0) → (w : Way) → onWay w x y ≡ byCells cells S i w
+  pub by-cells : (x y : ℤ) → x ≡ S i +ℤ pos (getD cells i 0) → y ≡ negℤ (S i) +ℤ pos (getD cells (32 + i) 0) → (w : Way)
+      → onWay w x y ≡ byCells cells S i w
   unfolding byCells
   by-cells x y e f long = e
   by-cells x y e f short = f
 
-  pub by-cells-magnitude : (w : Way) → natAbs (S i) ≤ 100000000000 → ((s : Side) → getD cells (cell s i) 0 ≤ 100000000000) → natAbs (byCells cells S i w) ≤ 200000000000
+  pub by-cells-magnitude : (w : Way) → natAbs (S i) ≤ 100000000000 → ((s : Side) → getD cells (cell s i) 0 ≤ 100000000000)
+      → natAbs (byCells cells S i w) ≤ 200000000000
   unfolding byCells
   by-cells-magnitude long h small =
       omega (arith, small Buy, magnitude-sum (S i) (pos (getD cells i 0)))
@@ -66,14 +69,16 @@ module _ (cells : List ℕ) (S : ℕ → ℤ) (i : ℕ) where
     unfolding partByCells
     part-outside other x = simp (ne-eqb (groupOfInstrument r i) g other, +ℤ-idr)
 
-    pub part-inside : groupOfInstrument r i ≡ g → (k x y z : ℤ) → k ≡ r .weight i → ((v : Way) → onWay v x y ≡ byCells cells S i v) → z ≡ groupPart w k (λ v. onWay v x y) → z ≡ partByCells cells S r g i w
+    pub part-inside : groupOfInstrument r i ≡ g → (k x y z : ℤ) → k ≡ r .weight i → ((v : Way) → onWay v x y ≡ byCells cells S i v)
+        → z ≡ groupPart w k (λ v. onWay v x y) → z ≡ partByCells cells S r g i w
     unfolding partByCells
     part-inside own k x y z weight same e =
         e
         ∙ part-same w k (λ v. onWay v x y) (byCells cells S i) same
         ∙ simp (weight, eq-eqb (groupOfInstrument r i) g own)
 
-    pub part-small : natAbs (r .weight i) ≤ 1000000 → natAbs (S i) ≤ 100000000000 → ((s : Side) → getD cells (cell s i) 0 ≤ 100000000000) → natAbs (partByCells cells S r g i w) ≤ 200000000000000000
+    pub part-small : natAbs (r .weight i) ≤ 1000000 → natAbs (S i) ≤ 100000000000 → ((s : Side) → getD cells (cell s i) 0 ≤ 100000000000)
+        → natAbs (partByCells cells S r g i w) ≤ 200000000000000000
     unfolding partByCells
     part-small weight balance small = by (eqb (groupOfInstrument r i) g)
       where
@@ -83,10 +88,12 @@ module _ (cells : List ℕ) (S : ℕ → ℤ) (i : ℕ) where
         by false = omega arith
 
 -- an account's cells alone
-pub gathered-at : {cells : List ℕ} {orders : List Order} {a : ℕ} → Gathered cells 0 orders a → (s : Side) (i : ℕ) → Numbered 32 i → pos (getD cells (cell s i) 0) ≡ openOn one orders s a i
+pub gathered-at : {cells : List ℕ} {orders : List Order} {a : ℕ} → Gathered cells 0 orders a → (s : Side) (i : ℕ) → Numbered 32 i
+    → pos (getD cells (cell s i) 0) ≡ openOn one orders s a i
 gathered-at g s i h = let e : 0 + cell s i ≡ cell s i = omega arith in rw e at (g .sums s i h)
 
-pub by-cells-potential : (cells : List ℕ) (S : ℕ → ℤ) (orders : List Order) (a : ℕ) → Gathered cells 0 orders a → (w : Way) (i : ℕ) → Numbered 32 i → byCells cells S i w ≡ ofInstrument one orders a S i w
+pub by-cells-potential : (cells : List ℕ) (S : ℕ → ℤ) (orders : List Order) (a : ℕ) → Gathered cells 0 orders a → (w : Way) (i : ℕ)
+    → Numbered 32 i → byCells cells S i w ≡ ofInstrument one orders a S i w
 unfolding byCells ofInstrument
 by-cells-potential cells S orders a gathered w i h = rw (gathered-at gathered (sideTo w) i h)
 
@@ -100,22 +107,36 @@ module _ (cells : List ℕ) (S : ℕ → ℤ) (r : Roster) (g : ℕ) (w : Way) w
       none long = refl
       none short = refl
 
-  pub sum-more : (n : ℕ) (x y : ℤ) → x ≡ sumByCells cells S r g n w → y ≡ x +ℤ partByCells cells S r g (n + 1) w → y ≡ sumByCells cells S r g (n + 1) w
+  pub sum-more : (n : ℕ) (x y : ℤ) → x ≡ sumByCells cells S r g n w → y ≡ x +ℤ partByCells cells S r g (n + 1) w
+      → y ≡ sumByCells cells S r g (n + 1) w
   unfolding sumByCells
   sum-more n x y e f =
       f ∙ rw (e, add-one n) (rw (add-one n) at (sym (sumTo-more (λ j. partByCells cells S r g (suc j) w) n)))
 
-  pub sum-small : (n : ℕ) → n ≤ 32 → ((i : ℕ) → Numbered n i → natAbs (r .weight i) ≤ 1000000) → ((i : ℕ) → Numbered n i → natAbs (S i) ≤ 100000000000) → ((s : Side) (i : ℕ) → Numbered 32 i → getD cells (cell s i) 0 ≤ 100000000000) → natAbs (sumByCells cells S r g n w) ≤ 8000000000000000000
+  pub sum-small : (n : ℕ) → n ≤ 32 → ((i : ℕ) → Numbered n i → natAbs (r .weight i) ≤ 1000000)
+      → ((i : ℕ) → Numbered n i → natAbs (S i) ≤ 100000000000)
+      → ((s : Side) (i : ℕ) → Numbered 32 i → getD cells (cell s i) 0 ≤ 100000000000)
+      → natAbs (sumByCells cells S r g n w) ≤ 8000000000000000000
   unfolding sumByCells
   sum-small n few weight balance small =
-      omega (arith, sumTo-magnitude (λ j. partByCells cells S r g (suc j) w) n 200000000000000000 (λ j h. part-small cells S (suc j) r g w (weight (suc j) (omega arith)) (balance (suc j) (omega arith)) (λ s. small s (suc j) (omega arith))))
+      omega (
+        arith,
+        sumTo-magnitude (λ j. partByCells cells S r g (suc j) w) n 200000000000000000
+            (λ j h. part-small cells S (suc j) r g w (weight (suc j) (omega arith)) (balance (suc j) (omega arith))
+            (λ s. small s (suc j) (omega arith))),
+      )
 
   -- where the cells hold B and V, the sum is the potential position
-  pub sum-potential : (orders : List Order) (a : ℕ) → Gathered cells 0 orders a → r .instruments ≤ 32 → (x : ℤ) → x ≡ sumByCells cells S r g (r .instruments) w → x ≡ potential one r orders a S (group g) w
+  pub sum-potential : (orders : List Order) (a : ℕ) → Gathered cells 0 orders a → r .instruments ≤ 32 → (x : ℤ)
+      → x ≡ sumByCells cells S r g (r .instruments) w → x ≡ potential one r orders a S (group g) w
   unfolding sumByCells partByCells potential sumGroup
   sum-potential orders a gathered few x e =
       e
-      ∙ sumTo-same _ _ (r .instruments) (λ j h. ap (λ (z : ℤ). cond (eqb (groupOfInstrument r (suc j)) g) z (pos 0)) (part-same w (r .weight (suc j)) (byCells cells S (suc j)) (ofInstrument one orders a S (suc j)) (λ v. by-cells-potential cells S orders a gathered v (suc j) (omega arith))))
+      ∙ sumTo-same _ _ (r .instruments) (λ j h. ap (λ (z : ℤ). cond (eqb (groupOfInstrument r (suc j)) g) z (pos 0))
+      (part-same w (r .weight (suc j)) (byCells cells S (suc j)) (ofInstrument one orders a S (suc j))
+      (λ v. by-cells-potential cells S orders a gathered v (suc j) (omega arith))))
 
-pub cells-small : (cells : List ℕ) (orders : List Order) (a : ℕ) → Gathered cells 0 orders a → ((s : Side) (i : ℕ) → natAbs (openOn one orders s a i) ≤ 100000000000) → (s : Side) (i : ℕ) → Numbered 32 i → getD cells (cell s i) 0 ≤ 100000000000
+pub cells-small : (cells : List ℕ) (orders : List Order) (a : ℕ) → Gathered cells 0 orders a
+    → ((s : Side) (i : ℕ) → natAbs (openOn one orders s a i) ≤ 100000000000) → (s : Side) (i : ℕ) → Numbered 32 i
+    → getD cells (cell s i) 0 ≤ 100000000000
 cells-small cells orders a gathered small s i h = omega (arith, small s i, ap natAbs (gathered-at gathered s i h))

@@ -79,7 +79,8 @@ pub fn potential(side: Side, balance: Contracts, unfilled: Contracts) -> Contrac
 
 // The positions of an instrument by its balance, B and V.
 pub fn position_by(balance: Contracts, buys: Contracts, sells: Contracts) -> InstrumentPosition
-    requires { ⌜ (natAbs (balance .0) + natAbs (buys .0) ≤ 9000000000000000000) × (natAbs (balance .0) + natAbs (sells .0) ≤ 9000000000000000000) ⌝ }
+    requires { ⌜ (natAbs (balance .0) + natAbs (buys .0) ≤ 9000000000000000000)
+        × (natAbs (balance .0) + natAbs (sells .0) ≤ 9000000000000000000) ⌝ }
     ensures { λ r. ⌜ (r .balance .0 ≡ balance .0) × (r .long .0 ≡ balance .0 +ℤ buys .0) × (r .short .0 ≡ negℤ (balance .0) +ℤ sells .0) ⌝ }
 {
     InstrumentPosition {
@@ -160,7 +161,8 @@ pub fn gather(orders: &[u8], n: usize, account: u64, cells: &mut [u64; 65])
 // The positions of an instrument by the cells.
 fn by_cells(cells: &[u64], balances: &[u8], i: usize) -> InstrumentPosition
     requires { ⌜ CellBounds (now cells) (now balances) i ⌝ }
-    ensures { λ r. ⌜ ((w : Way) → onWay w (r .long .0) (r .short .0) ≡ byCells (now (cells .entry)) (balancesIn (now (balances .entry))) i w) ⌝ }
+    ensures { λ r. ⌜ ((w : Way) → onWay w (r .long .0) (r .short .0) ≡ byCells (now (cells .entry))
+        (balancesIn (now (balances .entry))) i w) ⌝ }
 {
     let balance = Contracts(signed_word(balances, i));
     let buys = Contracts::of(cells[i]);
@@ -177,8 +179,11 @@ fn with_part(
     group: u64,
     i: usize,
 ) -> GroupPosition
-    requires { ⌜ CellBounds (now cells) (now balances) i × RosterBounds (now roster) (rosterIn (now roster)) × Numbered (rosterIn (now roster) .instruments) i × ((w : Way) → natAbs (onWay w (sum .long .0) (sum .short .0)) ≤ 8000000000000000000) ⌝ }
-    ensures { λ r. ⌜ ((w : Way) → onWay w (r .long .0) (r .short .0) ≡ onWay w (sum .long .0) (sum .short .0) +ℤ partByCells (now (cells .entry)) (balancesIn (now (balances .entry))) (rosterIn (now (roster .entry))) group i w) ⌝ }
+    requires { ⌜ CellBounds (now cells) (now balances) i × RosterBounds (now roster) (rosterIn (now roster))
+        × Numbered (rosterIn (now roster) .instruments) i
+        × ((w : Way) → natAbs (onWay w (sum .long .0) (sum .short .0)) ≤ 8000000000000000000) ⌝ }
+    ensures { λ r. ⌜ ((w : Way) → onWay w (r .long .0) (r .short .0) ≡ onWay w (sum .long .0) (sum .short .0) +ℤ partByCells
+        (now (cells .entry)) (balancesIn (now (balances .entry))) (rosterIn (now (roster .entry))) group i w) ⌝ }
 {
     let contract = word(roster, 11 + i) as usize;
     if word(roster, 3 + contract) != group {
@@ -197,7 +202,8 @@ fn with_part(
 // The sums of the parts of the group's instruments, in one pass over the roster.
 pub fn weigh(cells: &[u64], balances: &[u8], roster: &[u8], group: u64) -> GroupPosition
     requires { ⌜ WeighBounds (now cells) (now balances) (now roster) ⌝ }
-    ensures { λ r. ⌜ ((w : Way) → onWay w (r .long .0) (r .short .0) ≡ sumByCells (now (cells .entry)) (balancesIn (now (balances .entry))) (rosterIn (now (roster .entry))) group (rosterIn (now (roster .entry)) .instruments) w) ⌝ }
+    ensures { λ r. ⌜ ((w : Way) → onWay w (r .long .0) (r .short .0) ≡ sumByCells (now (cells .entry)) (balancesIn (now (balances .entry)))
+        (rosterIn (now (roster .entry))) group (rosterIn (now (roster .entry)) .instruments) w) ⌝ }
 {
     let instruments = word(roster, 3) as usize;
     let mut sum = GroupPosition {

@@ -101,16 +101,25 @@ module _ (s : List ℕ) (n : ℕ) (cells : List ℕ) where
           let account = fits .packable .0 in
           let instrument = fits .packable .1 in
           let own : ownCell row o ≡ 65 + detailPacked w = cell-detail id w in
-          let inside : ownCell row o < length cells = omega (arith, row-inside (o .side) (o .account) (o .instrument) (account .1) (instrument .1), past .size) in
+          let inside : ownCell row o < length cells =
+          omega (arith, row-inside (o .side) (o .account) (o .instrument) (account .1) (instrument .1), past .size) in
           let few : detailRemaining w ≤ 134217728 = omega (arith, remaining-of id w, fits .remaining) in
           record {
             upto = omega arith;
             ids = past .ids ∙ turn ∙ rw (lt-ltb last id above);
             remain = below (λ q. Remains (orderAt s q)) p (past .remain) (omega (arith, rest, is, some));
-            within = below (λ q. Within all′ (orderAt s q)) p (λ q l. joined .0 (orderAt s q) (past .within q l)) (rw (← here) (joined .1 id));
+            within =
+                below (λ q. Within all′ (orderAt s q)) p (λ q l. joined .0 (orderAt s q) (past .within q l)) (rw (← here) (joined .1 id));
             size = rw (e, added-length) (past .size);
-            small = λ j. rw e (omega (arith, added-small cells (65 + detailPacked w) (detailRemaining w) (p * 134217728) 134217728 (omega (arith, own)) (past .small) few j));
-            gathered = rows-more (Numbered 16) row s n cells p (past .gathered) o here h rows account instrument inside cells′ (e ∙ rw (own, remaining-of id w));
+            small =
+                λ j. rw e (omega (
+                  arith,
+                  added-small cells (65 + detailPacked w) (detailRemaining w) (p * 134217728) 134217728
+                      (omega (arith, own)) (past .small) few j,
+                ));
+            gathered =
+                rows-more (Numbered 16) row s n cells p (past .gathered) o here h rows account instrument inside cells′
+                (e ∙ rw (own, remaining-of id w));
           }
 
 -- ---- a memory: s is its part with the records, n its count
@@ -132,7 +141,10 @@ module _ (m s : List ℕ) (n : ℕ) (count : n ≡ wordAt m countWord) (records 
   module _ (cells : List ℕ) (last all p : ℕ) (past : Passed s n cells last all p) (end : n ≤ p) where
     pub all-told : Tells true InOrder
     all-told =
-        tells-yes (sym ids-same ∙ passed-all s n cells last all p past end .0, each-in m s n count records Remains (λ q l. past .remain q (omega arith)))
+        tells-yes (
+          sym ids-same ∙ passed-all s n cells last all p past end .0,
+          each-in m s n count records Remains (λ q l. past .remain q (omega arith)),
+        )
 
     pub all-within : Each m (Within all)
     all-within = each-in m s n count records (Within all) (λ q l. past .within q (omega arith))

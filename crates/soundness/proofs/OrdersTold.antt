@@ -28,15 +28,26 @@ module _ (m : List ℕ) where
   unfolding ordersSound
   out e =
       let both = both-true (ascend 0 (openOrders m)) (ordersSound m) e in
-      let fit : (p : ℕ) → p < wordAt m countWord → Fit (rosterOf m) (tradingOf m) (orderAt (recordsOf m) p) = λ p l. records-out (recordsOf m) (rosterOf m) (tradingOf m) 0 (wordAt m countWord) (both .1) p (omega arith) (omega arith) in
-      ((both .0, λ p l. fit p l .remains), (λ p l. fit p l .total .1), (λ p l. let f = fit p l in record { account = f .account; instrument = f .instrument; marked = f .marked }))
+      let fit : (p : ℕ) → p < wordAt m countWord → Fit (rosterOf m) (tradingOf m) (orderAt (recordsOf m) p) =
+      λ p l. records-out (recordsOf m) (rosterOf m) (tradingOf m) 0 (wordAt m countWord) (both .1) p (omega arith) (omega arith) in (
+        (both .0, λ p l. fit p l .remains),
+        (λ p l. fit p l .total .1),
+        (λ p l. let f = fit p l in record { account = f .account; instrument = f .instrument; marked = f .marked }),
+      )
 
   into : OrdersFit → (ascend 0 (openOrders m) && ordersSound m) ≡ true
   unfolding ordersSound remaining
   into h =
       and-true (ascend 0 (openOrders m)) (ordersSound m) (h .0 .0)
       (records-in (recordsOf m) (rosterOf m) (tradingOf m) 0 (wordAt m countWord)
-      (λ q a b. let l : q < wordAt m countWord = omega arith in let k = h .2 q l in record { account = k .account; instrument = k .instrument; total = (omega (arith, h .0 .1 q l), h .1 q l); remains = h .0 .1 q l; marked = k .marked }))
+      (λ q a b. let l : q < wordAt m countWord = omega arith in let k = h .2 q l in
+      record {
+        account = k .account;
+        instrument = k .instrument;
+        total = (omega (arith, h .0 .1 q l), h .1 q l);
+        remains = h .0 .1 q l;
+        marked = k .marked;
+      }))
 
   told : Tells (ascend 0 (openOrders m) && ordersSound m) OrdersFit
   told = record { yes-only = out; yes-where = into }
@@ -57,10 +68,13 @@ module _ (m : List ℕ) where
           told
 
   -- the cells are small where the totals are in range
-  pub gathered-small : (cells : List ℕ) → wordAt m countWord ≤ 256 → Each m TotalFits → Sums cells (openOrders m) → SmallSums cells (openOrders m)
+  pub gathered-small : (cells : List ℕ) → wordAt m countWord ≤ 256 → Each m TotalFits → Sums cells (openOrders m)
+      → SmallSums cells (openOrders m)
   unfolding openOrders remaining
   gathered-small cells few totals sums =
       record {
         sums = sums;
-        small = λ v a i h l. let most = small-orders (recordsOf m) (wordAt m countWord) 1000000 (λ p k. omega (arith, totals p k)) v a i in omega (arith, most, few, ap natAbs (sums .accounts a h .sums v i l));
+        small =
+            λ v a i h l. let most = small-orders (recordsOf m) (wordAt m countWord) 1000000 (λ p k. omega (arith, totals p k)) v a i in
+            omega (arith, most, few, ap natAbs (sums .accounts a h .sums v i l));
       }

@@ -32,7 +32,8 @@ unfolding derivatives one
 unit-one = refl
 
 -- the balance of a place on the roster
-pub balance-word : (m : List ℕ) (a i : ℕ) → Numbered (rosterOf m .accounts) a → Numbered (rosterOf m .instruments) i → balancesOf m a i ≡ signedAt m (balanceRow a + i)
+pub balance-word : (m : List ℕ) (a i : ℕ) → Numbered (rosterOf m .accounts) a → Numbered (rosterOf m .instruments) i
+    → balancesOf m a i ≡ signedAt m (balanceRow a + i)
 unfolding balancesOf
 balance-word m a i h l = rw (numbered-between (rosterOf m .accounts) a h, numbered-between (rosterOf m .instruments) i l)
 
@@ -56,14 +57,21 @@ small-within : (w : Way) (s : ℤ) (x : ℕ) → natAbs s ≤ 536870912 → x �
 small-within long s x h l = omega (signed, magnitude-parts s, sum-parts s (pos x))
 small-within short s x h l = omega (signed, magnitude-parts s, negation-parts s, sum-parts (negℤ s) (pos x))
 
-module _ (m cells : List ℕ) (a i : ℕ) (readable : Readable m) (gathered : SmallSums cells (openOrders m)) (h : Numbered (rosterOf m .accounts) a) (l : Numbered (rosterOf m .instruments) i) where
+module _ (m cells : List ℕ) (a i : ℕ) (readable : Readable m) (gathered : SmallSums cells (openOrders m))
+    (h : Numbered (rosterOf m .accounts) a) (l : Numbered (rosterOf m .instruments) i) where
   pub cell-small : (s : Side) → getD cells (row a + cell s i) 0 ≤ 256000000
   cell-small s = gathered .small s a i (h .0, omega (arith, readable .accounts)) (l .0, omega (arith, readable .instruments))
 
-  position-cell : (w : Way) → positionSound m a i w ≡ leZ (toward w (signedAt m (balanceRow a + i)) +ℤ pos (getD cells (row a + cell (sideTo w) i) 0)) (pos 1000000000)
+  position-cell : (w : Way) → positionSound m a i w ≡ leZ
+      (toward w (signedAt m (balanceRow a + i)) +ℤ pos (getD cells (row a + cell (sideTo w) i) 0)) (pos 1000000000)
   unfolding positionSound ofInstrument
   position-cell w =
-      rw (unit-one, balance-word m a i h l, gathered .sums .accounts a (h .0, omega (arith, readable .accounts)) .sums (sideTo w) i (l .0, omega (arith, readable .instruments)))
+      rw (
+        unit-one,
+        balance-word m a i h l,
+        gathered .sums .accounts a (h .0, omega (arith, readable .accounts)) .sums (sideTo w) i
+            (l .0, omega (arith, readable .instruments)),
+      )
 
   -- s is the balance, b and v what the two cells hold
   pub place-tested : (s b v : ℤ) → s ≡ signedAt m (balanceRow a + i) → b ≡ pos (getD cells (row a + cell Buy i) 0) →
@@ -80,10 +88,16 @@ module _ (m cells : List ℕ) (a i : ℕ) (readable : Readable m) (gathered : Sm
   unfolding placeSound
   place-small small =
       let s = signedAt m (balanceRow a + i) in
-      let within : (w : Way) → leZ (toward w s +ℤ pos (getD cells (row a + cell (sideTo w) i) 0)) (pos 1000000000) ≡ true = λ w. small-within w s (getD cells (row a + cell (sideTo w) i) 0) small (cell-small (sideTo w)) in
-      and-true (positionSound m a i long) (positionSound m a i short) (position-cell long ∙ within long) (position-cell short ∙ within short)
+      let within : (w : Way) → leZ (toward w s +ℤ pos (getD cells (row a + cell (sideTo w) i) 0)) (pos 1000000000) ≡ true =
+      λ w. small-within w s (getD cells (row a + cell (sideTo w) i) 0) small (cell-small (sideTo w)) in
+      and-true (positionSound m a i long) (positionSound m a i short) (position-cell long ∙ within long)
+      (position-cell short ∙ within short)
 
 -- ---- the row of account a, all of it small
-pub row-small : (m cells : List ℕ) (a : ℕ) → Readable m → SmallSums cells (openOrders m) → Numbered (rosterOf m .accounts) a → ((p : ℕ) → balanceRow a + 1 ≤ p → p < balanceRow a + 1 + 32 → natAbs (signedAt m p) ≤ 536870912) → true ≡ every (rosterOf m .instruments) (placeSound m a)
+pub row-small : (m cells : List ℕ) (a : ℕ) → Readable m → SmallSums cells (openOrders m) → Numbered (rosterOf m .accounts) a
+    → ((p : ℕ) → balanceRow a + 1 ≤ p → p < balanceRow a + 1 + 32 → natAbs (signedAt m p) ≤ 536870912)
+    → true ≡ every (rosterOf m .instruments) (placeSound m a)
 row-small m cells a readable gathered h small =
-    sym (every-in (placeSound m a) (rosterOf m .instruments) (λ i l. place-small m cells a i readable gathered h l (small (balanceRow a + i) (omega arith) (omega (arith, readable .instruments)))))
+    sym (every-in (placeSound m a) (rosterOf m .instruments)
+    (λ i l. place-small m cells a i readable gathered h l
+    (small (balanceRow a + i) (omega arith) (omega (arith, readable .instruments)))))

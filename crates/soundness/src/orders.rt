@@ -1,5 +1,5 @@
-// The open orders that a memory holds. One pass over the records asks what each order alone can tell and gathers what remains of it; what is then
-// still open is asked of all at once, and where that does not tell, record by record.
+// The open orders that a memory holds. One pass over the records asks what each order alone can tell and gathers what remains of it; what
+// is then still open is asked of all at once, and where that does not tell, record by record.
 ghost use mathlib.Core.Path.{_≡_};
 ghost use mathlib.Core.Bool.{true, _&&_};
 ghost use Rattle.ledger.specs.Records.{Packable, Within};

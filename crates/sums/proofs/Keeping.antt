@@ -41,7 +41,8 @@ pub settled : (c a b : ℕ) → b ≤ c + a → (x y : ℤ) → x ≡ pos c +ℤ
 settled c a b enough x y sum rest =
     omega (signed, sum-parts (pos c) (pos a), difference-parts x (pos b), rest)
 
-module _ (cells : List ℕ) (orders orders′ : List Order) (held : Sums cells orders) (o : Order) (before after : ℕ) (shift : Shifted o before after orders orders′) where
+module _ (cells : List ℕ) (orders orders′ : List Order) (held : Sums cells orders) (o : Order) (before after : ℕ)
+    (shift : Shifted o before after orders orders′) where
   abbrev own : ℕ
   own = ownCell row o
 
@@ -69,7 +70,13 @@ module _ (cells : List ℕ) (orders orders′ : List Order) (held : Sums cells o
   pub enough : before ≤ getD cells own 0 + after
   enough =
       let z = openOn one orders′ (o .side) (o .account) (o .instrument) in
-      omega (signed, own-sum, open-nonneg one (o .side) (o .account) (o .instrument) orders′, sum-parts z (pos before), sum-parts (pos (getD cells own 0)) (pos after))
+      omega (
+        signed,
+        own-sum,
+        open-nonneg one (o .side) (o .account) (o .instrument) orders′,
+        sum-parts z (pos before),
+        sum-parts (pos (getD cells own 0)) (pos after),
+      )
 
   next : openOn one orders′ (o .side) (o .account) (o .instrument) ≡ pos (getD cells own 0 + after - before)
   next =
@@ -84,13 +91,25 @@ module _ (cells : List ℕ) (orders orders′ : List Order) (held : Sums cells o
         accounts = λ a on. record { sums = λ s i in-roster. each s a i on in-roster (stands? s a i o) };
       })
     where
-      each : (s : Side) (a i : ℕ) → Numbered 16 a → Numbered 32 i → Dec (Stands s a i o) → pos (getD (set cells own (getD cells own 0 + after - before)) (row a + cell s i) 0) ≡ openOn one orders′ s a i
+      each : (s : Side) (a i : ℕ) → Numbered 16 a → Numbered 32 i → Dec (Stands s a i o)
+          → pos (getD (set cells own (getD cells own 0 + after - before)) (row a + cell s i) 0) ≡ openOn one orders′ s a i
       each s a i on in-roster (yes stands) =
           let same : row a + cell s i ≡ own = rw (stands .0, stands .1, stands .2) in
-          rw (same, getD-set-same cells own (getD cells own 0 + after - before) 0 own-inside) (sym next ∙ rw (stands .0, stands .1, stands .2))
+          rw (same, getD-set-same cells own (getD cells own 0 + after - before) 0 own-inside)
+          (sym next ∙ rw (stands .0, stands .1, stands .2))
       each s a i on in-roster (no apart) =
-          let other : row a + cell s i ≢ own = λ same. let all = same-cell (Numbered 16) row rows s (o .side) a i (o .account) (o .instrument) on in-roster (shift .account) (shift .instrument) same in apart (sym (all .0), sym (all .1), sym (all .2)) in
+          let other : row a + cell s i ≢ own = λ same. let all =
+          same-cell (Numbered 16) row rows s (o .side) a i (o .account) (o .instrument) on in-roster (shift .account)
+          (shift .instrument) same in apart (sym (all .0), sym (all .1), sym (all .2)) in
           let z = openOn one orders s a i in
           let z′ = openOn one orders′ s a i in
           rw (getD-set-other cells own (row a + cell s i) (getD cells own 0 + after - before) 0 other)
-          (held .accounts a on .sums s i in-roster ∙ omega (signed, shift .sums s a i, added-apart s a i o before apart, added-apart s a i o after apart, sum-parts z (addedOn after o s a i), sum-parts z′ (addedOn before o s a i)))
+          (held .accounts a on .sums s i in-roster
+          ∙ omega (
+            signed,
+            shift .sums s a i,
+            added-apart s a i o before apart,
+            added-apart s a i o after apart,
+            sum-parts z (addedOn after o s a i),
+            sum-parts z′ (addedOn before o s a i),
+          ))

@@ -61,7 +61,9 @@ module _ (m : List ℕ) (bytes : Bytes m) (held : Held m) (e : Event) (sized : S
   after-event = ap (λ v. v .book .orders) (view-worked m bytes held e sized accepted)
 
   -- the book's shift, told of the memory
-  told-shift : (o : Order) (x y x′ y′ : ℕ) → Numbered 16 (o .account) → Numbered 32 (o .instrument) → y ≤ 1000000 → x ≡ x′ → y ≡ y′ → Shift (derivatives .unit) o x′ y′ (bookOf m .orders) (work (derivatives .unit) (bookOf m) e .orders) → Shifted o x y (openOrders m) (openOrders (worked m e))
+  told-shift : (o : Order) (x y x′ y′ : ℕ) → Numbered 16 (o .account) → Numbered 32 (o .instrument) → y ≤ 1000000 → x ≡ x′ → y ≡ y′
+      → Shift (derivatives .unit) o x′ y′ (bookOf m .orders) (work (derivatives .unit) (bookOf m) e .orders)
+      → Shifted o x y (openOrders m) (openOrders (worked m e))
   unfolding derivatives bookOf
   told-shift o x y x′ y′ account instrument small same-x same-y shift =
       record {
@@ -131,7 +133,8 @@ new-shifts {m} {s} {a} {i} {id} {p} {n} bytes word ready r made =
       is-before = made .1;
       is-after = made .2 ∙ omega (signed, magnitude-parts n);
       shifted = rw (made .0)
-          (told-shift m bytes (ready .held) e word (ready .accepted) o 0 (natAbs n) 0 (remaining o) account instrument (omega (arith, t .2 .1 .1))
+          (told-shift m bytes (ready .held) e word (ready .accepted) o 0 (natAbs n) 0 (remaining o) account instrument
+          (omega (arith, t .2 .1 .1))
           refl (omega arith) (new-shift derivatives (bookOf m) s a i id n));
     }
 
@@ -163,14 +166,16 @@ module _ (m : List ℕ) (id p : ℕ) (o : Order) (bytes : Bytes m) (held : Held 
   abbrev ShiftsTo : Event → ℕ → ℕ → Type 0
   ShiftsTo e x y = Shifted o x y (openOrders m) (openOrders (worked m e))
 
-  pub replace-shifted : {n : ℤ} → Ready m (Replace id n) p → SFits w64 n → (o′ : Order) → o′ ≡ replacedTotal o (natAbs (toZ w64 (ofZ w64 n))) →
+  pub replace-shifted : {n : ℤ} → Ready m (Replace id n) p → SFits w64 n → (o′ : Order)
+      → o′ ≡ replacedTotal o (natAbs (toZ w64 (ofZ w64 n))) →
       ShiftsTo (Replace id n) (remaining o) (remaining o′)
   unfolding remaining replacedTotal
   replace-shifted {n} ready fits-n o′ made =
       let t = told m held (Replace id n) (ready .accepted) in
       let f = fits (t .0) (ready .named) in
       let now : remaining o′ ≡ natAbs n - o .filled = rw (made, toZ-ofZ w64 n fits-n) in
-      told-shift m bytes held (Replace id n) tt (ready .accepted) o (remaining o) (remaining o′) (o .total - o .filled) (natAbs n - o .filled)
+      told-shift m bytes held (Replace id n) tt (ready .accepted) o (remaining o) (remaining o′) (o .total - o .filled)
+      (natAbs n - o .filled)
       (account f) (instrument f) (omega (arith, now, t .1 .1 .1)) refl now
       (replace-shift derivatives (bookOf m) derivatives-unit id o (in-book (ready .named)) n)
 

@@ -103,7 +103,8 @@ module _ {m : List ℕ} {id : ℕ} {n : ℤ} {p : ℕ} (ready : Ready m (Fill id
       same-balance =
           toZ-ofZ w64 s fits-s
           ∙ read
-          ∙ sym (on-here (rosterOf m .accounts) (rosterOf m .instruments) (o .account) (o .instrument) _ _ (order-fits .account) (order-fits .instrument))
+          ∙ sym (on-here (rosterOf m .accounts) (rosterOf m .instruments) (o .account) (o .instrument) _ _ (order-fits .account)
+          (order-fits .instrument))
 
       pub fill-small : (natAbs (toZ w64 (ofZ w64 s)) ≤ 1000000000) × (quantity ≤ 1000000)
       fill-small =
@@ -118,7 +119,17 @@ module _ {m : List ℕ} {id : ℕ} {n : ℤ} {p : ℕ} (ready : Ready m (Fill id
           let first = keptFirst m (At p) (filledBy o quantity) in
           let here = stored ∙ ap (λ j. storeFrom m first (change j (λ y. kept (filledBy y quantity)) (openOrders m))) own-id in
           let fits-z = moved-fits (o .side) (toZ w64 (ofZ w64 s)) (toZ w64 (ofZ w64 n)) z (fill-small .0) (fill-small .1) after in
-          put ∙ rw (here, toZ-ofZ w64 z fits-z, after, as-contracts, same-balance, same-quantity, found, ready .named, fill-one o (natAbs n))
+          put ∙ rw (
+            here,
+            toZ-ofZ w64 z fits-z,
+            after,
+            as-contracts,
+            same-balance,
+            same-quantity,
+            found,
+            ready .named,
+            fill-one o (natAbs n),
+          )
 
     pub fill-moved : (s : Side) (k : ℕ) → k ≡ onSide s (o .side) quantity → k ≡ moved m (Fill id n) s
     unfolding moved

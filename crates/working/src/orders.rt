@@ -93,7 +93,8 @@ fn balance_after(side: Side, balance: Contracts, n: Contracts) -> Contracts
 // The order's record after a fill by `n`: at remaining 0 it leaves.
 fn fill_record(m: &mut [u8], place: usize, o: Order, n: u64)
     requires { ⌜ Stands (now m) place o n ⌝ }
-    ensures { λ r. ⌜ now (m .exit) ≡ storeFrom (now (m .entry)) (keptFirst (now (m .entry)) (At place) (filledBy o n)) (change (o .id) (λ x. kept (filledBy x n)) (openOrders (now (m .entry)))) ⌝ }
+    ensures { λ r. ⌜ now (m .exit) ≡ storeFrom (now (m .entry)) (keptFirst (now (m .entry)) (At place) (filledBy o n))
+        (change (o .id) (λ x. kept (filledBy x n)) (openOrders (now (m .entry)))) ⌝ }
 {
     let next = o.filled_by(n);
     if next.remaining() == 0 {
@@ -107,7 +108,8 @@ fn fill_record(m: &mut [u8], place: usize, o: Order, n: u64)
 pub fn work_fill(m: &mut [u8], id: u64, quantity: i64, place: usize) -> Moved
     requires { ⌜ Ready (now m) (Fill id quantity) place ⌝ }
     ensures memory { λ r. ⌜ now (m .exit) ≡ worked (now (m .entry)) (Fill id quantity) ⌝ }
-    ensures moved { λ r. ⌜ (r .bought ≡ moved (now (m .entry)) (Fill id quantity) Buy) × (r .sold ≡ moved (now (m .entry)) (Fill id quantity) Sell) ⌝ }
+    ensures moved { λ r. ⌜ (r .bought ≡ moved (now (m .entry)) (Fill id quantity) Buy)
+        × (r .sold ≡ moved (now (m .entry)) (Fill id quantity) Sell) ⌝ }
 {
     let o = load_order(m, place);
     let n = quantity as u64;

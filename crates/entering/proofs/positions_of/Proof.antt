@@ -15,7 +15,8 @@ part-requires-4 c κs =
     let rows = part-long _ _ _ _ (c .before .part3 .ensures) (omega arith) in
     omega arith
 
-bytes : (c : tie.After-part4) → let a = c .before .before .before .before .before .before .before .before .before .args in c .part4 .result .now ≡ groupBytes (a .m .now) (a .o)
+bytes : (c : tie.After-part4) → let a =
+    c .before .before .before .before .before .before .before .before .before .args in c .part4 .result .now ≡ groupBytes (a .m .now) (a .o)
 unfolding groupBytes
 bytes c =
     let s = c .before .before .before .before .before .before .before .before .before in
@@ -26,8 +27,12 @@ positions-within-requires : tie.Need-positions-within-requires
 positions-within-requires c κs =
     let p2 = c .before .before .before in
     let own = p2 .before .before in
-    let s = own .before .before .before .before in
-    (rw (own .cells-of .ensures, p2 .before .part .ensures, p2 .part2 .ensures) (event-bounds _ _ _ _ _ (s .pre .0) (s .pre .1) (s .pre .2)), rw (s .pre .4) (line-long _ _ (s .pre .0 .on)), rw (bytes c) (group-long _ _ (s .pre .0 .on)))
+    let s = own .before .before .before .before in (
+      rw (own .cells-of .ensures, p2 .before .part .ensures, p2 .part2 .ensures)
+          (event-bounds _ _ _ _ _ (s .pre .0) (s .pre .1) (s .pre .2)),
+      rw (s .pre .4) (line-long _ _ (s .pre .0 .on)),
+      rw (bytes c) (group-long _ _ (s .pre .0 .on)),
+    )
 
 returns : tie.Need-returns
 returns c after raised =
@@ -36,22 +41,17 @@ returns c after raised =
     let own = p2 .before .before in
     let s = own .before .before .before .before in
     c .position-answer .ensures
-    ∙ by-words _ _ _ _ _ (s .pre .0) (s .pre .1) (s .pre .2) _ (rw (own .cells-of .ensures, p2 .before .part .ensures, p2 .part2 .ensures, s .pre .4, bytes p4) at (c .before .positions-within .ensures)) after raised
+    ∙ by-words _ _ _ _ _ (s .pre .0) (s .pre .1) (s .pre .2) _
+    (rw (
+      own .cells-of .ensures,
+      p2 .before .part .ensures,
+      p2 .part2 .ensures,
+      s .pre .4,
+      bytes p4,
+    ) at (c .before .positions-within .ensures)) after raised
 
 pub positions-of-spec : {M : Type 1} → statement M
 positions-of-spec =
-    tie.close
-    (tie.spec
-    (λ c κs. search needs)
-    (λ c. search needs)
-    (λ c. search needs)
-    (λ c κs. search needs)
-    (λ c κs. search needs)
-    (λ c. search needs)
-    (λ c. search needs)
-    (λ c κs. search needs)
-    (λ c κs. search needs)
-    part-requires-4
-    positions-within-requires
-    (λ c κs. search needs)
-    returns)
+    tie.close (tie.spec (λ c κs. search needs) (λ c. search needs) (λ c. search needs) (λ c κs. search needs) (λ c κs. search needs)
+    (λ c. search needs) (λ c. search needs) (λ c κs. search needs) (λ c κs. search needs) part-requires-4 positions-within-requires
+    (λ c κs. search needs) returns)

@@ -19,8 +19,10 @@ number-requires : tie.Need-number-requires
 number-requires c κs =
     let s = c .before .before .before .before in
     let sum = c .plus .ensures in
-    let cell = c .before .of .ensures in
-    (omega (signed, cell, sum-parts (c .before .of .result .0) (s .args .n .0)), omega (arith, ap natAbs cell, magnitude-sum (c .before .of .result .0) (s .args .n .0), ap natAbs sum))
+    let cell = c .before .of .ensures in (
+      omega (signed, cell, sum-parts (c .before .of .result .0) (s .args .n .0)),
+      omega (arith, ap natAbs cell, magnitude-sum (c .before .of .result .0) (s .args .n .0), ap natAbs sum),
+    )
 
 returns : tie.Need-returns
 unfolding added
@@ -28,19 +30,18 @@ returns c =
     let at = c .before in
     let s = at .before .before .before .before in
     let cell = at .before .of .ensures in
-    let sum : c .number .result ≡ getD (s .args .cells .now) (s .args .j) 0 + natAbs (s .args .n .0) = c .number .ensures ∙ omega (signed, at .plus .ensures, cell, sum-parts (at .before .of .result .0) (s .args .n .0), magnitude-parts (s .args .n .0), magnitude-parts (at .plus .result .0)) in
+    let sum : c .number .result ≡ getD (s .args .cells .now) (s .args .j) 0 + natAbs (s .args .n .0) = c .number .ensures
+    ∙ omega (
+      signed,
+      at .plus .ensures,
+      cell,
+      sum-parts (at .before .of .result .0) (s .args .n .0),
+      magnitude-parts (s .args .n .0),
+      magnitude-parts (at .plus .result .0),
+    ) in
     rw sum
 
 pub add-to-spec : {M : Type 1} → statement M
 add-to-spec =
-    tie.close
-    (tie.spec
-    (λ c. search needs)
-    (λ c. search needs)
-    (λ c κs. search needs)
-    plus-requires
-    number-requires
-    (λ c. search needs)
-    (λ c. search needs)
-    (λ c. search needs)
-    returns)
+    tie.close (tie.spec (λ c. search needs) (λ c. search needs) (λ c κs. search needs) plus-requires number-requires (λ c. search needs)
+    (λ c. search needs) (λ c. search needs) returns)

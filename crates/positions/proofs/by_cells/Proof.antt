@@ -12,7 +12,8 @@ use Rattle.positions.proofs.by_cells.Statement.{statement}
 use Rattle.positions.proofs.by_cells.Tie as tie
 
 -- what the machine reads is the balance, B and V
-balance : (c : tie.After-signed-word) → let a = c .before .before .before .args in again (c .signed-word .result) ≡ signedAt (a .balances .now) (a .i)
+balance : (c : tie.After-signed-word) → let a =
+    c .before .before .before .args in again (c .signed-word .result) ≡ signedAt (a .balances .now) (a .i)
 balance c =
     toZ-ofZ w64 (c .signed-word .result) (record { sfits = c .signed-word .ok }) ∙ c .signed-word .ensures
 
@@ -32,15 +33,7 @@ returns c =
 
 pub by-cells-spec : {M : Type 1} → statement M
 by-cells-spec =
-    tie.close
-    (tie.spec
-    (λ c κs. search needs)
-    (λ c. search needs)
-    (λ c. search needs)
-    (λ c κs. omega (arith, c .before .before .before .before .pre .unfilled Buy))
-    (λ c. search needs)
-    (λ c. search needs)
-    (λ c. search needs)
-    (λ c κs. omega (arith, c .before .before .before .before .before .before .pre .unfilled Sell))
-    position-by-requires
+    tie.close (tie.spec (λ c κs. search needs) (λ c. search needs) (λ c. search needs)
+    (λ c κs. omega (arith, c .before .before .before .before .pre .unfilled Buy)) (λ c. search needs) (λ c. search needs)
+    (λ c. search needs) (λ c κs. omega (arith, c .before .before .before .before .before .before .pre .unfilled Sell)) position-by-requires
     returns)

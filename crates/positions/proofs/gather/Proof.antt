@@ -25,13 +25,16 @@ cell-requires c κs =
     passed-numbered _ _ _ _ _ (at .loop .inv .1) (at .loop .inv .2) _ (loaded .load .ensures) (s .pre .0) (omega arith) .1
 
 -- the order's cell, and what is in it with what remains of the order
-fits : (c : tie.After-remaining Inv-loop μ-loop) → let placed = c .before .before in (placed .cell .result < 65) × (getD (placed .before .before .before .before .before .loop .cells) (placed .cell .result) 0 + c .remaining .result ≤ 100000000000)
+fits : (c : tie.After-remaining Inv-loop μ-loop) → let placed =
+    c .before .before in (placed .cell .result < 65)
+    × (getD (placed .before .before .before .before .before .loop .cells) (placed .cell .result) 0 + c .remaining .result ≤ 100000000000)
 fits c =
     let placed = c .before .before in
     let loaded = placed .before .before .before in
     let at = loaded .before .before in
     let s = at .before .before in
-    passed-fits _ _ _ _ _ (at .loop .inv .1) (at .loop .inv .2) _ (loaded .load .ensures) (s .pre .0) (omega arith) (placed .before .if1 .taken) _ _ (placed .cell .ensures) (c .remaining .ensures)
+    passed-fits _ _ _ _ _ (at .loop .inv .1) (at .loop .inv .2) _ (loaded .load .ensures) (s .pre .0) (omega arith)
+    (placed .before .if1 .taken) _ _ (placed .cell .ensures) (c .remaining .ensures)
 
 add-to-requires : tie.Need-add-to-requires Inv-loop μ-loop
 add-to-requires c κs =
@@ -46,8 +49,14 @@ loop-again c =
     let inv = at .loop .inv in
     let here = loaded .load .ensures in
     ⊎-elim
-    (λ w. let next = passed-own _ _ _ _ _ (inv .1) (inv .2) _ here (s .pre .0) (omega arith) (w .0 .taken) _ _ (w .1 .ensures) (w .3 .ensures) _ (w .6 ∙ w .5 .ensures ∙ rw (w .4 .ensures)) in (omega arith, next .0, next .1))
-    (λ w. (omega arith, rw (w .1) (inv .1), rw (w .1) (passed-other _ _ _ _ _ (inv .1) (inv .2) _ here (s .pre .0) (omega arith) (w .0 .left))))
+    (λ w. let next = passed-own _ _ _ _ _ (inv .1) (inv .2) _ here (s .pre .0) (omega arith) (w .0 .taken) _ _ (w .1 .ensures)
+    (w .3 .ensures) _ (w .6 ∙ w .5 .ensures ∙ rw (w .4 .ensures)) in (omega arith, next .0, next .1))
+    (λ w. (
+      omega arith,
+      rw (w .1) (inv .1),
+      rw (w .1)
+          (passed-other _ _ _ _ _ (inv .1) (inv .2) _ here (s .pre .0) (omega arith) (w .0 .left)),
+    ))
     (c .if1 .came)
 
 returns : tie.Need-returns Inv-loop μ-loop
@@ -57,17 +66,6 @@ returns c =
 
 pub gather-spec : {M : Type 1} → statement M
 gather-spec =
-    tie.close
-    (tie.spec
-    Inv-loop
-    μ-loop
-    (λ c. (omega arith, c .before .pre .1, passed-none _ _ _ _ _ (c .before .pre .2)))
-    (λ c κs. omega arith)
-    cell-requires
-    (λ c κs. tt)
-    (λ c κs. omega (arith, fits c))
-    add-to-requires
-    (λ c. omega arith)
-    (λ c. omega arith)
-    loop-again
-    returns)
+    tie.close (tie.spec Inv-loop μ-loop (λ c. (omega arith, c .before .pre .1, passed-none _ _ _ _ _ (c .before .pre .2)))
+    (λ c κs. omega arith) cell-requires (λ c κs. tt) (λ c κs. omega (arith, fits c)) add-to-requires (λ c. omega arith) (λ c. omega arith)
+    loop-again returns)

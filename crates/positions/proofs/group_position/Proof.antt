@@ -16,7 +16,13 @@ weigh-requires : tie.Need-weigh-requires
 weigh-requires c κs =
     let bounds = c .before .before .before .before .before .before .pre in
     let gathered = c .before .gather .ensures in
-    record { size = gathered .0; unfilled = cells-small _ _ _ (gathered .1) (bounds .orders-small .unfilled); balances-small = bounds .balances-small; roster-small = bounds .roster-small }
+    record {
+      size = gathered .0;
+      unfilled = cells-small _ _ _ (gathered .1) (bounds .orders-small .unfilled);
+      balances-small =
+          bounds .balances-small;
+      roster-small = bounds .roster-small;
+    }
 
 returns : tie.Need-returns
 returns c =

@@ -35,10 +35,18 @@ with-part-requires c κs =
     let j = at .loop .j in
     let most = at .loop .inv .0 in
     let few = roster .instruments in (
-      record { size = s .pre .size; long = balances .long; instrument = (omega arith, omega arith); balance = balances .balance (j + 1) (omega arith, omega arith); unfilled = λ v. s .pre .unfilled v (j + 1) (omega arith, omega arith) },
+      record {
+        size = s .pre .size;
+        long = balances .long;
+        instrument = (omega arith, omega arith);
+        balance =
+            balances .balance (j + 1) (omega arith, omega arith);
+        unfilled = λ v. s .pre .unfilled v (j + 1) (omega arith, omega arith);
+      },
       roster,
       (omega arith, omega arith),
-      λ w. rw (at .loop .inv .2 w) (sum-small _ _ _ _ w j (omega arith) (λ i h. roster .weight i (omega arith)) (λ i h. balances .balance i (omega arith)) (s .pre .unfilled)),
+      λ w. rw (at .loop .inv .2 w) (sum-small _ _ _ _ w j (omega arith) (λ i h. roster .weight i (omega arith))
+          (λ i h. balances .balance i (omega arith)) (s .pre .unfilled)),
     )
 
 loop-again : tie.Need-loop-again Inv-loop μ-loop
@@ -56,17 +64,5 @@ returns c w =
 
 pub weigh-spec : {M : Type 1} → statement M
 weigh-spec =
-    tie.close
-    (tie.spec
-    Inv-loop
-    μ-loop
-    (λ c κs. search needs)
-    (λ c κs. tt)
-    (λ c κs. tt)
-    loop-holds
-    (λ c. omega arith)
-    with-part-requires
-    (λ c. omega arith)
-    (λ c. omega arith)
-    loop-again
-    returns)
+    tie.close (tie.spec Inv-loop μ-loop (λ c κs. search needs) (λ c κs. tt) (λ c κs. tt) loop-holds (λ c. omega arith) with-part-requires
+    (λ c. omega arith) (λ c. omega arith) loop-again returns)

@@ -13,7 +13,11 @@ of-requires c κs =
     let known = c .before .before in
     let ready = known .before .pre in
     let t = told _ (ready .held) _ (ready .accepted) in
-    omega (arith, remaining-small _ _ _ _ (λ i. known .shared-slice-known .given i .fits) (ready .held) (c .before .load-order .ensures) t (ready .named) _ (c .remaining .ensures))
+    omega (
+      arith,
+      remaining-small _ _ _ _ (λ i. known .shared-slice-known .given i .fits) (ready .held) (c .before .load-order .ensures) t
+          (ready .named) _ (c .remaining .ensures),
+    )
 
 returns : tie.Need-returns
 returns c =
@@ -25,9 +29,12 @@ returns c =
       after = 0;
       is-before = c .of .ensures ∙ ap pos (c .before .remaining .ensures);
       is-after = refl;
-      shifted = cancel-shifted _ _ _ _ (λ i. known .shared-slice-known .given i .fits) (start .pre .held) (loaded .load-order .ensures) (start .pre);
+      shifted =
+          cancel-shifted _ _ _ _ (λ i. known .shared-slice-known .given i .fits) (start .pre .held) (loaded .load-order .ensures)
+          (start .pre);
     }
 
 pub cancelled-spec : {M : Type 1} → statement M
 cancelled-spec =
-    tie.close (tie.spec (λ c κs. let ready = c .before .pre in named-loadable _ _ _ (ready .held) (ready .named)) (λ c κs. search needs) of-requires returns)
+    tie.close (tie.spec (λ c κs. let ready = c .before .pre in named-loadable _ _ _ (ready .held) (ready .named))
+    (λ c κs. search needs) of-requires returns)

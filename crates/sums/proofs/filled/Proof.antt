@@ -13,7 +13,11 @@ of-requires c κs =
     let known = c .before .before in
     let ready = known .before .pre in
     let t = told _ (ready .held) _ (ready .accepted) in
-    omega (arith, remaining-small _ _ _ _ (λ i. known .shared-slice-known .given i .fits) (ready .held) (c .before .load-order .ensures) (t .0) (ready .named) _ (c .remaining .ensures))
+    omega (
+      arith,
+      remaining-small _ _ _ _ (λ i. known .shared-slice-known .given i .fits) (ready .held) (c .before .load-order .ensures)
+          (t .0) (ready .named) _ (c .remaining .ensures),
+    )
 
 less-requires : tie.Need-less-requires
 less-requires c κs =
@@ -21,8 +25,10 @@ less-requires c κs =
     let known = loaded .before in
     let start = known .before in
     let t = told _ (start .pre .held) _ (start .pre .accepted) in
-    let most = fill-most _ _ _ _ (λ i. known .shared-slice-known .given i .fits) (start .pre .held) (loaded .load-order .ensures) (start .pre) (start .fits .quantity) in
-    let small = remaining-small _ _ _ _ (λ i. known .shared-slice-known .given i .fits) (start .pre .held) (loaded .load-order .ensures) (t .0) (start .pre .named) _ (c .before .remaining .ensures) in
+    let most = fill-most _ _ _ _ (λ i. known .shared-slice-known .given i .fits) (start .pre .held) (loaded .load-order .ensures)
+    (start .pre) (start .fits .quantity) in
+    let small = remaining-small _ _ _ _ (λ i. known .shared-slice-known .given i .fits) (start .pre .held) (loaded .load-order .ensures)
+    (t .0) (start .pre .named) _ (c .before .remaining .ensures) in
     omega (arith, ap natAbs (c .of .ensures), most, small, c .before .remaining .ensures)
 
 returns : tie.Need-returns
@@ -36,10 +42,15 @@ returns c =
       before = _;
       after = _;
       is-before = before;
-      is-after = fill-left _ _ _ _ (λ i. known .shared-slice-known .given i .fits) (start .pre .held) (loaded .load-order .ensures) (start .pre) (start .fits .quantity) _ _ before (c .less .ensures);
-      shifted = fill-shifted _ _ _ _ (λ i. known .shared-slice-known .given i .fits) (start .pre .held) (loaded .load-order .ensures) (start .pre) (start .fits .quantity);
+      is-after =
+          fill-left _ _ _ _ (λ i. known .shared-slice-known .given i .fits) (start .pre .held) (loaded .load-order .ensures) (start .pre)
+          (start .fits .quantity) _ _ before (c .less .ensures);
+      shifted =
+          fill-shifted _ _ _ _ (λ i. known .shared-slice-known .given i .fits) (start .pre .held) (loaded .load-order .ensures) (start .pre)
+          (start .fits .quantity);
     }
 
 pub filled-spec : {M : Type 1} → statement M
 filled-spec =
-    tie.close (tie.spec (λ c κs. let ready = c .before .pre in named-loadable _ _ _ (ready .held) (ready .named)) (λ c κs. search needs) of-requires less-requires returns)
+    tie.close (tie.spec (λ c κs. let ready = c .before .pre in named-loadable _ _ _ (ready .held) (ready .named))
+    (λ c κs. search needs) of-requires less-requires returns)

@@ -19,7 +19,8 @@ spot : (c : tie.After-cell) →
     o .account * 64 + c .cell .result ≡ ownCell row o
 spot c = own-spot (c .before .before .shift-of .result .order) _ (c .cell .ensures)
 
-inside : (c : tie.After-cell) → c .before .before .shift-of .result .order .account * 64 + c .cell .result < length (c .before .before .before .before .before .args .cells .now)
+inside : (c : tie.After-cell) → c .before .before .shift-of .result .order .account * 64 + c .cell .result < length
+    (c .before .before .before .before .before .args .cells .now)
 inside c =
     let moved = c .before .before in
     let start = moved .before .before .before in
@@ -28,14 +29,17 @@ inside c =
 size : (c : tie.After-cell) → length (c .before .before .before .before .before .args .cells .now) ≡ 1089
 size c = c .before .before .before .before .before .pre .1 .size
 
-small : (c : tie.After-cell) → getD (c .before .before .before .before .before .args .cells .now) (c .before .before .shift-of .result .order .account * 64 + c .cell .result) 0 + c .before .before .shift-of .ensures .after ≤ 257000000
+small : (c : tie.After-cell) → getD (c .before .before .before .before .before .args .cells .now)
+    (c .before .before .shift-of .result .order .account * 64 + c .cell .result) 0 + c .before .before .shift-of .ensures .after ≤ 257000000
 small c =
     let moved = c .before .before in
     let start = moved .before .before .before in
     let x = own-small _ _ _ (start .pre .1) _ _ _ (moved .shift-of .ensures .shifted) (unfilled-small _ (start .pre .0 .held)) in
     rw (spot c) (omega (arith, x, moved .shift-of .ensures .shifted .small))
 
-lowered : (c : tie.After-cell) → c .before .before .shift-of .ensures .before ≤ getD (c .before .before .before .before .before .args .cells .now) (c .before .before .shift-of .result .order .account * 64 + c .cell .result) 0 + c .before .before .shift-of .ensures .after
+lowered : (c : tie.After-cell) → c .before .before .shift-of .ensures .before ≤ getD
+    (c .before .before .before .before .before .args .cells .now)
+    (c .before .before .shift-of .result .order .account * 64 + c .cell .result) 0 + c .before .before .shift-of .ensures .after
 lowered c =
     let moved = c .before .before in
     rw (spot c) (enough _ _ _ (moved .before .before .before .pre .1) _ _ _ (moved .shift-of .ensures .shifted))
@@ -87,19 +91,9 @@ returns c =
 
 pub keep-spec : {M : Type 1} → statement M
 keep-spec =
-    tie.close
-    (tie.spec
-    (λ c κs. search needs)
-    (λ c. omega (arith, c .before .shift-of .ensures .shifted .account .1))
-    (λ c κs. c .before .shift-of .ensures .shifted .instrument .1)
-    (λ c. omega (arith, inside c, size c))
-    (λ c. omega (arith, inside c, size c))
-    (λ c. inside (c .before))
-    (λ c κs. omega (arith, small (c .before)))
-    plus-requires
-    less-requires
+    tie.close (tie.spec (λ c κs. search needs) (λ c. omega (arith, c .before .shift-of .ensures .shifted .account .1))
+    (λ c κs. c .before .shift-of .ensures .shifted .instrument .1) (λ c. omega (arith, inside c, size c))
+    (λ c. omega (arith, inside c, size c)) (λ c. inside (c .before)) (λ c κs. omega (arith, small (c .before))) plus-requires less-requires
     number-requires
     (λ c. omega (arith, inside (c .before .before .before .before .before), size (c .before .before .before .before .before)))
-    (λ c. inside (c .before .before .before .before .before))
-    (λ c. search needs)
-    returns)
+    (λ c. inside (c .before .before .before .before .before)) (λ c. search needs) returns)

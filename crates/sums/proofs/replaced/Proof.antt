@@ -19,7 +19,11 @@ of-requires c κs =
     let known = c .before .before in
     let ready = known .before .pre in
     let t = told _ (ready .held) _ (ready .accepted) in
-    omega (arith, remaining-small _ _ _ _ (λ i. known .shared-slice-known .given i .fits) (ready .held) (c .before .load-order .ensures) (t .0) (ready .named) _ (c .remaining .ensures))
+    omega (
+      arith,
+      remaining-small _ _ _ _ (λ i. known .shared-slice-known .given i .fits) (ready .held) (c .before .load-order .ensures)
+          (t .0) (ready .named) _ (c .remaining .ensures),
+    )
 
 cast-replaced-total : tie.Need-cast-replaced-total
 cast-replaced-total c =
@@ -36,7 +40,8 @@ shifted c =
     let loaded = c .before .before .before in
     let known = loaded .before in
     let start = known .before in
-    replace-shifted _ _ _ _ (λ i. known .shared-slice-known .given i .fits) (start .pre .held) (loaded .load-order .ensures) (start .pre) (start .fits .total) _ (c .replaced-total .ensures)
+    replace-shifted _ _ _ _ (λ i. known .shared-slice-known .given i .fits) (start .pre .held) (loaded .load-order .ensures) (start .pre)
+    (start .fits .total) _ (c .replaced-total .ensures)
 
 returns : tie.Need-returns
 returns c =

@@ -17,11 +17,11 @@ admitted-requires c κs =
     let s = c .before .before .before in
     rw (c .replaced-total .ensures) (replaced-on _ _ _ (s .pre .0))
 
-asked : (c : tie.After-admitted) → let a = c .before .before .before .before .args in
-    numberOf (c .admitted .result) ≡ firstNo (admission (a .m .now) (replacedTotal (a .o) (a .total)))
+asked : (c : tie.After-admitted) → let a = c .before .before .before .before .args in numberOf (c .admitted .result) ≡ firstNo (admission (a .m .now) (replacedTotal (a .o) (a .total)))
 asked c = rw (c .before .replaced-total .ensures) at (c .admitted .ensures)
 
 within-limits-requires : tie.Need-within-limits-requires
+unfolding replacedTotal
 within-limits-requires c κs =
     let at = c .before .before in
     let s = at .before .before .before .before in
@@ -29,6 +29,7 @@ within-limits-requires c κs =
       record {
         on = replaced-on _ _ _ (s .pre .0);
         set = limits-set _ _ _ (asked at) (c .enum-told .given .1);
+        total = s .pre .0 .small;
         small = omega (arith, s .pre .0 .small);
       },
       s .pre .2,
@@ -49,5 +50,11 @@ returns-2 c = first-refuses _ _ _ (asked (c .before)) (c .match .keys2) _
 pub raised-spec : {M : Type 1} → statement M
 raised-spec =
     tie.close
-    (tie.spec (λ c κs. search needs) admitted-requires (λ c. search needs) (λ c. search needs)
-    within-limits-requires returns returns-2)
+    (tie.spec
+    (λ c κs. search needs)
+    admitted-requires
+    (λ c. search needs)
+    (λ c. search needs)
+    within-limits-requires
+    returns
+    returns-2)

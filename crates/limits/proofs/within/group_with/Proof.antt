@@ -17,9 +17,14 @@ use Rattle.limits.proofs.within.group_with.Tie as tie
 contract-small : (c : tie.After-word) → c .word .result ≤ 8
 contract-small c =
     let s = c .before .before .before .before in
-    omega (arith, c .word .ensures ∙ contract-word _ _, s .pre .0 .positions .roster-small .contract (s .args .o .instrument) (s .pre .0 .instrument))
+    omega (
+      arith,
+      c .word .ensures ∙ contract-word _ _,
+      s .pre .0 .positions .roster-small .contract (s .args .o .instrument) (s .pre .0 .instrument),
+    )
 
-group-of : (c : tie.After-word2) → let a = c .before .before .before .before .before .args in c .word2 .result ≡ groupOfInstrument (rosterIn (a .roster .now)) (a .o .instrument)
+group-of : (c : tie.After-word2) → let a =
+    c .before .before .before .before .before .args in c .word2 .result ≡ groupOfInstrument (rosterIn (a .roster .now)) (a .o .instrument)
 group-of c = c .word2 .ensures ∙ group-word _ _ _ (c .before .word .ensures)
 
 -- the weight's magnitude, as the machine reads it
@@ -29,7 +34,8 @@ read : (c : tie.After-magnitude) →
 read c =
     let s = c .before .before .before .before .before .before .before in
     let k = c .magnitude .result in
-    let e : k ≡ pos (natAbs (s .args .weight)) = c .magnitude .ensures ∙ ap (λ (z : ℤ). pos (natAbs z)) (small-again (s .args .weight) (omega (arith, s .pre .1))) in
+    let e : k ≡ pos (natAbs (s .args .weight)) = c .magnitude .ensures
+    ∙ ap (λ (z : ℤ). pos (natAbs z)) (small-again (s .args .weight) (omega (arith, s .pre .1))) in
     small-again k (omega (arith, ap natAbs e, s .pre .1)) ∙ e
 
 times-requires : tie.Need-times-requires
@@ -37,10 +43,14 @@ times-requires c κs =
     let s = c .before .before .before .before .before .before .before in
     rw (read c) (omega arith, s .pre .1)
 
-rise : (c : tie.After-times) → let a = c .before .before .before .before .before .before .before .before .args in c .times .result .0 ≡ pos (natAbs (a .weight)) *ℤ a .added .0
+rise : (c : tie.After-times) → let a =
+    c .before .before .before .before .before .before .before .before .args in c .times .result .0 ≡ pos (natAbs (a .weight)) *ℤ a .added .0
 rise c = c .times .ensures ∙ rw (read (c .before))
 
-before : (c : tie.After-on-side) → let a = c .before .before .before .before .before .before .before .before .before .args in c .on-side .result .0 ≡ sumByCells (a .cells .now) (balancesIn (a .balances .now)) (rosterIn (a .roster .now)) (groupOfInstrument (rosterIn (a .roster .now)) (a .o .instrument)) (rosterIn (a .roster .now) .instruments) (wayOf (a .to))
+before : (c : tie.After-on-side) → let a =
+    c .before .before .before .before .before .before .before .before .before .args in
+    c .on-side .result .0 ≡ sumByCells (a .cells .now) (balancesIn (a .balances .now)) (rosterIn (a .roster .now))
+    (groupOfInstrument (rosterIn (a .roster .now)) (a .o .instrument)) (rosterIn (a .roster .now) .instruments) (wayOf (a .to))
 before c =
     let at = c .before .before .before in
     let a = at .before .before .before .before .before .before .args in
@@ -51,22 +61,18 @@ plus-requires c κs =
     let s = c .before .before .before .before .before .before .before .before .before in
     let a = s .args in
     rw (before c, rise (c .before))
-    (omega (arith, group-room (a .cells .now) (a .balances .now) (a .roster .now) (groupOfInstrument (rosterIn (a .roster .now)) (a .o .instrument)) (s .pre .0 .positions) (wayOf (a .to)), rise-room (natAbs (a .weight)) (a .added .0) (s .pre .1) (s .pre .0 .small)))
+    (omega (
+      arith,
+      group-room (a .cells .now) (a .balances .now) (a .roster .now)
+          (groupOfInstrument (rosterIn (a .roster .now)) (a .o .instrument)) (s .pre .0 .positions) (wayOf (a .to)),
+      rise-room (natAbs (a .weight)) (a .added .0) (s .pre .1) (s .pre .0 .small),
+    ))
 
 returns : tie.Need-returns
 returns c = c .plus .ensures ∙ rw (before (c .before), rise (c .before .before))
 
 pub group-with-spec : {M : Type 1} → statement M
 group-with-spec =
-    tie.close
-    (tie.spec
-    (λ c. search needs)
-    (λ c κs. search needs)
-    (λ c. omega (arith, contract-small c))
+    tie.close (tie.spec (λ c. search needs) (λ c κs. search needs) (λ c. omega (arith, contract-small c))
     (λ c κs. omega (arith, contract-small c, c .before .before .before .before .pre .0 .positions .roster-small .long))
-    (λ c κs. search needs)
-    (λ c κs. search needs)
-    times-requires
-    (λ c κs. search needs)
-    plus-requires
-    returns)
+    (λ c κs. search needs) (λ c κs. search needs) times-requires (λ c κs. search needs) plus-requires returns)

@@ -15,7 +15,8 @@ use Rattle.limits.proofs.Room.{with-more}
 use Rattle.limits.proofs.within.instrument_with.Statement.{statement}
 use Rattle.limits.proofs.within.instrument_with.Tie as tie
 
-balance : (c : tie.After-signed-word) → let a = c .before .before .before .args in again (c .signed-word .result) ≡ balancesIn (a .balances .now) (a .o .instrument)
+balance : (c : tie.After-signed-word) → let a =
+    c .before .before .before .args in again (c .signed-word .result) ≡ balancesIn (a .balances .now) (a .o .instrument)
 balance c =
     toZ-ofZ w64 (c .signed-word .result) (record { sfits = c .signed-word .ok }) ∙ c .signed-word .ensures
 
@@ -25,7 +26,10 @@ inside c =
     rw (c .cell .ensures, s .pre .0 .size) (cell-inside (s .args .o .side) (s .args .o .instrument) (s .pre .0 .instrument .1))
 
 -- what is open, as the cell holds it
-unfilled : (c : tie.After-cell) → let a = c .before .before .before .before .args in (getD (a .cells .now) (c .cell .result) 0 ≡ getD (a .cells .now) (cell (a .o .side) (a .o .instrument)) 0) × (getD (a .cells .now) (c .cell .result) 0 ≤ 100000000000)
+unfilled : (c : tie.After-cell) → let a =
+    c .before .before .before .before .args in
+    (getD (a .cells .now) (c .cell .result) 0 ≡ getD (a .cells .now) (cell (a .o .side) (a .o .instrument)) 0)
+    × (getD (a .cells .now) (c .cell .result) 0 ≤ 100000000000)
 unfilled c =
     let s = c .before .before .before .before in
     (rw (c .cell .ensures), rw (c .cell .ensures) (s .pre .0 .unfilled (s .args .o .side)))
@@ -40,7 +44,13 @@ potential-requires c κs =
     let placed = c .before .before .before in
     let s = placed .before .before .before .before in
     rw (balance (placed .before), c .plus .ensures, c .before .of .ensures)
-    (omega (arith, s .pre .0 .balance, s .pre .1, unfilled placed .1, magnitude-sum (pos (getD (s .args .cells .now) (placed .cell .result) 0)) (s .args .added .0)))
+    (omega (
+      arith,
+      s .pre .0 .balance,
+      s .pre .1,
+      unfilled placed .1,
+      magnitude-sum (pos (getD (s .args .cells .now) (placed .cell .result) 0)) (s .args .added .0),
+    ))
 
 -- what is open with the rise
 raised : (c : tie.After-plus) →
@@ -61,13 +71,7 @@ returns c =
 
 pub instrument-with-spec : {M : Type 1} → statement M
 instrument-with-spec =
-    tie.close
-    (tie.spec
-    (λ c κs. omega (arith, c .before .before .pre .0 .long, c .before .before .pre .0 .instrument .1))
+    tie.close (tie.spec (λ c κs. omega (arith, c .before .before .pre .0 .long, c .before .before .pre .0 .instrument .1))
     (λ c κs. c .before .before .before .pre .0 .instrument .1)
-    (λ c. omega (arith, inside c, c .before .before .before .before .pre .0 .size))
-    (λ c. inside (c .before))
-    (λ c κs. omega (arith, unfilled (c .before) .1))
-    plus-requires
-    potential-requires
-    returns)
+    (λ c. omega (arith, inside c, c .before .before .before .before .pre .0 .size)) (λ c. inside (c .before))
+    (λ c κs. omega (arith, unfilled (c .before) .1)) plus-requires potential-requires returns)

@@ -32,8 +32,10 @@ use Rattle.limits.proofs.within.positions_within.Tie as tie
 
 instrument-with-requires : tie.Need-instrument-with-requires
 instrument-with-requires c κs =
-    let s = c .before .before .before .before .before .before in
-    (instrument-bounds (s .args .cells .now) (s .args .balances .now) (s .args .roster .now) (s .args .o) (s .args .added .0) (s .pre .0), s .pre .0 .small)
+    let s = c .before .before .before .before .before .before in (
+      instrument-bounds (s .args .cells .now) (s .args .balances .now) (s .args .roster .now) (s .args .o) (s .args .added .0) (s .pre .0),
+      s .pre .0 .small,
+    )
 
 -- PCI or PVI with the event applied, by the open orders
 instrument-found : (c : tie.After-instrument-with) (n : ℕ) (before : List Order) →
@@ -51,12 +53,16 @@ returns : tie.Need-returns
 returns c ls n before after more gathered in-force of-group raised =
     let at = c .before .before in
     c .instrument-refusal .ensures
-    ∙ sym (instrument-passed _ ls before after _ _ _ _ _ in-force of-group raised _ _ (instrument-found (at .before) n before more gathered) (at .before .before .largest-position .ensures) (sym (at .at-most .ensures) ∙ not-true _ (c .before .if1 .taken)))
+    ∙ sym (instrument-passed _ ls before after _ _ _ _ _ in-force of-group raised _ _ (instrument-found (at .before) n before more gathered)
+    (at .before .before .largest-position .ensures) (sym (at .at-most .ensures) ∙ not-true _ (c .before .if1 .taken)))
 
-passed : (c : tie.Else1) → leZ (c .before .before .instrument-with .result .0) (c .before .before .before .largest-position .result .0) ≡ true
+passed : (c : tie.Else1) → leZ (c .before .before .instrument-with .result .0) (c .before .before .before .largest-position .result .0)
+    ≡ true
 passed c = sym (c .before .at-most .ensures) ∙ not-false _ (c .if1 .left)
 
-weight : (c : tie.After-signed-word) → let a = c .before .before .before .before .before .before .before .before .before .before .args in again (c .signed-word .result) ≡ rosterIn (a .roster .now) .weight (a .o .instrument)
+weight : (c : tie.After-signed-word) → let a =
+    c .before .before .before .before .before .before .before .before .before .before .args in
+    again (c .signed-word .result) ≡ rosterIn (a .roster .now) .weight (a .o .instrument)
 weight c =
     toZ-ofZ w64 (c .signed-word .result) (record { sfits = c .signed-word .ok })
     ∙ c .signed-word .ensures
@@ -65,13 +71,20 @@ weight c =
 returns-2 : tie.Need-returns-2
 returns-2 c ls n before after more gathered in-force of-group raised =
     let at = c .before .before in
-    sym (no-group _ ls before after _ _ _ _ _ in-force of-group raised _ _ (instrument-found (at .before .before) n before more gathered) (at .before .before .before .largest-position .ensures) (passed at) (sym (weight (c .before)) ∙ ap (toZ w64) (c .if2 .taken)))
+    sym (no-group _ ls before after _ _ _ _ _ in-force of-group raised _ _ (instrument-found (at .before .before) n before more gathered)
+    (at .before .before .before .largest-position .ensures) (passed at) (sym (weight (c .before)) ∙ ap (toZ w64) (c .if2 .taken)))
 
 times-requires : tie.Need-times-requires
 times-requires c κs =
     let known = c .before .before .before .before .before .before .before .before in
-    let s = known .before .before .before .before .before in
-    (omega (arith, ap natAbs (c .largest-of-group .ensures), group-figure-small (s .args .group .now) (λ i. known .shared-slice-known5 .given i .fits) (c .before .group-side .result)), omega arith)
+    let s = known .before .before .before .before .before in (
+      omega (
+        arith,
+        ap natAbs (c .largest-of-group .ensures),
+        group-figure-small (s .args .group .now) (λ i. known .shared-slice-known5 .given i .fits) (c .before .group-side .result),
+      ),
+      omega arith,
+    )
 
 group-with-requires : tie.Need-group-with-requires
 group-with-requires c κs =
@@ -89,14 +102,17 @@ judged : (c : tie.After-at-most2) (ls : Lines) (n : ℕ) (before after : List Or
     OfGroup (rosterIn (a .roster .now)) ls (a .o) (a .group .now) →
     Raised n (a .o) before after →
     (t : Bool) → c .at-most2 .result ≡ t →
-    firstNo (positionQuestions one (rosterIn (a .roster .now)) ls after (balancesIn (a .balances .now)) (a .o)) ≡ cond t 0 (groupNumber (wayOf (c .before .before .before .before .group-side .result)))
+    firstNo (positionQuestions one (rosterIn (a .roster .now)) ls after (balancesIn (a .balances .now)) (a .o)) ≡ cond t 0
+    (groupNumber (wayOf (c .before .before .before .before .group-side .result)))
 judged c ls n before after more gathered in-force of-group raised t test =
     let to = c .before .before .before .before in
     let K = to .before .before in
     let at = K .before in
     let s = at .before .before .before .before .before .before .before .before .before in
-    by-group _ ls before after _ _ _ _ _ in-force of-group raised _ _ (instrument-found (at .before .before) n before more gathered) (at .before .before .before .largest-position .ensures) (passed at) (s .pre .0 .instrument)
-    (λ e. to .before .if2 .left (ap (ofZ w64) (sym (toZ-ofZ w64 (K .signed-word .result) (record { sfits = K .signed-word .ok })) ∙ weight K ∙ e)))
+    by-group _ ls before after _ _ _ _ _ in-force of-group raised _ _ (instrument-found (at .before .before) n before more gathered)
+    (at .before .before .before .largest-position .ensures) (passed at) (s .pre .0 .instrument)
+    (λ e. to .before .if2 .left (ap (ofZ w64) (sym (toZ-ofZ w64 (K .signed-word .result) (record { sfits = K .signed-word .ok })) ∙ weight K
+    ∙ e)))
     (wayOf (to .group-side .result))
     (to .group-side .ensures ∙ rw (weight K))
     _ _
@@ -109,29 +125,16 @@ judged c ls n before after more gathered in-force of-group raised t test =
     (sym (c .at-most2 .ensures) ∙ test)
 
 returns-3 : tie.Need-returns-3
-returns-3 c ls n before after more gathered in-force of-group raised = sym (judged (c .before) ls n before after more gathered in-force of-group raised true (c .if3 .taken))
+returns-3 c ls n before after more gathered in-force of-group raised =
+    sym (judged (c .before) ls n before after more gathered in-force of-group raised true (c .if3 .taken))
 
 returns-4 : tie.Need-returns-4
 returns-4 c ls n before after more gathered in-force of-group raised =
-    c .group-refusal .ensures ∙ sym (judged (c .before .before) ls n before after more gathered in-force of-group raised false (c .before .if3 .left))
+    c .group-refusal .ensures ∙ sym (judged (c .before .before) ls n before after more gathered in-force of-group raised false
+    (c .before .if3 .left))
 
 pub positions-within-spec : {M : Type 1} → statement M
 positions-within-spec =
-    tie.close
-    (tie.spec
-    (λ c κs. search needs)
-    instrument-with-requires
-    (λ c κs. search needs)
-    (λ c κs. search needs)
-    returns
-    (λ c. search needs)
-    (λ c κs. search needs)
-    returns-2
-    (λ c κs. search needs)
-    (λ c κs. search needs)
-    times-requires
-    group-with-requires
-    (λ c κs. search needs)
-    (λ c κs. search needs)
-    returns-3
-    returns-4)
+    tie.close (tie.spec (λ c κs. search needs) instrument-with-requires (λ c κs. search needs) (λ c κs. search needs) returns
+    (λ c. search needs) (λ c κs. search needs) returns-2 (λ c κs. search needs) (λ c κs. search needs) times-requires group-with-requires
+    (λ c κs. search needs) (λ c κs. search needs) returns-3 returns-4)

@@ -17,8 +17,10 @@ positions-are-sound-requires c κs =
 
 returns-2 : tie.Need-returns-2
 returns-2 c =
-    let at = c .before .before in
-    (c .positions-are-sound .ensures ∙ rw (said-yes _ _ (at .before .orders-are-sound .ensures .0) (at .if1 .left)), λ e. at .before .orders-are-sound .ensures .1 (not-false _ (at .if1 .left)))
+    let at = c .before .before in (
+      c .positions-are-sound .ensures ∙ rw (said-yes _ _ (at .before .orders-are-sound .ensures .0) (at .if1 .left)),
+      λ e. at .before .orders-are-sound .ensures .1 (not-false _ (at .if1 .left)),
+    )
 
 pub orders-and-positions-spec : {M : Type 1} → statement M
 orders-and-positions-spec =

@@ -49,7 +49,8 @@ tests c z e =
     let w = b .before .before in
     let s = w .before .before in
     rw (c .at-most .ensures, c .before .less .ensures, e, toZ-ofZ w64 (w .signed-word .result) (record { sfits = w .signed-word .ok }))
-    (place-tested _ _ _ _ (s .pre .0) (s .pre .1) (s .pre .2) (s .pre .3) _ _ _ (w .signed-word .ensures) (b .of .ensures) (v .of2 .ensures))
+    (place-tested _ _ _ _ (s .pre .0) (s .pre .1) (s .pre .2) (s .pre .3) _ _ _ (w .signed-word .ensures) (b .of .ensures)
+    (v .of2 .ensures))
 
 returns : tie.Need-returns
 returns c = rw (not-true (c .before .at-most .result) (c .if1 .taken)) at (tests (c .before) _ refl)
@@ -57,30 +58,12 @@ returns c = rw (not-true (c .before .at-most .result) (c .if1 .taken)) at (tests
 returns-2 : tie.Need-returns-2
 returns-2 c =
     let at = c .before .before in
-    c .at-most2 .ensures ∙ rw (not-false (at .before .at-most .result) (at .if1 .left)) at (tests (at .before) _ (c .before .less2 .ensures))
+    c .at-most2 .ensures ∙ rw (not-false (at .before .at-most .result) (at .if1 .left)) at (tests (at .before) _
+    (c .before .less2 .ensures))
 
 pub place-is-sound-spec : {M : Type 1} → statement M
 place-is-sound-spec =
-    tie.close
-    (tie.spec
-    (λ c. search needs)
-    (λ c. search needs)
-    (λ c. search needs)
-    (λ c κs. search needs)
-    (λ c. search needs)
-    (λ c. search needs)
-    (λ c. search needs)
-    (λ c. search needs)
-    of-requires
-    (λ c. search needs)
-    (λ c. search needs)
-    (λ c. search needs)
-    (λ c. search needs)
-    (λ c. search needs)
-    of-requires-2
-    less-requires
-    (λ c κs. search needs)
-    returns
-    less-requires-2
-    (λ c κs. search needs)
-    returns-2)
+    tie.close (tie.spec (λ c. search needs) (λ c. search needs) (λ c. search needs) (λ c κs. search needs) (λ c. search needs)
+    (λ c. search needs) (λ c. search needs) (λ c. search needs) of-requires (λ c. search needs) (λ c. search needs) (λ c. search needs)
+    (λ c. search needs) (λ c. search needs) of-requires-2 less-requires (λ c κs. search needs) returns less-requires-2
+    (λ c κs. search needs) returns-2)

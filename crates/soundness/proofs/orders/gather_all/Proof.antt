@@ -10,7 +10,8 @@ use Rattle.ledger.proofs.Details.{remaining-below}
 use Rattle.layout.specs.Layout.{countWord}
 use Rattle.layout.specs.View.{recordsOf}
 use Rattle.soundness.proofs.Telling.{records-long}
-use Rattle.soundness.proofs.Gathering.{Passed, passed-none, passed-id, passed-nothing, passed-more, ids-refused, record-refused, all-told, all-within, all-gathered}
+use Rattle.soundness.proofs.Gathering.{Passed, passed-none, passed-id, passed-nothing, passed-more, ids-refused, record-refused}
+use Rattle.soundness.proofs.Gathering.{all-told, all-within, all-gathered}
 use Rattle.soundness.proofs.orders.gather_all.Statement.{statement}
 use Rattle.soundness.proofs.orders.gather_all.Tie as tie
 
@@ -33,7 +34,8 @@ long c =
 returns : tie.Need-returns Inv-loop μ-loop
 returns c =
     let at = c .before .before .before .before in
-    let ids = passed-id _ _ _ _ _ (at .loop .p) (at .loop .inv .2) _ _ (omega arith) (c .before .before .id-in .ensures) (c .before .detail-in .ensures) (c .if1 .taken) in
+    let ids = passed-id _ _ _ _ _ (at .loop .p) (at .loop .inv .2) _ _ (omega arith) (c .before .before .id-in .ensures)
+    (c .before .detail-in .ensures) (c .if1 .taken) in
     (ids-refused _ _ _ (at .loop .inv .0) (at .loop .inv .1) ids, (λ e. absurd (false≢true e), λ e. absurd (false≢true e)))
 
 returns-2 : tie.Need-returns-2 Inv-loop μ-loop
@@ -41,8 +43,11 @@ returns-2 c =
     let rest = c .before in
     let read = rest .before .before in
     let at = read .before .before .before in
-    let none = passed-nothing _ _ _ _ _ (at .loop .p) (at .loop .inv .2) _ _ (omega arith) (read .before .id-in .ensures) (read .detail-in .ensures) _ (rest .remaining-of .ensures) (c .if2 .taken) in
-    (record-refused _ _ _ (at .loop .inv .0) (at .loop .inv .1) (at .loop .p) (omega arith) none, (λ e. absurd (false≢true e), λ e. absurd (false≢true e)))
+    let none = passed-nothing _ _ _ _ _ (at .loop .p) (at .loop .inv .2) _ _ (omega arith) (read .before .id-in .ensures)
+    (read .detail-in .ensures) _ (rest .remaining-of .ensures) (c .if2 .taken) in (
+      record-refused _ _ _ (at .loop .inv .0) (at .loop .inv .1) (at .loop .p) (omega arith) none,
+      (λ e. absurd (false≢true e), λ e. absurd (false≢true e)),
+    )
 
 add-to-requires : tie.Need-add-to-requires Inv-loop μ-loop
 add-to-requires c κs =
@@ -52,8 +57,19 @@ add-to-requires c κs =
     let past = at .loop .inv .2 in
     let s = at .before .before .before .before in
     let rest = remaining-below _ (read .detail-in .ok) in
-    rw (c .of .ensures)
-    (omega (arith, past .size, packed .packed-of .ensures), omega signed, omega (arith, past .small (65 + packed .packed-of .result), at .loop .inv .0, s .pre .1 .count, past .upto, c .before .remaining-of2 .ensures, rest))
+    rw (c .of .ensures) (
+      omega (arith, past .size, packed .packed-of .ensures),
+      omega signed,
+      omega (
+        arith,
+        past .small (65 + packed .packed-of .result),
+        at .loop .inv .0,
+        s .pre .1 .count,
+        past .upto,
+        c .before .remaining-of2 .ensures,
+        rest,
+      ),
+    )
 
 loop-again : tie.Need-loop-again Inv-loop μ-loop
 loop-again c =
@@ -77,30 +93,21 @@ returns-3 c =
     let at = c .before in
     let n = at .loop .inv .0 in
     let s = at .loop .inv .1 in
-    let past = at .loop .inv .2 in
-    (all-told _ _ _ n s _ _ _ _ past (omega arith), (λ e. all-within _ _ _ n s _ _ _ _ past (omega arith), λ e. all-gathered _ _ _ n s _ _ _ _ past (omega arith)))
+    let past = at .loop .inv .2 in (
+      all-told _ _ _ n s _ _ _ _ past (omega arith),
+      (λ e. all-within _ _ _ n s _ _ _ _ past (omega arith), λ e. all-gathered _ _ _ n s _ _ _ _ past (omega arith)),
+    )
 
 pub gather-all-spec : {M : Type 1} → statement M
 gather-all-spec =
-    tie.close
-    (tie.spec
-    Inv-loop
-    μ-loop
-    (λ c κs. omega (arith, c .before .pre .0 .long))
-    (λ c κs. c .before .before .pre .1)
+    tie.close (tie.spec Inv-loop μ-loop (λ c κs. omega (arith, c .before .pre .0 .long)) (λ c κs. c .before .before .pre .1)
     (λ c. (c .before .word .ensures, c .records .ensures, passed-none _ _ _ (c .before .before .before .pre .2)))
-    (λ c κs. omega (arith, long c))
-    (λ c κs. omega (arith, long (c .before)))
-    returns
-    (λ c κs. tt)
-    returns-2
-    (λ c κs. tt)
-    (λ c κs. tt)
-    (λ c. omega (arith, c .packed-of .ensures))
-    (λ c κs. tt)
-    (λ c κs. omega (arith, c .remaining-of2 .ensures, remaining-below _ (c .before .before .before .before .before .before .before .detail-in .ok)))
-    add-to-requires
-    (λ c. omega (arith, long (c .before .before .before .before .before .before .before .before .before .before .before)))
-    (λ c. omega arith)
-    loop-again
-    returns-3)
+    (λ c κs. omega (arith, long c)) (λ c κs. omega (arith, long (c .before))) returns (λ c κs. tt) returns-2 (λ c κs. tt) (λ c κs. tt)
+    (λ c. omega (arith, c .packed-of .ensures)) (λ c κs. tt)
+    (λ c κs. omega (
+      arith,
+      c .remaining-of2 .ensures,
+      remaining-below _ (c .before .before .before .before .before .before .before .detail-in .ok),
+    ))
+    add-to-requires (λ c. omega (arith, long (c .before .before .before .before .before .before .before .before .before .before .before)))
+    (λ c. omega arith) loop-again returns-3)

@@ -15,7 +15,8 @@ returns c =
     (refused-order _ (told-no _ (passed .gather-all .ensures .0) (c .if1 .taken)), λ e. absurd (false≢true e))
 
 -- what the pass tells of the details
-within : (c : tie.Else1) → let passed = c .before .before in Each (passed .before .before .before .args .m .now) (Within (passed .gather-all .result .details))
+within : (c : tie.Else1) → let passed =
+    c .before .before in Each (passed .before .before .before .args .m .now) (Within (passed .gather-all .result .details))
 within c = c .before .before .gather-all .ensures .1 .0 (not-false _ (c .if1 .left))
 
 totals-fit-requires : tie.Need-totals-fit-requires
@@ -24,8 +25,11 @@ totals-fit-requires c κs = let s = c .before .before .before .before .before in
 returns-2 : tie.Need-returns-2
 returns-2 c =
     let one = c .before .before in
-    let passed = one .before .before in
-    (refused-total _ (told-yes _ (passed .gather-all .ensures .0) (one .if1 .left)) (told-no _ (c .before .totals-fit .ensures) (c .if2 .taken)), λ e. absurd (false≢true e))
+    let passed = one .before .before in (
+      refused-total _ (told-yes _ (passed .gather-all .ensures .0) (one .if1 .left))
+          (told-no _ (c .before .totals-fit .ensures) (c .if2 .taken)),
+      λ e. absurd (false≢true e),
+    )
 
 all-marked-requires : tie.Need-all-marked-requires
 all-marked-requires c κs =
@@ -46,11 +50,4 @@ returns-3 c =
 
 pub orders-are-sound-spec : {M : Type 1} → statement M
 orders-are-sound-spec =
-    tie.close
-    (tie.spec
-    (λ c κs. search needs)
-    returns
-    totals-fit-requires
-    returns-2
-    all-marked-requires
-    returns-3)
+    tie.close (tie.spec (λ c κs. search needs) returns totals-fit-requires returns-2 all-marked-requires returns-3)

@@ -49,7 +49,11 @@ balance-after-requires c κs =
     let read = c .before .before .before .before in
     let loaded = read .before .before in
     let start = loaded .before .before .before in
-    omega (arith, fill-small (start .pre) (start .fits .quantity) (loaded .load-order .ensures) (record { sfits = read .signed-word .ok }) (read .signed-word .ensures))
+    omega (
+      arith,
+      fill-small (start .pre) (start .fits .quantity) (loaded .load-order .ensures) (record { sfits = read .signed-word .ok })
+          (read .signed-word .ensures),
+    )
 
 set-balance-requires : tie.Need-set-balance-requires
 set-balance-requires c κs =
@@ -67,22 +71,13 @@ returns c =
       fill-worked (start .pre) (start .fits .quantity) (loaded .load-order .ensures) (record { sfits = read .signed-word .ok })
           (read .signed-word .ensures) (stored .fill-record .ensures) (after .balance-after .ensures)
           (c .before .before .before .set-balance .ensures),
-      (fill-moved (start .pre) (start .fits .quantity) (loaded .load-order .ensures) Buy _ (c .moved-by .ensures .0), fill-moved (start .pre) (start .fits .quantity) (loaded .load-order .ensures) Sell _ (c .moved-by .ensures .1)),
+      (
+        fill-moved (start .pre) (start .fits .quantity) (loaded .load-order .ensures) Buy _ (c .moved-by .ensures .0),
+        fill-moved (start .pre) (start .fits .quantity) (loaded .load-order .ensures) Sell _ (c .moved-by .ensures .1),
+      ),
     )
 
 pub work-fill-spec : {M : Type 1} → statement M
 work-fill-spec =
-    tie.close
-    (tie.spec
-    load-order-requires
-    cast-n
-    mul-signed-word
-    add-signed-word
-    add-signed-word-2
-    signed-word-requires
-    fill-record-requires
-    balance-after-requires
-    set-balance-requires
-    (λ c κs. search needs)
-    (λ c. search needs)
-    returns)
+    tie.close (tie.spec load-order-requires cast-n mul-signed-word add-signed-word add-signed-word-2 signed-word-requires
+    fill-record-requires balance-after-requires set-balance-requires (λ c κs. search needs) (λ c. search needs) returns)
