@@ -93,7 +93,7 @@ pub fn listed_position(
 {
     let balance = Contracts(signed_word(balances, instrument as usize));
     let open = open_in(records, n, account, instrument);
-    let buys = Contracts(open.buys as i64);
-    let sells = Contracts(open.sells as i64);
+    let buys = Contracts::of(open.buys);
+    let sells = Contracts::of(open.sells);
     position_by(balance, buys, sells)
 }

@@ -1,5 +1,4 @@
 -- Question 5: the tests as the code asks them, what each condition says as facts, and that a yes means a sound book (`SoundDesk`).
-pub mod Every
 mod Joining
 pub mod Asked
 pub mod RosterLaws

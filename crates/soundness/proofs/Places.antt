@@ -23,7 +23,7 @@ use Rattle.layout.specs.View.{rosterOf, balancesOf, openOrders}
 use Rattle.soundness.specs.Soundness.{positionSound, placeSound}
 use Rattle.soundness.specs.Cells.{Readable, row, SmallSums}
 use Rattle.soundness.proofs.Asked.{same-test, numbered-between}
-use Rattle.soundness.proofs.Every.{every-in}
+use Rattle.layout.proofs.Every.{every-in}
 
 -- ---- positions
 -- one contract counts for 1

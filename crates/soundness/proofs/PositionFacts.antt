@@ -18,7 +18,7 @@ use Rattle.book.proofs.Tables.{between-numbered}
 use Rattle.layout.specs.View.{rosterOf, balancesOf, openOrders}
 use Rattle.soundness.specs.Soundness.{positionSound, placeSound, accountSound, positionsSound}
 use Rattle.soundness.proofs.Asked.{numbered-between}
-use Rattle.soundness.proofs.Every.{every-out, every-in}
+use Rattle.layout.proofs.Every.{every-out, every-in}
 
 -- the position of account a and instrument i on a side
 abbrev pub positionOf : List ℕ → ℕ → ℕ → Way → ℤ

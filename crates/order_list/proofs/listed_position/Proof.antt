@@ -4,8 +4,7 @@ use mathlib.Core.Path.{_≡_, _∙_}
 use native.Mathlib.Omega.{arith}
 use borrow.Author.Needs.{needs}
 use mir.Syntax.{w64}
-use mir.Val.{toZ}
-use mir.ValLaws.{toZ-ofZ, toZ-pos}
+use mir.ValLaws.{toZ-ofZ}
 use Rattle.words.specs.Words.{signedAt}
 use Rattle.ledger.specs.declared.order.Side.{Side}
 use Rattle.ledger.specs.declared.order.Side.the-variants.{Buy, Sell}
@@ -27,13 +26,15 @@ module _ (c : tie.After-open-in) where
   few-sells : c .open-in .result .sells ≤ 9000000000000000000
   few-sells = omega (arith, rw (← c .open-in .ensures .1) at (c .before .before .before .before .pre .1 .small Sell))
 
-  bought : let a = c .before .before .before .before .args in
-      toZ w64 (c .open-in .result .buys) ≡ openOn one (ordersFrom (a .records .now) 0 (a .n)) Buy (a .account) (a .instrument)
-  bought = toZ-pos w64 (c .open-in .result .buys) (omega (arith, few-buys)) ∙ c .open-in .ensures .0
+bought : (c : tie.After-of)
+    → let a = c .before .before .before .before .before .args in
+    c .of .result .0 ≡ openOn one (ordersFrom (a .records .now) 0 (a .n)) Buy (a .account) (a .instrument)
+bought c = c .of .ensures ∙ c .before .open-in .ensures .0
 
-  sold : let a = c .before .before .before .before .args in
-      toZ w64 (c .open-in .result .sells) ≡ openOn one (ordersFrom (a .records .now) 0 (a .n)) Sell (a .account) (a .instrument)
-  sold = toZ-pos w64 (c .open-in .result .sells) (omega (arith, few-sells)) ∙ c .open-in .ensures .1
+sold : (c : tie.After-of2)
+    → let a = c .before .before .before .before .before .before .args in
+    c .of2 .result .0 ≡ openOn one (ordersFrom (a .records .now) 0 (a .n)) Sell (a .account) (a .instrument)
+sold c = c .of2 .ensures ∙ c .before .before .open-in .ensures .1
 
 open-in-requires : tie.Need-open-in-requires
 open-in-requires c κs =
@@ -42,18 +43,17 @@ open-in-requires c κs =
 
 position-by-requires : tie.Need-position-by-requires
 position-by-requires c κs =
-    let at = c .before .before in
-    let bounds = at .before .before .before .before .pre .1 in
-    rw (balance (at .before), bought at, sold at) (bounds .small Buy, bounds .small Sell)
+    let bounds = c .before .before .before .before .before .before .pre .1 in
+    rw (balance (c .before .before .before), bought (c .before), sold c) (bounds .small Buy, bounds .small Sell)
 
 returns : tie.Need-returns
 unfolding ofInstrument
 returns c =
-    let at = c .before .before .before in
-    let e = balance (at .before) in
+    let at = c .before in
+    let e = balance (at .before .before .before) in
     record {
       its-balance = c .position-by .ensures .0 ∙ e;
-      its-long = c .position-by .ensures .1 ∙ rw (e, bought at);
+      its-long = c .position-by .ensures .1 ∙ rw (e, bought (at .before));
       its-short = c .position-by .ensures .2 ∙ rw (e, sold at);
     }
 
@@ -63,7 +63,7 @@ listed-position-spec =
     (tie.spec
     (λ c κs. search needs)
     open-in-requires
-    (λ c. record { sfits = omega (arith, few-buys (c .before)) })
-    (λ c. record { sfits = omega (arith, few-sells (c .before .before)) })
+    (λ c κs. few-buys c)
+    (λ c κs. few-sells (c .before))
     position-by-requires
     returns)

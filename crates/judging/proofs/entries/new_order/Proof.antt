@@ -20,7 +20,7 @@ new-within-requires c κs =
     let asked = c .before .before in
     let pre = asked .before .before .before .before .before .pre in
     let f = pre .0 in
-    (f, record { on = f .on; set = limits-set _ _ _ (asked .admitted .ensures) (c .enum-told .given .1); small = f .small }, pre .1)
+    (f, record { on = f .on; set = limits-set _ _ _ (asked .admitted .ensures) (c .enum-told .given .1); total = f .small; small = f .small }, pre .1)
 
 returns : tie.Need-returns
 unfolding newRest firstNo numberOf

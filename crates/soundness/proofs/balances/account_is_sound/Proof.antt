@@ -9,7 +9,7 @@ use lib.ListN.{length}
 use Rattle.layout.specs.Rosters.{every}
 use Rattle.layout.specs.View.{rosterOf}
 use Rattle.soundness.specs.Soundness.{placeSound, accountSound}
-use Rattle.soundness.proofs.Every.{every-none, every-no, every-on, every-all}
+use Rattle.layout.proofs.Every.{every-none, every-no, every-on, every-all}
 use Rattle.soundness.proofs.Places.{row-small}
 use Rattle.soundness.proofs.balances.account_is_sound.Statement.{statement}
 use Rattle.soundness.proofs.balances.account_is_sound.Tie as tie

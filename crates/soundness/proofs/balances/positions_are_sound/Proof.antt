@@ -7,7 +7,7 @@ use borrow.Author.Needs.{needs}
 use Rattle.layout.specs.Rosters.{every}
 use Rattle.layout.specs.View.{rosterOf}
 use Rattle.soundness.specs.Soundness.{accountSound, positionsSound}
-use Rattle.soundness.proofs.Every.{every-none, every-no, every-on, every-all}
+use Rattle.layout.proofs.Every.{every-none, every-no, every-on, every-all}
 use Rattle.soundness.proofs.balances.positions_are_sound.Statement.{statement}
 use Rattle.soundness.proofs.balances.positions_are_sound.Tie as tie
 
