@@ -9,7 +9,7 @@ use native.Mathlib.Omega.{arith}
 use lib.Signed.{_≤ℤ_}
 use Rattle.ledger.specs.declared.order.Order.{Order}
 use Rattle.ledger.specs.Roster.{Roster}
-use Rattle.ledger.specs.Positions.{Way, Place, potential}
+use Rattle.ledger.specs.Positions.{Way, Scope, potential}
 use Rattle.ledger.specs.Moves.{Moves}
 use Rattle.limits.specs.Lines.{limit}
 use Rattle.limits.specs.Questions.{firstNo, allPass}
@@ -19,7 +19,8 @@ use Rattle.limits.proofs.Refusals.{accepted-within}
 use Rattle.book.specs.declared.Event.{Event}
 use Rattle.book.specs.Market.{Market}
 use Rattle.book.specs.Books.{Book, work}
-use Rattle.book.specs.Table.{isEvent, accountKnown, itemKnown, figuresFit, notYetTrading, idOpen, quantityFits, entered, idFree, placeFree, whereSome, questionsBefore, positionsAfter, limitQuestions, questions, answer}
+use Rattle.book.specs.Table.{isEvent, accountKnown, itemKnown, figuresFit, notYetTrading, idOpen, quantityFits, entered, idFree}
+use Rattle.book.specs.Table.{placeFree, whereSome, questionsBefore, positionsAfter, limitQuestions, questions, answer}
 
 pub record Passed (mk : Market) (r : Roster) (b : Book) (trading : ℕ → Bool) (e : Event) : Type 0 where
   pub event : isEvent e ≡ true
@@ -39,12 +40,15 @@ pub record Accepted (mk : Market) (r : Roster) (b : Book) (trading : ℕ → Boo
   pub within :
       (o : Order)
       → entered b e ≡ some o
-      → (p : Place) (w : Way)
+      → (p : Scope) (w : Way)
       → Moves r o p w
-      → potential (mk .unit) r (work (mk .unit) b e .orders) (o .account) (work (mk .unit) b e .balanceOf (o .account)) p w ≤ℤ limit r (work (mk .unit) b e .linesOf (o .account)) p w
+      → potential (mk .unit) r (work (mk .unit) b e .orders) (o .account) (work (mk .unit) b e .balanceOf (o .account)) p w ≤ℤ limit r
+      (work (mk .unit) b e .linesOf (o .account)) p w
 
 -- questions 21 to 24 are asked of the order entered or raised
-pub limits-of : (mk : Market) (r : Roster) (b : Book) (e : Event) (o : Order) → entered b e ≡ some o → limitQuestions mk r b e ≡ positionQuestions (mk .unit) r (work (mk .unit) b e .linesOf (o .account)) (work (mk .unit) b e .orders) (work (mk .unit) b e .balanceOf (o .account)) o
+pub limits-of : (mk : Market) (r : Roster) (b : Book) (e : Event) (o : Order) → entered b e ≡ some o
+    → limitQuestions mk r b e ≡ positionQuestions (mk .unit) r (work (mk .unit) b e .linesOf (o .account)) (work (mk .unit) b e .orders)
+    (work (mk .unit) b e .balanceOf (o .account)) o
 unfolding limitQuestions
 limits-of mk r b e o enters = rw enters
 
@@ -82,10 +86,13 @@ module _ (mk : Market) (r : Roster) (b : Book) (trading : ℕ → Bool) (e : Eve
       both : (allPass (questionsBefore mk r b trading e) ≡ true) × (firstNo (limitQuestions mk r b e) ≡ 0)
       both = append-zero (questionsBefore mk r b trading e) (limitQuestions mk r b e) counted z
 
-      inside : (o : Order) → entered b e ≡ some o → (p : Place) (w : Way) → Moves r o p w → potential (mk .unit) r (work (mk .unit) b e .orders) (o .account) (work (mk .unit) b e .balanceOf (o .account)) p w ≤ℤ limit r (work (mk .unit) b e .linesOf (o .account)) p w
+      inside : (o : Order) → entered b e ≡ some o → (p : Scope) (w : Way) → Moves r o p w
+          → potential (mk .unit) r (work (mk .unit) b e .orders) (o .account) (work (mk .unit) b e .balanceOf (o .account)) p w ≤ℤ limit r
+          (work (mk .unit) b e .linesOf (o .account)) p w
       inside o enters =
           let b′ = work (mk .unit) b e in
-          accepted-within (mk .unit) r (b′ .linesOf (o .account)) (b′ .orders) (b′ .balanceOf (o .account)) o (rw (limits-of mk r b e o enters) at (both .1))
+          accepted-within (mk .unit) r (b′ .linesOf (o .account)) (b′ .orders) (b′ .balanceOf (o .account)) o
+          (rw (limits-of mk r b e o enters) at (both .1))
 
 -- 5 is asked of the memory alone: the table never answers it
 pub never-5 : (mk : Market) (r : Roster) (b : Book) (trading : ℕ → Bool) (e : Event) → answer mk r b trading e ≢ 5
@@ -94,10 +101,13 @@ never-5 mk r b trading e = by (entered b e)
   where
     by : (x : Option Order) → firstNo (questionsBefore mk r b trading e ++ positionsAfter mk r (work (mk .unit) b e) x) ≢ 5
     by none = never-answered 5 (questionsBefore mk r b trading e ++ []) (omega arith) (omega arith)
-    by (some o) = never-answered 5 (questionsBefore mk r b trading e ++ positionsAfter mk r (work (mk .unit) b e) (some o)) (omega arith) (omega arith)
+    by (some o) =
+        never-answered 5 (questionsBefore mk r b trading e ++ positionsAfter mk r (work (mk .unit) b e) (some o)) (omega arith)
+        (omega arith)
 
 -- of a sound desk the whole table answers as the rest of it does; of any other it answers 5
-pub sound-answer : (mk : Market) (r : Roster) (b : Book) (trading : ℕ → Bool) (e : Event) → firstNo (questions mk r true b trading e) ≡ answer mk r b trading e
+pub sound-answer : (mk : Market) (r : Roster) (b : Book) (trading : ℕ → Bool) (e : Event)
+    → firstNo (questions mk r true b trading e) ≡ answer mk r b trading e
 unfolding questions answer firstNo
 sound-answer mk r b trading e = refl
 

@@ -8,7 +8,7 @@ use Rattle.ledger.specs.Orders.{remaining, filledBy, replacedTotal, closes}
 use Rattle.ledger.specs.Roster.{groupOfInstrument}
 use Rattle.ledger.specs.Records.{sideOf}
 use Rattle.ledger.specs.Positions.{standsIn, openOn, ofInstrument, groupPart, sumGroup, potential, position}
-use Rattle.ledger.specs.Fillings.{fillMoves, after}
+use Rattle.ledger.specs.Fillings.{fillMoves, balanceAfter}
 use Rattle.limits.specs.Lines.{lineInForce, limit}
 use Rattle.limits.specs.Questions.{firstNo, allPass}
 use Rattle.limits.specs.Asked.{limitsSet, sizeFits, movesInstrument, movesGroup, within, positionQuestions}
@@ -18,9 +18,9 @@ use Rattle.book.specs.OpenOrders.{find, insert, change, kept}
 use Rattle.book.specs.Books.{emptyBook, unsets, lineOf, groupLineOf, setLine, setBlock, newOrder, work, mark}
 use Rattle.book.specs.Table.{isEvent, accountKnown, itemKnown, figuresFit, notYetTrading, idOpen, quantityFits, entered}
 use Rattle.book.specs.Table.{idFree, placeFree, questionsBefore, limitQuestions, answer}
-use Rattle.book.specs.Kept.{begun, keep, memoryAfter, keptAfter}
+use Rattle.book.specs.EventLists.{begun, keep, memoryAfter, stateAfter}
 use Rattle.book.specs.SetAgain.{lineSet, lineOver}
-use Rattle.book.specs.EventBytes.{bytesOf, figure, eventBytes}
+use Rattle.book.specs.EventBytes.{bytesOf, figureBytes, eventBytes}
 use Rattle.book.specs.Written.{asBytes}
 use Rattle.book.specs.Positions.{potentialIn, instrumentIn, groupIn}
 use Rattle.book.specs.Rosters.{rosterIn}
@@ -31,10 +31,11 @@ use Rattle.book.specs.LongerDay.{longerTables, morning, afternoon, eveni
 unfoldable pub computes : Unit {0}
 unfolding
     number u8At u16At u64At i64At signedOf sumOver below remaining filledBy replacedTotal closes groupOfInstrument sideOf standsIn openOn
-    ofInstrument groupPart sumGroup potential position fillMoves after lineInForce limit firstNo allPass limitsSet sizeFits movesInstrument
+    ofInstrument groupPart sumGroup potential position fillMoves balanceAfter lineInForce limit firstNo allPass limitsSet sizeFits
+    movesInstrument
     movesGroup within positionQuestions derivatives one named wellFormed eventOf decode find insert change kept emptyBook unsets lineOf
     groupLineOf setLine setBlock newOrder work mark isEvent accountKnown itemKnown figuresFit notYetTrading idOpen quantityFits entered
-    idFree placeFree questionsBefore limitQuestions answer begun keep memoryAfter keptAfter lineSet lineOver asBytes bytesOf figure
+    idFree placeFree questionsBefore limitQuestions answer begun keep memoryAfter stateAfter lineSet lineOver asBytes bytesOf figureBytes
     eventBytes bitsOf potentialIn instrumentIn groupIn rosterIn edgeTables starredEdges listingTables listingEvents longerTables morning
     afternoon evening
 computes = tt

@@ -3,7 +3,8 @@ use Prim.Native.Nat.{ℕ, suc, _+_, _<_}
 use mathlib.Core.Path.{_≡_, refl, ap}
 use mathlib.Core.Logic.{_↔_, _⊎_, inl, inr, ⊎-elim}
 use mathlib.Core.Bool.{Bool, true, false, cond}
-use mathlib.Core.List.{List, [], _∷_, _++_, List·Memᴰ, List·Memᴰ·head, List·Memᴰ·tail, List·Memᴰ·cases-cons, List·Memᴰ·append-cases, Memᴰ·append-left, Memᴰ·append-right}
+use mathlib.Core.List.{List, [], _∷_, _++_, List·Memᴰ, List·Memᴰ·head, List·Memᴰ·tail, List·Memᴰ·cases-cons, List·Memᴰ·append-cases}
+use mathlib.Core.List.{Memᴰ·append-left, Memᴰ·append-right}
 use mathlib.Core.Option.{none, some}
 use native.Mathlib.Omega.{arith}
 use lib.Dec.{ltb, eqb}
@@ -16,13 +17,16 @@ use Rattle.book.specs.Sound.{Ascending, nothing, next}
 
 -- ---- an order joins
 -- one whose id is not open joins where ids stay ascending
-pub insert-ascending : {least : ℕ} {os : List Order} → Ascending least os → (o : Order) → least < o .id → find (o .id) os ≡ none → Ascending least (insert o os)
+pub insert-ascending : {least : ℕ} {os : List Order} → Ascending least os → (o : Order) → least < o .id → find (o .id) os ≡ none
+    → Ascending least (insert o os)
 unfolding insert find
 insert-ascending nothing o l e = next l nothing
 insert-ascending (next {least} {o = x} {os} h a) o l e =
     by (ltb (o .id) (x .id)) refl (eqb (x .id) (o .id)) refl e (insert-ascending a o)
   where
-    by : (t : Bool) → ltb (o .id) (x .id) ≡ t → (u : Bool) → eqb (x .id) (o .id) ≡ u → cond u (some x) (find (o .id) os) ≡ none → (x .id < o .id → find (o .id) os ≡ none → Ascending (x .id) (insert o os)) → Ascending least (cond t (o ∷ (x ∷ os)) (x ∷ insert o os))
+    by : (t : Bool) → ltb (o .id) (x .id) ≡ t → (u : Bool) → eqb (x .id) (o .id) ≡ u → cond u (some x) (find (o .id) os) ≡ none
+        → (x .id < o .id → find (o .id) os ≡ none → Ascending (x .id) (insert o os))
+        → Ascending least (cond t (o ∷ (x ∷ os)) (x ∷ insert o os))
     by t d true f e rest = absurd (let z : _≡_ {A = ℕ} 0 1 = cc in omega arith)
     by true d false f e rest = next l (next (ltb-true (o .id) (x .id) d) a)
     by false d false f e rest =
@@ -62,7 +66,8 @@ module _ {o : Order} {os : List Order} (j : Joins o os) where
       back : (x ≡ o) ⊎ List·Memᴰ x (j .front ++ j .back) → List·Memᴰ x (j .front ++ (o ∷ j .back))
       back =
           ⊎-elim (λ e. Memᴰ·append-right (j .front) (List·Memᴰ·head e))
-          (λ m. ⊎-elim (λ k. Memᴰ·append-left (o ∷ j .back) k) (λ k. Memᴰ·append-right (j .front) (List·Memᴰ·tail k)) (List·Memᴰ·append-cases (j .front) m))
+          (λ m. ⊎-elim (λ k. Memᴰ·append-left (o ∷ j .back) k) (λ k. Memᴰ·append-right (j .front) (List·Memᴰ·tail k))
+          (List·Memᴰ·append-cases (j .front) m))
 
   joined-length : length (insert o os) ≡ suc (length os)
   joined-length =
@@ -92,13 +97,21 @@ unfolding find change
 standing id [] o e = absurd (let z : _≡_ {A = ℕ} 0 1 = cc in omega arith)
 standing id (x ∷ os) o e = by (eqb (x .id) id) refl e (standing id os o)
   where
-    by : (t : Bool) → eqb (x .id) id ≡ t → cond t (some x) (find id os) ≡ some o → (find id os ≡ some o → Standing id os o) → Standing id (x ∷ os) o
+    by : (t : Bool) → eqb (x .id) id ≡ t → cond t (some x) (find id os) ≡ some o → (find id os ≡ some o → Standing id os o)
+        → Standing id (x ∷ os) o
     by true d e rest =
         let same : x ≡ o = cc in
         record { front = []; back = os; whole = rw same; named = rw (← same) (eqb-true (x .id) id d); changed = λ f. rw (d, same) }
     by false d e rest =
         let s = rest e in
-        record { front = x ∷ s .front; back = s .back; whole = ap (λ xs. x ∷ xs) (s .whole); named = s .named; changed = λ f. rw d (ap (λ xs. x ∷ xs) (s .changed f)) }
+        record {
+          front = x ∷ s .front;
+          back = s .back;
+          whole = ap (λ xs. x ∷ xs) (s .whole);
+          named = s .named;
+          changed =
+              λ f. rw d (ap (λ xs. x ∷ xs) (s .changed f));
+        }
 
 module _ {id : ℕ} {os : List Order} {o : Order} (s : Standing id os o) where
   pub standing-member : List·Memᴰ o os
@@ -115,7 +128,8 @@ module _ {id : ℕ} {os : List Order} {o : Order} (s : Standing id os o) where
   pub change-members : (f : Order → List Order) (x : Order) → List·Memᴰ x (change id f os) → List·Memᴰ x (f o) ⊎ List·Memᴰ x os
   change-members f x m =
       ⊎-elim (λ k. inr (rw (s .whole) (Memᴰ·append-left (o ∷ s .back) k)))
-      (λ k. ⊎-elim (λ h. inl h) (λ h. inr (rw (s .whole) (Memᴰ·append-right (s .front) (List·Memᴰ·tail h)))) (List·Memᴰ·append-cases (f o) k))
+      (λ k. ⊎-elim (λ h. inl h) (λ h. inr (rw (s .whole) (Memᴰ·append-right (s .front) (List·Memᴰ·tail h))))
+      (List·Memᴰ·append-cases (f o) k))
       (List·Memᴰ·append-cases (s .front) (rw (s .changed f) at m))
 
   pub change-length : (f : Order → List Order) → length (change id f os) + 1 ≡ length os + length (f o)

@@ -12,7 +12,7 @@ use Rattle.book.specs.Market.{derivatives}
 use Rattle.book.specs.Decoding.{decode}
 use Rattle.book.specs.Books.{Book, withOrders, newOrder, work}
 use Rattle.book.specs.Table.{answer}
-use Rattle.book.specs.Kept.{Kept, begun}
+use Rattle.book.specs.EventLists.{State, begun}
 use Rattle.book.specs.Positions.{instrumentIn}
 use Rattle.book.specs.Days.{answersTo, endOf, decoded}
 use Rattle.book.specs.EventBytes.{line, groupLine, balance, buy}
@@ -40,7 +40,7 @@ abbrev minus : ℕ → ℤ
 minus n = negℤ (pos n)
 
 -- what is kept of a day
-abbrev after : List (List ℕ) → Kept
+abbrev after : List (List ℕ) → State
 after es = endOf roster begun (decoded es)
 
 -- the answer to N after events that are accepted; 1000 where one is not

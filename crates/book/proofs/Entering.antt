@@ -42,7 +42,8 @@ raised-found n (some y) o e = (y, refl, by (ltb (y .total) n) e)
     by true e = cc
     by false e = none-enters o e
 
-pub enters-marked : (mk : Market) (r : Roster) (b : Book) (trading : ℕ → Bool) → Sound mk r b trading → (e : Event) (o : Order) → entered b e ≡ some o → mark trading e (o .account) ≡ true
+pub enters-marked : (mk : Market) (r : Roster) (b : Book) (trading : ℕ → Bool) → Sound mk r b trading → (e : Event) (o : Order)
+    → entered b e ≡ some o → mark trading e (o .account) ≡ true
 unfolding entered mark newOrder replacedTotal
 enters-marked mk r b trading sound (Limit c l) o enters = none-enters o enters
 enters-marked mk r b trading sound (Balance c i z) o enters = none-enters o enters

@@ -18,7 +18,7 @@ use Rattle.ledger.specs.declared.order.Side.the-variants.{Buy, Sell}
 use Rattle.ledger.specs.Orders.{remaining, filledBy}
 use Rattle.ledger.specs.Roster.{Roster}
 use Rattle.ledger.specs.Positions.{toward, wayOf, standsIn}
-use Rattle.ledger.specs.Fillings.{Filling, none, fill, fillMoves, after}
+use Rattle.ledger.specs.Fillings.{Filling, none, fill, fillMoves, balanceAfter}
 use Rattle.book.specs.declared.Event.the-variants.{Fill}
 use Rattle.book.specs.Market.{Market, UnitKept}
 use Rattle.book.specs.OpenOrders.{find, change, kept}
@@ -35,26 +35,31 @@ use Rattle.book.proofs.Fills.{leaves, no-fill, kept-whole, after-moved,
 -- a filling f that moves each balance as `moved` says, and leaves `rest` open
 abbrev pub Makes : (Order → ℕ) → List Order → (ℕ → ℕ → ℤ) → List Order → Type 0
 Makes unit os moved rest =
-    (f : Filling os) × ((a : ℕ) (S : ℕ → ℤ) (i : ℕ) → after unit a S f i ≡ S i +ℤ moved a i) × (leaves f ≡ rest)
+    (f : Filling os) × ((a : ℕ) (S : ℕ → ℤ) (i : ℕ) → balanceAfter unit a S f i ≡ S i +ℤ moved a i) × (leaves f ≡ rest)
 
 module _ (unit : Order → ℕ) where
   by-nothing : (os : List Order) → ((x : Order) → List·Memᴰ x os → 1 ≤ remaining x) → Makes unit os (λ a i. pos 0) os
-  unfolding after leaves
+  unfolding balanceAfter leaves
   by-nothing [] open-each = (none, λ a S i. sym (+ℤ-idr (S i)), refl)
   by-nothing (o ∷ os) open-each =
       let h = by-nothing os (λ x m. open-each x (List·Memᴰ·tail m)) in (
         fill {o = o} 0 (omega arith) (h .0),
-        λ a S i. ap (λ x. x +ℤ fillMoves unit a i o 0) (h .1 a S i) ∙ ap (λ x. S i +ℤ pos 0 +ℤ x) (no-fill unit a i o) ∙ +ℤ-idr (S i +ℤ pos 0),
+        λ a S i. ap (λ x. x +ℤ fillMoves unit a i o 0) (h .1 a S i) ∙ ap (λ x. S i +ℤ pos 0 +ℤ x) (no-fill unit a i o)
+            ∙ +ℤ-idr (S i +ℤ pos 0),
         rw (kept-whole o (open-each o (List·Memᴰ·head refl)), h .2),
       )
 
-  of-one : (os : List Order) → ((x : Order) → List·Memᴰ x os → 1 ≤ remaining x) → (id n : ℕ) (o : Order) → find id os ≡ some o → n ≤ remaining o → Makes unit os (λ a i. fillMoves unit a i o n) (change id (λ y. kept (filledBy y n)) os)
-  unfolding after leaves find change
+  of-one : (os : List Order) → ((x : Order) → List·Memᴰ x os → 1 ≤ remaining x) → (id n : ℕ) (o : Order) → find id os ≡ some o
+      → n ≤ remaining o → Makes unit os (λ a i. fillMoves unit a i o n) (change id (λ y. kept (filledBy y n)) os)
+  unfolding balanceAfter leaves find change
   of-one [] open-each id n o found most = absurd (let z : _≡_ {A = ℕ} 0 1 = cc in omega arith)
   of-one (x ∷ os) open-each id n o found most =
       by (eqb (x .id) id) found (λ e. of-one os (λ y m. open-each y (List·Memᴰ·tail m)) id n o e most)
     where
-      by : (t : Bool) → cond t (some x) (find id os) ≡ some o → (find id os ≡ some o → Makes unit os (λ a i. fillMoves unit a i o n) (change id (λ y. kept (filledBy y n)) os)) → Makes unit (x ∷ os) (λ a i. fillMoves unit a i o n) (cond t (kept (filledBy x n) ++ os) (x ∷ change id (λ y. kept (filledBy y n)) os))
+      by : (t : Bool) → cond t (some x) (find id os) ≡ some o
+          → (find id os ≡ some o → Makes unit os (λ a i. fillMoves unit a i o n) (change id (λ y. kept (filledBy y n)) os))
+          → Makes unit (x ∷ os) (λ a i. fillMoves unit a i o n)
+          (cond t (kept (filledBy x n) ++ os) (x ∷ change id (λ y. kept (filledBy y n)) os))
       by true e rest =
           let same : x ≡ o = cc in
           let h = by-nothing os (λ y m. open-each y (List·Memᴰ·tail m)) in (
@@ -65,7 +70,8 @@ module _ (unit : Order → ℕ) where
       by false e rest =
           let h = rest e in (
             fill {o = x} 0 (omega arith) (h .0),
-            λ a S i. ap (λ z. after unit a S (h .0) i +ℤ z) (no-fill unit a i x) ∙ +ℤ-idr (after unit a S (h .0) i) ∙ h .1 a S i,
+            λ a S i. ap (λ z. balanceAfter unit a S (h .0) i +ℤ z) (no-fill unit a i x) ∙ +ℤ-idr (balanceAfter unit a S (h .0) i)
+                ∙ h .1 a S i,
             rw (kept-whole x (open-each x (List·Memᴰ·head refl)), h .2),
           )
 
@@ -76,41 +82,56 @@ data Stays (o : Order) : List Order → Type 0 where
   stays : kept o ≡ o ∷ [] → Stays o (o ∷ [])
 
 stays? : (o : Order) → Stays o (kept o)
-stays? o = by-cases (ℕ-discrete (remaining o) 0) (λ e. rw (kept-none o e) (closed (kept-none o e))) (λ h. rw (kept-some o h) (stays (kept-some o h)))
+stays? o =
+    by-cases (ℕ-discrete (remaining o) 0) (λ e. rw (kept-none o e) (closed (kept-none o e)))
+    (λ h. rw (kept-some o h) (stays (kept-some o h)))
 
-fill-more : (unit : Order → ℕ) (a i : ℕ) (o : Order) (n m : ℕ) → unit (filledBy o n) ≡ unit o → fillMoves unit a i o (n + m) ≡ fillMoves unit a i o n +ℤ fillMoves unit a i (filledBy o n) m
+fill-more : (unit : Order → ℕ) (a i : ℕ) (o : Order) (n m : ℕ) → unit (filledBy o n) ≡ unit o
+    → fillMoves unit a i o (n + m) ≡ fillMoves unit a i o n +ℤ fillMoves unit a i (filledBy o n) m
 unfolding fillMoves filledBy standsIn
 fill-more unit a i o n m same = rw same (by (standsIn a i o) (o .side) (unit o))
   where
-    by : (t : Bool) (s : Side) (u : ℕ) → cond t (toward (wayOf s) (pos (u * (n + m)))) (pos 0) ≡ cond t (toward (wayOf s) (pos (u * n))) (pos 0) +ℤ cond t (toward (wayOf s) (pos (u * m))) (pos 0)
+    by : (t : Bool) (s : Side) (u : ℕ) → cond t (toward (wayOf s) (pos (u * (n + m)))) (pos 0) ≡ cond t (toward (wayOf s) (pos (u * n)))
+        (pos 0) +ℤ cond t (toward (wayOf s) (pos (u * m))) (pos 0)
     by true Buy u = omega signed
     by true Sell u =
-        omega (signed, negation-parts (pos (u * (n + m))), negation-parts (pos (u * n)), negation-parts (pos (u * m)), sum-parts (negℤ (pos (u * n))) (negℤ (pos (u * m))))
+        omega (
+          signed,
+          negation-parts (pos (u * (n + m))),
+          negation-parts (pos (u * n)),
+          negation-parts (pos (u * m)),
+          sum-parts (negℤ (pos (u * n))) (negℤ (pos (u * m))),
+        )
     by false s u = refl
 
 filled-twice : (o : Order) (n m : ℕ) → filledBy (filledBy o n) m ≡ filledBy o (n + m)
 unfolding filledBy
 filled-twice o n m =
-    ap (λ k. record { id = o .id; account = o .account; instrument = o .instrument; side = o .side; total = o .total; filled = k }) (omega arith)
+    ap (λ k. record { id = o .id; account = o .account; instrument = o .instrument; side = o .side; total = o .total; filled = k })
+    (omega arith)
 
 abbrev Joins : (Order → ℕ) → {os : List Order} (f : Filling os) {rest : List Order} (g : Filling rest) → Type 0
 Joins unit {os} f g =
-    (h : Filling os) × ((a : ℕ) (S : ℕ → ℤ) (i : ℕ) → after unit a S h i ≡ after unit a (after unit a S f) g i) × (leaves h ≡ leaves g)
+    (h : Filling os) × ((a : ℕ) (S : ℕ → ℤ) (i : ℕ) → balanceAfter unit a S h i ≡ balanceAfter unit a (balanceAfter unit a S f) g i)
+    × (leaves h ≡ leaves g)
 
 module _ (unit : Order → ℕ) (same-unit : (o : Order) (n : ℕ) → unit (filledBy o n) ≡ unit o) where
   joined : {os : List Order} (f : Filling os) (g : Filling (leaves f)) → Joins unit f g
-  unfolding after leaves
+  unfolding balanceAfter leaves
   joined none g = ends g
     where
       ends : (g : Filling []) → Joins unit none g
       ends none = (none, λ a S i. refl, refl)
   joined (fill {o} {orders} n most f) g = go (kept (filledBy o n)) (stays? (filledBy o n)) g (joined f)
     where
-      go : (l : List Order) → Stays (filledBy o n) l → (g : Filling (l ++ leaves f)) → ((g : Filling (leaves f)) → Joins unit f g) → Joins unit (fill {o = o} n most f) g
+      go : (l : List Order) → Stays (filledBy o n) l → (g : Filling (l ++ leaves f)) → ((g : Filling (leaves f)) → Joins unit f g)
+          → Joins unit (fill {o = o} n most f) g
       go l (closed e) g rest =
           let h = rest g in (
             fill {o = o} n most (h .0),
-            λ a S i. ap (λ z. z +ℤ fillMoves unit a i o n) (h .1 a S i) ∙ sym (after-moved unit a (after unit a S f) (λ j. after unit a S f j +ℤ fillMoves unit a j o n) (λ j. fillMoves unit a j o n) g i refl),
+            λ a S i. ap (λ z. z +ℤ fillMoves unit a i o n) (h .1 a S i)
+                ∙ sym (after-moved unit a (balanceAfter unit a S f) (λ j. balanceAfter unit a S f j +ℤ fillMoves unit a j o n)
+                (λ j. fillMoves unit a j o n) g i refl),
             rw (e, h .2),
           )
       go l (stays e) (fill m most′ g) rest =
@@ -118,11 +139,21 @@ module _ (unit : Order → ℕ) (same-unit : (o : Order) (n : ℕ) → unit (fil
           let fits = filled-remaining o n in (
             fill {o = o} (n + m) (omega arith) (h .0),
             λ a S i.
-                let x = after unit a (after unit a S f) g i in
-                let y = after unit a (λ j. after unit a S f j +ℤ fillMoves unit a j o n) g i in
+                let x = balanceAfter unit a (balanceAfter unit a S f) g i in
+                let y = balanceAfter unit a (λ j. balanceAfter unit a S f j +ℤ fillMoves unit a j o n) g i in
                 let more = fillMoves unit a i (filledBy o n) m in
                 let first = fillMoves unit a i o n in
-                omega (signed, h .1 a S i, after-moved unit a (after unit a S f) (λ j. after unit a S f j +ℤ fillMoves unit a j o n) (λ j. fillMoves unit a j o n) g i refl, fill-more unit a i o n m (same-unit o n), sum-parts (after unit a S (h .0) i) (fillMoves unit a i o (n + m)), sum-parts y more, sum-parts x first, sum-parts first more),
+                omega (
+                  signed,
+                  h .1 a S i,
+                  after-moved unit a (balanceAfter unit a S f)
+                      (λ j. balanceAfter unit a S f j +ℤ fillMoves unit a j o n) (λ j. fillMoves unit a j o n) g i refl,
+                  fill-more unit a i o n m (same-unit o n),
+                  sum-parts (balanceAfter unit a S (h .0) i) (fillMoves unit a i o (n + m)),
+                  sum-parts y more,
+                  sum-parts x first,
+                  sum-parts first more,
+                ),
             rw (← filled-twice o n m, h .2),
           )
 
@@ -130,18 +161,20 @@ module _ (unit : Order → ℕ) (same-unit : (o : Order) (n : ℕ) → unit (fil
 -- of a book's open orders, with the balances and the orders that another book has
 pub record FilledTo (mk : Market) (b b′ : Book) : Type 0 where
   pub filling : Filling (b .orders)
-  pub balances : (a i : ℕ) → b′ .balanceOf a i ≡ after (mk .unit) a (b .balanceOf a) filling i
+  pub balances : (a i : ℕ) → b′ .balanceOf a i ≡ balanceAfter (mk .unit) a (b .balanceOf a) filling i
   pub orders : b′ .orders ≡ leaves filling
 
 module _ (mk : Market) (keeps : UnitKept mk) (r : Roster) (trading : ℕ → Bool) where
   -- one accepted FILL is a filling of the order that it names, by its quantity
-  pub fill-filling : (b : Book) → Sound mk r b trading → (id : ℕ) (n : ℤ) → answer mk r b trading (Fill id n) ≡ 0 → FilledTo mk b (work (mk .unit) b (Fill id n))
+  pub fill-filling : (b : Book) → Sound mk r b trading → (id : ℕ) (n : ℤ) → answer mk r b trading (Fill id n) ≡ 0
+      → FilledTo mk b (work (mk .unit) b (Fill id n))
   unfolding work idOpen quantityFits
   fill-filling b sound id n zero =
       let ok = accepted mk r b trading (Fill id n) zero .passed in
       let f = found-order id b (ok .found) in
       let o = f .0 in
-      let most = leb-true (natAbs n) (remaining o) (test-found (λ x. leb (natAbs n) (remaining x)) (find id (b .orders)) o (f .1) (ok .quantity)) in
+      let most = leb-true (natAbs n) (remaining o)
+      (test-found (λ x. leb (natAbs n) (remaining x)) (find id (b .orders)) o (f .1) (ok .quantity)) in
       let h = of-one (mk .unit) (b .orders) (λ x m. sound .fits x m .remains) id (natAbs n) o (f .1) most in
       record {
         filling = h .0;
@@ -159,7 +192,7 @@ module _ (mk : Market) (keeps : UnitKept mk) (r : Roster) (trading : ℕ → Boo
         filling = h .0;
         balances = λ a i.
             second .balances a i
-            ∙ ap (λ S. after (mk .unit) a S (second .filling) i) (fun-ext (first .balances a))
+            ∙ ap (λ S. balanceAfter (mk .unit) a S (second .filling) i) (fun-ext (first .balances a))
             ∙ sym (h .1 a (b .balanceOf a) i);
         orders = second .orders ∙ sym (h .2);
       }
@@ -170,4 +203,5 @@ module _ (mk : Market) (keeps : UnitKept mk) (r : Roster) (trading : ℕ → Boo
       let h = by-nothing (mk .unit) (b .orders) (λ x m. sound .fits x m .remains) in
       record { filling = h .0; balances = λ a i. sym (h .1 a (b .balanceOf a) i ∙ +ℤ-idr (b .balanceOf a i)); orders = sym (h .2) }
   filling-of (then {b} {b′} id n zero rest) sound =
-      then-filled b (work (mk .unit) b (Fill id n)) b′ (fill-filling b sound id n zero) (filling-of rest (sound-step mk keeps r b trading sound (Fill id n) tt zero))
+      then-filled b (work (mk .unit) b (Fill id n)) b′ (fill-filling b sound id n zero)
+      (filling-of rest (sound-step mk keeps r b trading sound (Fill id n) tt zero))

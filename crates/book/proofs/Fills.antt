@@ -17,14 +17,15 @@ use Rattle.ledger.specs.declared.order.Side.the-variants.{Buy, Sell}
 use Rattle.ledger.specs.Orders.{remaining, filledBy}
 use Rattle.ledger.specs.Roster.{Roster}
 use Rattle.ledger.specs.Positions.{toward, wayOf, standsIn}
-use Rattle.ledger.specs.Fillings.{Filling, none, fill, fillMoves, after}
+use Rattle.ledger.specs.Fillings.{Filling, none, fill, fillMoves, balanceAfter}
 use Rattle.limits.specs.Questions.{firstNo}
 use Rattle.limits.proofs.Answers.{and-true}
 use Rattle.book.specs.declared.Event.the-variants.{Fill}
 use Rattle.book.specs.Market.{Market, UnitKept}
 use Rattle.book.specs.OpenOrders.{find, change, kept}
 use Rattle.book.specs.Books.{Book, work, mark}
-use Rattle.book.specs.Table.{isEvent, accountKnown, itemKnown, figuresFit, isQuantity, notYetTrading, idOpen, quantityFits, entered, idFree, placeFree, questionsBefore, limitQuestions, answer}
+use Rattle.book.specs.Table.{isEvent, accountKnown, itemKnown, figuresFit, isQuantity, notYetTrading, idOpen, quantityFits, entered}
+use Rattle.book.specs.Table.{idFree, placeFree, questionsBefore, limitQuestions, answer}
 use Rattle.book.specs.Sound.{OrderFits, Sound}
 use Rattle.book.proofs.Ids.{find-member, ascending-before, change-between}
 use Rattle.book.proofs.Shifts.{kept-some, fill-balances}
@@ -54,7 +55,8 @@ no-fill unit a i o = by (standsIn a i o) (o .side)
 filled-none : (o : Order) → filledBy o 0 ≡ o
 unfolding filledBy
 filled-none o =
-    ap (λ n. record { id = o .id; account = o .account; instrument = o .instrument; side = o .side; total = o .total; filled = n }) (omega arith)
+    ap (λ n. record { id = o .id; account = o .account; instrument = o .instrument; side = o .side; total = o .total; filled = n })
+    (omega arith)
 
 remaining-total : (o : Order) → remaining o ≤ o .total
 unfolding remaining
@@ -64,22 +66,33 @@ pub kept-whole : (o : Order) → 1 ≤ remaining o → kept (filledBy o 0) ≡ o
 kept-whole o l = rw (filled-none o) (kept-some o (omega arith))
 
 -- balances that differ by d differ by d after the same filling
-pub after-moved : (unit : Order → ℕ) (a : ℕ) (S S′ d : ℕ → ℤ) {os : List Order} (f : Filling os) (i : ℕ) → S′ i ≡ S i +ℤ d i → after unit a S′ f i ≡ after unit a S f i +ℤ d i
-unfolding after
+pub after-moved : (unit : Order → ℕ) (a : ℕ) (S S′ d : ℕ → ℤ) {os : List Order} (f : Filling os) (i : ℕ) → S′ i ≡ S i +ℤ d i
+    → balanceAfter unit a S′ f i ≡ balanceAfter unit a S f i +ℤ d i
+unfolding balanceAfter
 after-moved unit a S S′ d none i e = e
 after-moved unit a S S′ d (fill {o} n most f) i e =
-    let x = after unit a S f i in
+    let x = balanceAfter unit a S f i in
     let m = fillMoves unit a i o n in
-    omega (signed, after-moved unit a S S′ d f i e, sum-parts x (d i), sum-parts (after unit a S′ f i) m, sum-parts x m, sum-parts (x +ℤ m) (d i))
+    omega (
+      signed,
+      after-moved unit a S S′ d f i e,
+      sum-parts x (d i),
+      sum-parts (balanceAfter unit a S′ f i) m,
+      sum-parts x m,
+      sum-parts (x +ℤ m) (d i),
+    )
 
 -- ---- accepted FILLs, worked one after the other
 pub data Fills (mk : Market) (r : Roster) (trading : ℕ → Bool) : Book → Book → Type 0 where
   done : {b : Book} → Fills mk r trading b b
-  then : {b b′ : Book} (id : ℕ) (n : ℤ) → answer mk r b trading (Fill id n) ≡ 0 → Fills mk r trading (work (mk .unit) b (Fill id n)) b′ → Fills mk r trading b b′
+  then : {b b′ : Book} (id : ℕ) (n : ℤ) → answer mk r b trading (Fill id n) ≡ 0 → Fills mk r trading (work (mk .unit) b (Fill id n)) b′
+      → Fills mk r trading b b′
 
 -- a FILL of an open order by what remains or less is accepted
-fill-accepted : (mk : Market) (r : Roster) (b : Book) (trading : ℕ → Bool) (id n : ℕ) (o : Order) → find id (b .orders) ≡ some o → 1 ≤ n → n ≤ 1000000 → n ≤ remaining o → answer mk r b trading (Fill id (pos n)) ≡ 0
-unfolding answer questionsBefore limitQuestions firstNo isEvent accountKnown itemKnown figuresFit notYetTrading idOpen quantityFits entered idFree placeFree
+fill-accepted : (mk : Market) (r : Roster) (b : Book) (trading : ℕ → Bool) (id n : ℕ) (o : Order) → find id (b .orders) ≡ some o → 1 ≤ n
+    → n ≤ 1000000 → n ≤ remaining o → answer mk r b trading (Fill id (pos n)) ≡ 0
+unfolding answer questionsBefore limitQuestions firstNo isEvent accountKnown itemKnown figuresFit notYetTrading idOpen quantityFits entered
+    idFree placeFree
 fill-accepted mk r b trading id n o found low high most = rw (quantity, found, le-leb n (remaining o) most)
   where
     quantity : isQuantity (pos n) ≡ true
@@ -87,16 +100,18 @@ fill-accepted mk r b trading id n o found low high most = rw (quantity, found, l
 
 -- ---- every filling is worked by accepted FILLs
 -- b′ is what the filling makes of the book: the balances after it, and what it leaves open, behind the orders in front
-pub record Worked (mk : Market) (r : Roster) (trading : ℕ → Bool) (b : Book) (front : List Order) {os : List Order} (f : Filling os) : Type 0 where
+pub record Worked (mk : Market) (r : Roster) (trading : ℕ → Bool) (b : Book) (front : List Order) {os : List Order} (f : Filling os) :
+    Type 0 where
   pub book : Book
   pub fills : Fills mk r trading b book
-  pub balances : (a i : ℕ) → book .balanceOf a i ≡ after (mk .unit) a (b .balanceOf a) f i
+  pub balances : (a i : ℕ) → book .balanceOf a i ≡ balanceAfter (mk .unit) a (b .balanceOf a) f i
   pub orders : book .orders ≡ front ++ leaves f
 
 module _ (mk : Market) (keeps : UnitKept mk) (r : Roster) (trading : ℕ → Bool) where
   -- the orders in front are done
-  fills-behind : {os : List Order} (f : Filling os) (front : List Order) (b : Book) → Sound mk r b trading → b .orders ≡ front ++ os → Worked mk r trading b front f
-  unfolding after leaves work mark
+  fills-behind : {os : List Order} (f : Filling os) (front : List Order) (b : Book) → Sound mk r b trading → b .orders ≡ front ++ os
+      → Worked mk r trading b front f
+  unfolding balanceAfter leaves work mark
   fills-behind none front b sound whole = record { book = b; fills = done; balances = λ a i. refl; orders = whole }
   fills-behind (fill {o} {orders} n most f) front b sound whole =
       by-cases (ℕ-discrete n 0)
@@ -135,19 +150,22 @@ module _ (mk : Market) (keeps : UnitKept mk) (r : Roster) (trading : ℕ → Boo
             book = w .book;
             fills = w .fills;
             balances = λ a i.
-                let x = after (mk .unit) a (b .balanceOf a) f i in
+                let x = balanceAfter (mk .unit) a (b .balanceOf a) f i in
                 w .balances a i ∙ sym (ap (λ z. x +ℤ z) (ap (fillMoves (mk .unit) a i o) e ∙ no-fill (mk .unit) a i o) ∙ +ℤ-idr x);
             orders =
                 w .orders ∙ append-assoc front (o ∷ []) (leaves f)
                 ∙ ap (λ xs. front ++ (xs ++ leaves f)) (sym (ap (λ m. kept (filledBy o m)) e ∙ kept-whole o (fits .remains)));
           }
 
-      filled : n ≢ 0 → Worked mk r trading (work (mk .unit) b (Fill (o .id) (pos n))) (front ++ kept (filledBy o n)) f → Worked mk r trading b front (fill {o = o} n most f)
+      filled : n ≢ 0 → Worked mk r trading (work (mk .unit) b (Fill (o .id) (pos n))) (front ++ kept (filledBy o n)) f
+          → Worked mk r trading b front (fill {o = o} n most f)
       filled h w =
           record {
             book = w .book;
             fills = then (o .id) (pos n) (accepted₁ h) (w .fills);
-            balances = λ a i. w .balances a i ∙ after-moved (mk .unit) a (b .balanceOf a) (b₁ .balanceOf a) (λ j. fillMoves (mk .unit) a j o n) f i (fill-balances mk b keeps (o .id) o found (pos n) a i);
+            balances =
+                λ a i. w .balances a i ∙ after-moved (mk .unit) a (b .balanceOf a) (b₁ .balanceOf a) (λ j. fillMoves (mk .unit) a j o n) f i
+                (fill-balances mk b keeps (o .id) o found (pos n) a i);
             orders = w .orders ∙ append-assoc front (kept (filledBy o n)) (leaves f);
           }
 

@@ -15,12 +15,12 @@ use Rattle.ledger.specs.declared.order.Order.{Order}
 use Rattle.ledger.specs.declared.order.Side.{Side}
 use Rattle.ledger.specs.Orders.{remaining}
 use Rattle.ledger.specs.Roster.{Roster, Numbered, groupOfInstrument}
-use Rattle.ledger.specs.Positions.{Way, long, short, Place, instrument, group, opposite, wayOf, wayBy, ofInstrument, sumGroup, potential}
+use Rattle.ledger.specs.Positions.{Way, long, short, Scope, instrument, group, opposite, wayOf, wayBy, ofInstrument, sumGroup, potential}
 use Rattle.ledger.specs.Moves.{Moves}
 use Rattle.ledger.proofs.Ways.{by-number}
 use Rattle.ledger.proofs.Groups.{groupTerm, group-sum}
-use Rattle.ledger.proofs.Places.{weight-way, wayTo, figure, potential-figure, potential-same}
-use Rattle.ledger.proofs.Changes.{Shifted, shift-own, shift-unmoved, fill-level}
+use Rattle.ledger.proofs.Scopes.{weight-way, wayTo, weightedAt, potential-weighted, potential-same}
+use Rattle.ledger.proofs.Changes.{CountChanged, shift-own, shift-unmoved, fill-level}
 use Rattle.book.specs.declared.Event.the-variants.{New, Replace, Cancel, Fill}
 use Rattle.book.specs.Market.{Market, UnitKept}
 use Rattle.book.specs.OpenOrders.{find}
@@ -70,10 +70,10 @@ module _ (unit : Order → ℕ) (r : Roster) (a : ℕ) (orders orders′ : List 
       → ofInstrument unit orders′ a S′ i (wayBy (r .weight i) w) ≡ ofInstrument unit orders a S i (wayBy (r .weight i) w) +ℤ d
       → potential unit r orders′ a S′ (group (groupOfInstrument r i)) w
       ≡ potential unit r orders a S (group (groupOfInstrument r i)) w +ℤ pos (natAbs (r .weight i)) *ℤ d
-  unfolding figure
+  unfolding weightedAt
   group-moved numbered same d moved =
       let g = group (groupOfInstrument r i) in
-      rw (potential-figure unit r orders a S g w, potential-figure unit r orders′ a S′ g w)
+      rw (potential-weighted unit r orders a S g w, potential-weighted unit r orders′ a S′ g w)
       (sum-moved r _ _ i numbered
       (λ j apart. ap (λ (z : ℤ). pos (natAbs (r .weight j)) *ℤ z) (same j apart (wayBy (r .weight j) w)))
       (pos (natAbs (r .weight i)) *ℤ d)
@@ -118,7 +118,7 @@ module _ (mk : Market) (r : Roster) (b : Book) where
     abbrev counts : ℕ → ℤ
     counts m = pos (mk .unit o * m)
 
-    shifted-group : {m m′ : ℕ} {orders : List Order} → Shifted (mk .unit) o m m′ (b .orders) orders
+    shifted-group : {m m′ : ℕ} {orders : List Order} → CountChanged (mk .unit) o m m′ (b .orders) orders
         → Numbered (r .instruments) (o .instrument)
         → Moves r o (group (groupOfInstrument r (o .instrument))) w
         → ownSide (withOrders b orders) ≡ ownSide b +ℤ pos (natAbs (r .weight (o .instrument))) *ℤ (counts m′ -ℤ counts m)
@@ -167,10 +167,10 @@ module _ (mk : Market) (r : Roster) (b : Book) where
     abbrev filled : Book
     filled = work (mk .unit) b (Fill id n)
 
-    abbrev own : Place
+    abbrev own : Scope
     own = group (groupOfInstrument r (o .instrument))
 
-    abbrev ofAccount : Book → Place → Way → ℤ
+    abbrev ofAccount : Book → Scope → Way → ℤ
     ofAccount book p w = potentialOf mk r book (o .account) p w
 
     -- other instruments stay

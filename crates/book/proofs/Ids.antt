@@ -4,7 +4,8 @@ use Prim.Native.Nat.{ℕ, _≤_, _<_}
 use mathlib.Core.Path.{_≡_, refl, ap}
 use mathlib.Core.Logic.{_↔_, _≢_, _⊎_, inl, inr, ⊎-elim}
 use mathlib.Core.Bool.{Bool, true, false, cond}
-use mathlib.Core.List.{List, [], _∷_, _++_, List·Memᴰ, List·Memᴰ·head, List·Memᴰ·tail, List·Memᴰ·not-nil, List·Memᴰ·cases-cons, List·Memᴰ·append-cases, Memᴰ·append-left, Memᴰ·append-right}
+use mathlib.Core.List.{List, [], _∷_, _++_, List·Memᴰ, List·Memᴰ·head, List·Memᴰ·tail, List·Memᴰ·not-nil, List·Memᴰ·cases-cons}
+use mathlib.Core.List.{List·Memᴰ·append-cases, Memᴰ·append-left, Memᴰ·append-right}
 use mathlib.Core.Option.{some}
 use native.Mathlib.Omega.{arith}
 use lib.Dec.{eqb}
@@ -48,7 +49,8 @@ ascending-above (next {least} {o} {os} h a) x m =
 
 -- ---- find
 -- the order that is found is the member with that id: where it stands makes no difference
-pub find-member : {least : ℕ} {os : List Order} → Ascending least os → (n : ℕ) (o : Order) → (find n os ≡ some o) ↔ (List·Memᴰ o os × (o .id ≡ n))
+pub find-member : {least : ℕ} {os : List Order} → Ascending least os → (n : ℕ) (o : Order) → (find n os ≡ some o)
+    ↔ (List·Memᴰ o os × (o .id ≡ n))
 unfolding find
 find-member nothing n o =
     (λ e. absurd (let z : _≡_ {A = ℕ} 0 1 = cc in omega arith), λ h. absurd (List·Memᴰ·not-nil (h .0)))
@@ -69,45 +71,55 @@ find-member (next {o = x} {os} l a) n o =
     )
 
 -- ---- an order changes
-pub change-ascending : {least : ℕ} {os : List Order} → Ascending least os → (id : ℕ) (f : Order → List Order) → ((o : Order) → Became o (f o)) → Ascending least (change id f os)
+pub change-ascending : {least : ℕ} {os : List Order} → Ascending least os → (id : ℕ) (f : Order → List Order)
+    → ((o : Order) → Became o (f o)) → Ascending least (change id f os)
 unfolding change
 change-ascending nothing id f b = nothing
 change-ascending (next {least} {o = x} {os} h a) id f b = by (eqb (x .id) id) (f x) (b x) (change-ascending a id f b)
   where
-    by : (t : Bool) (l : List Order) → Became x l → Ascending (x .id) (change id f os) → Ascending least (cond t (l ++ os) (x ∷ change id f os))
+    by : (t : Bool) (l : List Order) → Became x l → Ascending (x .id) (change id f os)
+        → Ascending least (cond t (l ++ os) (x ∷ change id f os))
     by true l gone rest = ascending-from (omega arith) a
     by true l (became {o′} e) rest = next {least = least} {o = o′} {os = os} (omega arith) (rw e a)
     by false l c rest = next h rest
 
 -- the members after it are what the order became and the others, none of which has its id
-pub change-exactly : {least : ℕ} {os : List Order} → Ascending least os → (id : ℕ) (f : Order → List Order) (o : Order) → find id os ≡ some o → (x : Order) → List·Memᴰ x (change id f os) ↔ (List·Memᴰ x (f o) ⊎ (List·Memᴰ x os × (x .id ≢ id)))
+pub change-exactly : {least : ℕ} {os : List Order} → Ascending least os → (id : ℕ) (f : Order → List Order) (o : Order)
+    → find id os ≡ some o → (x : Order) → List·Memᴰ x (change id f os) ↔ (List·Memᴰ x (f o) ⊎ (List·Memᴰ x os × (x .id ≢ id)))
 unfolding change find
 change-exactly nothing id f o e x = absurd (let z : _≡_ {A = ℕ} 0 1 = cc in omega arith)
 change-exactly (next {o = y} {os} h a) id f o e x = by (eqb (y .id) id) refl e (λ d. change-exactly a id f o d x)
   where
-    by : (t : Bool) → eqb (y .id) id ≡ t → cond t (some y) (find id os) ≡ some o → (find id os ≡ some o → List·Memᴰ x (change id f os) ↔ (List·Memᴰ x (f o) ⊎ (List·Memᴰ x os × (x .id ≢ id)))) → List·Memᴰ x (cond t (f y ++ os) (y ∷ change id f os)) ↔ (List·Memᴰ x (f o) ⊎ (List·Memᴰ x (y ∷ os) × (x .id ≢ id)))
+    by : (t : Bool) → eqb (y .id) id ≡ t → cond t (some y) (find id os) ≡ some o
+        → (find id os ≡ some o → List·Memᴰ x (change id f os) ↔ (List·Memᴰ x (f o) ⊎ (List·Memᴰ x os × (x .id ≢ id))))
+        → List·Memᴰ x (cond t (f y ++ os) (y ∷ change id f os)) ↔ (List·Memᴰ x (f o) ⊎ (List·Memᴰ x (y ∷ os) × (x .id ≢ id)))
     by true d e rest =
         let here = eqb-true (y .id) id d in
         let same : y ≡ o = cc in
         rw (← same) (
-          λ m. ⊎-elim (λ k. inl k) (λ k. let l = ascending-above a x k in inr (List·Memᴰ·tail k, λ c. omega arith)) (List·Memᴰ·append-cases (f y) m),
+          λ m. ⊎-elim (λ k. inl k) (λ k. let l = ascending-above a x k in inr (List·Memᴰ·tail k, λ c. omega arith))
+              (List·Memᴰ·append-cases (f y) m),
           ⊎-elim (λ k. Memᴰ·append-left os k)
               (λ k. ⊎-elim (λ c. absurd (k .1 (rw c here))) (λ m. Memᴰ·append-right (f y) m) (List·Memᴰ·cases-cons (k .0))),
         )
     by false d e rest =
         let apart = eqb-false (y .id) id d in (
-          λ m. ⊎-elim (λ c. inr (List·Memᴰ·head c, rw c apart)) (λ k. ⊎-elim (λ u. inl u) (λ u. inr (List·Memᴰ·tail (u .0), u .1)) (rest e .0 k)) (List·Memᴰ·cases-cons m),
+          λ m. ⊎-elim (λ c. inr (List·Memᴰ·head c, rw c apart))
+              (λ k. ⊎-elim (λ u. inl u) (λ u. inr (List·Memᴰ·tail (u .0), u .1)) (rest e .0 k)) (List·Memᴰ·cases-cons m),
           ⊎-elim (λ k. List·Memᴰ·tail (rest e .1 (inl k)))
               (λ k. ⊎-elim (λ c. List·Memᴰ·head c) (λ u. List·Memᴰ·tail (rest e .1 (inr (u, k .1)))) (List·Memᴰ·cases-cons (k .0))),
         )
 
 -- ---- a list whose cut is known
-pub ascending-before : {least : ℕ} (front : List Order) (o : Order) (back : List Order) → Ascending least (front ++ (o ∷ back)) → (x : Order) → List·Memᴰ x front → x .id < o .id
+pub ascending-before : {least : ℕ} (front : List Order) (o : Order) (back : List Order) → Ascending least (front ++ (o ∷ back))
+    → (x : Order) → List·Memᴰ x front → x .id < o .id
 ascending-before [] o back a x m = absurd (List·Memᴰ·not-nil m)
 ascending-before (y ∷ front) o back (next h a) x m =
-    ⊎-elim (λ e. rw e (ascending-above a o (Memᴰ·append-right front (List·Memᴰ·head refl)))) (ascending-before front o back a x) (List·Memᴰ·cases-cons m)
+    ⊎-elim (λ e. rw e (ascending-above a o (Memᴰ·append-right front (List·Memᴰ·head refl)))) (ascending-before front o back a x)
+    (List·Memᴰ·cases-cons m)
 
-pub change-between : (f : Order → List Order) (front : List Order) (o : Order) (back : List Order) → ((x : Order) → List·Memᴰ x front → x .id < o .id) → change (o .id) f (front ++ (o ∷ back)) ≡ front ++ (f o ++ back)
+pub change-between : (f : Order → List Order) (front : List Order) (o : Order) (back : List Order)
+    → ((x : Order) → List·Memᴰ x front → x .id < o .id) → change (o .id) f (front ++ (o ∷ back)) ≡ front ++ (f o ++ back)
 unfolding change
 change-between f [] o back h = rw (eq-eqb (o .id) (o .id) refl)
 change-between f (x ∷ front) o back h =

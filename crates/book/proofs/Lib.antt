@@ -22,7 +22,7 @@ pub mod LimitsStay
 pub mod SetAgainLaws
 pub mod Entering
 pub mod Runs
-pub mod KeptLaws
+pub mod StateLaws
 pub mod NotSetAgainLaws
 pub mod Demand3Proof
 pub mod Plain

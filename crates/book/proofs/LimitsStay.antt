@@ -7,7 +7,7 @@ use mathlib.Core.Option.{Option, none, some}
 use native.Mathlib.Decide.{ℕ-discrete}
 use Rattle.ledger.specs.declared.order.Order.{Order}
 use Rattle.ledger.specs.Roster.{Roster}
-use Rattle.ledger.specs.Positions.{Way, Place, instrument, group}
+use Rattle.ledger.specs.Positions.{Way, Scope, instrument, group}
 use Rattle.limits.specs.Lines.{Line, isSet, orElse, lineInForce, figure, largestPosition, limit}
 use Rattle.limits.proofs.LineLaws.{unset-none}
 use Rattle.book.specs.declared.Figures.{Figures}
@@ -34,7 +34,8 @@ module _ (r : Roster) (b : Book) (a : ℕ) where
   under-group g = refl
 
 -- a group's limit is set again by a LIMIT on the group's line
-pub group-set-again : (unit : Order → ℕ) (r : Roster) (b : Book) (e : Event) (a g : ℕ) → SetsAgain unit r b e a (group g) ↔ (lineSet e ≡ some (groupLine a g))
+pub group-set-again : (unit : Order → ℕ) (r : Roster) (b : Book) (e : Event) (a g : ℕ) → SetsAgain unit r b e a (group g)
+    ↔ (lineSet e ≡ some (groupLine a g))
 group-set-again unit r b e a g = (
   ⊎-elim (λ h. h ∙ ap some (under-group r _ a g)) (λ h. h ∙ ap some (under-group r _ a g)),
   λ h. inl (h ∙ ap some (sym (under-group r _ a g))),
@@ -57,7 +58,8 @@ test false = inr refl
 
 module _ (unit : Order → ℕ) (r : Roster) (b : Book) (a : ℕ) (w : Way) where
   -- the own line of instrument i: not set before nor after, so that another line is in force
-  own-line-stays : (i : ℕ) (f : Figures) → ¬ SetsAgain unit r b (Limit a (Own i f)) a (instrument i) → limit r (setLine (Own i f) (b .linesOf a)) (instrument i) w ≡ limit r (b .linesOf a) (instrument i) w
+  own-line-stays : (i : ℕ) (f : Figures) → ¬ SetsAgain unit r b (Limit a (Own i f)) a (instrument i)
+      → limit r (setLine (Own i f) (b .linesOf a)) (instrument i) w ≡ limit r (b .linesOf a) (instrument i) w
   unfolding limit setLine lineInForce lineSet
   own-line-stays i f out = by (test (isSet (b .linesOf a .ownOf i))) (test (isSet (lineOf f)))
     where
@@ -67,24 +69,32 @@ module _ (unit : Order → ℕ) (r : Roster) (b : Book) (a : ℕ) (w : Way) wher
       default : Option Line
       default = b .linesOf a .defaultOf (r .contractOf i)
 
-      by : (isSet (b .linesOf a .ownOf i) ≡ true) ⊎ (isSet (b .linesOf a .ownOf i) ≡ false) → (isSet (lineOf f) ≡ true) ⊎ (isSet (lineOf f) ≡ false) → figure (largestPosition w) (orElse (at i (lineOf f) (b .linesOf a .ownOf) i) (b .linesOf a .defaultOf (r .contractOf i))) ≡ figure (largestPosition w) (orElse (b .linesOf a .ownOf i) (b .linesOf a .defaultOf (r .contractOf i)))
+      by : (isSet (b .linesOf a .ownOf i) ≡ true) ⊎ (isSet (b .linesOf a .ownOf i) ≡ false)
+          → (isSet (lineOf f) ≡ true) ⊎ (isSet (lineOf f) ≡ false)
+          → figure (largestPosition w) (orElse (at i (lineOf f) (b .linesOf a .ownOf) i) (b .linesOf a .defaultOf (r .contractOf i)))
+          ≡ figure (largestPosition w) (orElse (b .linesOf a .ownOf i) (b .linesOf a .defaultOf (r .contractOf i)))
       by (inl set) t = absurd (out (inl (rw (under-own r b a i set))))
       by (inr not-set) (inl set) =
           absurd (out (inr (rw (under-own r (work unit b (Limit a (Own i f))) a i (ap isSet after-own ∙ set)))))
       by (inr not-set) (inr unset) =
-          ap (λ own. figure (largestPosition w) (orElse own default)) (at-here i (lineOf f) (b .linesOf a .ownOf) i refl ∙ unset-none (lineOf f) unset ∙ sym (unset-none (b .linesOf a .ownOf i) not-set))
+          ap (λ own. figure (largestPosition w) (orElse own default)) (at-here i (lineOf f) (b .linesOf a .ownOf) i refl
+          ∙ unset-none (lineOf f) unset ∙ sym (unset-none (b .linesOf a .ownOf i) not-set))
 
   -- the default line of the instrument's contract: under an own line it is not in force
-  default-line-stays : (i : ℕ) (f : Figures) → ¬ SetsAgain unit r b (Limit a (Default (r .contractOf i) f)) a (instrument i) → limit r (setLine (Default (r .contractOf i) f) (b .linesOf a)) (instrument i) w ≡ limit r (b .linesOf a) (instrument i) w
+  default-line-stays : (i : ℕ) (f : Figures) → ¬ SetsAgain unit r b (Limit a (Default (r .contractOf i) f)) a (instrument i)
+      → limit r (setLine (Default (r .contractOf i) f) (b .linesOf a)) (instrument i) w ≡ limit r (b .linesOf a) (instrument i) w
   unfolding limit setLine lineInForce lineSet
   default-line-stays i f out =
       by (b .linesOf a .ownOf i) (λ unset. out (inl (rw (under-default r b a i unset))))
     where
-      by : (own : Option Line) → ¬ (isSet own ≡ false) → figure (largestPosition w) (orElse own (at (r .contractOf i) (lineOf f) (b .linesOf a .defaultOf) (r .contractOf i))) ≡ figure (largestPosition w) (orElse own (b .linesOf a .defaultOf (r .contractOf i)))
+      by : (own : Option Line) → ¬ (isSet own ≡ false)
+          → figure (largestPosition w) (orElse own (at (r .contractOf i) (lineOf f) (b .linesOf a .defaultOf) (r .contractOf i))) ≡ figure
+          (largestPosition w) (orElse own (b .linesOf a .defaultOf (r .contractOf i)))
       by (some l) set = refl
       by none set = absurd (set refl)
 
-  own-stays : (l : LimitLine) (p : Place) → ¬ SetsAgain unit r b (Limit a l) a p → limit r (setLine l (b .linesOf a)) p w ≡ limit r (b .linesOf a) p w
+  own-stays : (l : LimitLine) (p : Scope) → ¬ SetsAgain unit r b (Limit a l) a p
+      → limit r (setLine l (b .linesOf a)) p w ≡ limit r (b .linesOf a) p w
   unfolding limit setLine lineInForce lineSet
   own-stays (Own i f) (instrument j) out =
       by-cases (ℕ-discrete i j)
@@ -101,7 +111,8 @@ module _ (unit : Order → ℕ) (r : Roster) (b : Book) (a : ℕ) (w : Way) wher
       by-cases (ℕ-discrete h g) (λ e. absurd (out (inl (rw (under-group r b a h, e)))))
       (λ apart. rw (at-elsewhere g (groupLineOf x y) (b .linesOf a .lineOfGroup) h apart))
 
-  pub limit-stays : (e : Event) (p : Place) → ¬ SetsAgain unit r b e a p → limit r (work unit b e .linesOf a) p w ≡ limit r (b .linesOf a) p w
+  pub limit-stays : (e : Event) (p : Scope) → ¬ SetsAgain unit r b e a p
+      → limit r (work unit b e .linesOf a) p w ≡ limit r (b .linesOf a) p w
   unfolding work
   limit-stays (Limit c l) p out =
       by-cases (ℕ-discrete c a) (λ e. rw e (ap (λ ls. limit r ls p w) (lines-own unit b a l) ∙ own-stays l p (rw e at out)))

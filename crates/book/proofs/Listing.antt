@@ -16,7 +16,7 @@ use Rattle.limits.specs.Lines.{limit}
 use Rattle.book.specs.Market.{derivatives}
 use Rattle.book.specs.Decoding.{decode}
 use Rattle.book.specs.Books.{Book, work}
-use Rattle.book.specs.Kept.{Kept, begun}
+use Rattle.book.specs.EventLists.{State, begun}
 use Rattle.book.specs.Positions.{instrumentIn, groupIn}
 use Rattle.book.specs.Rosters.{rosterIn}
 use Rattle.book.specs.Listing.{listingTables, listingEvents}
@@ -27,7 +27,7 @@ use Rattle.book.proofs.Computed.{computes}
 abbrev pub listingRoster : Roster
 listingRoster = rosterIn listingTables
 
-abbrev pub listingEnd : Kept
+abbrev pub listingEnd : State
 listingEnd = endOf listingRoster begun (decoded listingEvents)
 
 -- the answers, from 1 on; then S, PCI and PVI of each instrument, and PCC and PVC
@@ -58,7 +58,9 @@ unfolding computes
 shown = (fill {o = buy-7} 62 (omega arith) (fill {o = sell-8} 1 (omega arith) none), record { lt = tt })
 
 -- without N no filling passes it: the potential position reaches the limit
-reached : potential (λ o. 1) listingRoster (endOf listingRoster begun before .book .orders) 1 (endOf listingRoster begun before .book .balanceOf 1) (group 1) long ≡ limit listingRoster (endOf listingRoster begun before .book .linesOf 1) (group 1) long
+reached : potential (λ o. 1) listingRoster (endOf listingRoster begun before .book .orders) 1
+    (endOf listingRoster begun before .book .balanceOf 1) (group 1) long ≡ limit listingRoster
+    (endOf listingRoster begun before .book .linesOf 1) (group 1) long
 unfolding computes
 reached = refl
 

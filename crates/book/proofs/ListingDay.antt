@@ -36,17 +36,24 @@ abbrev event : ℕ → List ℕ
 event place = getD listingEvents place []
 
 -- ---- the fifth event, a put sold, is refused by 23: all 62 of order 7 and the 1 of N put the group at 605,000
-fifth-refused : Past listingRoster (take 4 listingEvents) (event 4) (order 8 2 Sell 1) × Refused listingRoster (take 4 listingEvents) (event 4)
+fifth-refused : Past listingRoster (take 4 listingEvents) (event 4) (order 8 2 Sell 1)
+    × Refused listingRoster (take 4 listingEvents) (event 4)
 unfolding computes
 fifth-refused =
-    both-ways listingRoster (take 4 listingEvents) (event 4) listing-fits (order 8 2 Sell 1) (refl, refl) (inr (inr (inl refl)))
-    (group 1, long, (refl, weighs-less, refl), (fill {o = order 7 1 Buy 62} 62 (omega arith) (fill {o = order 8 2 Sell 1} 1 (omega arith) none), record { lt = tt }))
+    both-ways listingRoster (take 4 listingEvents) (event 4) listing-fits (order 8 2 Sell 1) (refl, refl) (inr (inr (inl refl))) (
+      group 1,
+      long,
+      (refl, weighs-less, refl),
+      (fill {o = order 7 1 Buy 62} 62 (omega arith) (fill {o = order 8 2 Sell 1} 1 (omega arith) none), record { lt = tt }),
+    )
 
 -- ---- the fourth, buy 62 of instrument 1, is accepted: to the end of the listing both positions that it moves are within their limits
 fourth-kept : Within listingRoster (take 3 listingEvents) (event 3) (drop 4 listingEvents) 1 (instrument 1) long (pos 100)
     × Within listingRoster (take 3 listingEvents) (event 3) (drop 4 listingEvents) 1 (group 1) long (pos 600000)
 unfolding computes
 fourth-kept = (
-  promised listingRoster (take 3 listingEvents) (event 3) listing-fits (order 7 1 Buy 62) (refl, refl) refl (instrument 1) long (refl, refl) (drop 4 listingEvents) refl,
-  promised listingRoster (take 3 listingEvents) (event 3) listing-fits (order 7 1 Buy 62) (refl, refl) refl (group 1) long (refl, weighs-more, refl) (drop 4 listingEvents) refl,
+  promised listingRoster (take 3 listingEvents) (event 3) listing-fits (order 7 1 Buy 62) (refl, refl) refl (instrument 1) long (refl, refl)
+      (drop 4 listingEvents) refl,
+  promised listingRoster (take 3 listingEvents) (event 3) listing-fits (order 7 1 Buy 62) (refl, refl) refl (group 1) long
+      (refl, weighs-more, refl) (drop 4 listingEvents) refl,
 )

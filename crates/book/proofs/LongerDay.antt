@@ -14,13 +14,13 @@ use Rattle.ledger.specs.Positions.{instrument, group, long, short}
 use Rattle.ledger.specs.Fillings.{none, fill}
 use Rattle.book.specs.Market.{derivatives}
 use Rattle.book.specs.Sound.{RosterFits, Sound}
-use Rattle.book.specs.Kept.{Desk, Kept, begun, memoryAfter}
+use Rattle.book.specs.EventLists.{Desk, State, begun, memoryAfter}
 use Rattle.book.specs.Written.{written, writtenAll}
 use Rattle.book.specs.Rosters.{rosterIn}
 use Rattle.book.specs.LongerDay.{longerTables, morning, tooLong, tooShort, putSold, putBought, raisedTooFar, afternoon, evening}
 use Rattle.book.specs.LongerDay.{putSoldToTheLimit, putBoughtToTheLimit, raisedToTheLimit}
 use Rattle.book.proofs.Plain.{derivatives-unit, plain-sound}
-use Rattle.book.proofs.PlainPromise.{plainDesk, keptOf, Refused, Past, both-ways}
+use Rattle.book.proofs.PlainPromise.{plainDesk, stateOf, Refused, Past, both-ways}
 use Rattle.book.proofs.Rosters.{at-each-number}
 use Rattle.book.proofs.Computed.{computes}
 
@@ -44,7 +44,7 @@ longer-fits =
 abbrev desk : Desk
 desk = plainDesk longerRoster
 
-abbrev answersTo : List (List ℕ) → Kept → List ℕ
+abbrev answersTo : List (List ℕ) → State → List ℕ
 answersTo [] m = []
 answersTo (e ∷ es) m = desk .answerTo m (written e) ∷ answersTo es (desk .next m (written e))
 
@@ -54,15 +54,19 @@ answersThen es = answersTo es (memoryAfter desk begun (writtenAll morning))
 
 answers : (answersTo morning begun ≡ 0 ∷ 0 ∷ 0 ∷ 0 ∷ [])
     × (answersThen (tooLong ∷ tooShort ∷ putSold ∷ putBought ∷ raisedTooFar ∷ []) ≡ 21 ∷ 22 ∷ 23 ∷ 24 ∷ 23 ∷ [])
-    × (answersThen (putSoldToTheLimit ∷ (afternoon ++ evening)) ≡ 0 ∷ 0 ∷ 0 ∷ 23 ∷ 0 ∷ 0 ∷ 10 ∷ 9 ∷ 9 ∷ 0 ∷ 0 ∷ 0 ∷ 0 ∷ 0 ∷ 0 ∷ 6 ∷ 0 ∷ 0 ∷ 0 ∷ 0 ∷ 0 ∷ [])
-    × (answersThen (putBoughtToTheLimit ∷ (afternoon ++ evening)) ≡ 0 ∷ 0 ∷ 0 ∷ 23 ∷ 0 ∷ 0 ∷ 10 ∷ 9 ∷ 9 ∷ 0 ∷ 0 ∷ 0 ∷ 0 ∷ 0 ∷ 0 ∷ 6 ∷ 0 ∷ 0 ∷ 0 ∷ 0 ∷ 0 ∷ [])
-    × (answersThen (raisedToTheLimit ∷ (afternoon ++ evening)) ≡ 0 ∷ 0 ∷ 11 ∷ 23 ∷ 0 ∷ 0 ∷ 10 ∷ 9 ∷ 9 ∷ 0 ∷ 0 ∷ 0 ∷ 0 ∷ 0 ∷ 0 ∷ 6 ∷ 11 ∷ 0 ∷ 0 ∷ 0 ∷ 0 ∷ [])
+    × (answersThen (putSoldToTheLimit ∷ (afternoon ++ evening)) ≡ 0 ∷ 0 ∷ 0 ∷ 23 ∷ 0 ∷ 0 ∷ 10 ∷ 9 ∷ 9 ∷ 0 ∷ 0 ∷ 0 ∷ 0 ∷ 0 ∷ 0 ∷ 6 ∷ 0 ∷ 0
+    ∷ 0 ∷ 0 ∷ 0 ∷ [])
+    × (answersThen (putBoughtToTheLimit ∷ (afternoon ++ evening)) ≡ 0 ∷ 0 ∷ 0 ∷ 23 ∷ 0 ∷ 0 ∷ 10 ∷ 9 ∷ 9 ∷ 0 ∷ 0 ∷ 0 ∷ 0 ∷ 0 ∷ 0 ∷ 6 ∷ 0 ∷ 0
+    ∷ 0 ∷ 0 ∷ 0 ∷ [])
+    × (answersThen (raisedToTheLimit ∷ (afternoon ++ evening)) ≡ 0 ∷ 0 ∷ 11 ∷ 23 ∷ 0 ∷ 0 ∷ 10 ∷ 9 ∷ 9 ∷ 0 ∷ 0 ∷ 0 ∷ 0 ∷ 0 ∷ 0 ∷ 6 ∷ 11 ∷ 0
+    ∷ 0 ∷ 0 ∷ 0 ∷ [])
 unfolding computes
 answers = (refl, refl, refl, refl, refl)
 
 -- the book after the morning and a put sold is sound, with two orders open
-sound : (length (keptOf longerRoster (writtenAll (morning ++ (putSoldToTheLimit ∷ []))) .book .orders) ≡ 2)
-    × Sound derivatives longerRoster (keptOf longerRoster (writtenAll (morning ++ (putSoldToTheLimit ∷ []))) .book) (keptOf longerRoster (writtenAll (morning ++ (putSoldToTheLimit ∷ []))) .trading)
+sound : (length (stateOf longerRoster (writtenAll (morning ++ (putSoldToTheLimit ∷ []))) .book .orders) ≡ 2)
+    × Sound derivatives longerRoster (stateOf longerRoster (writtenAll (morning ++ (putSoldToTheLimit ∷ []))) .book)
+    (stateOf longerRoster (writtenAll (morning ++ (putSoldToTheLimit ∷ []))) .trading)
 unfolding computes
 sound = (refl, plain-sound derivatives longerRoster derivatives-unit longer-fits (writtenAll (morning ++ (putSoldToTheLimit ∷ []))))
 
@@ -84,29 +88,51 @@ Exactly n o = Past longerRoster morning n o × Refused longerRoster morning n
 too-long : Exactly tooLong (order 8 1 Buy 53)
 unfolding computes
 too-long =
-    both-ways longerRoster morning tooLong longer-fits (order 8 1 Buy 53) (refl, refl) (inl refl)
-    (instrument 1, long, (refl, refl), (fill {o = order 7 1 Buy 50} 50 (omega arith) (fill {o = order 8 1 Buy 53} 53 (omega arith) none), record { lt = tt }))
+    both-ways longerRoster morning tooLong longer-fits (order 8 1 Buy 53) (refl, refl) (inl refl) (
+      instrument 1,
+      long,
+      (refl, refl),
+      (
+        fill {o = order 7 1 Buy 50} 50 (omega arith) (fill {o = order 8 1 Buy 53} 53 (omega arith) none),
+        record { lt = tt },
+      ),
+    )
 
 -- 22: nothing of order 7 and the 99 of N put it at −101
 too-short : Exactly tooShort (order 8 1 Sell 99)
 unfolding computes
 too-short =
-    both-ways longerRoster morning tooShort longer-fits (order 8 1 Sell 99) (refl, refl) (inr (inl refl))
-    (instrument 1, short, (refl, refl), (fill {o = order 7 1 Buy 50} 0 (omega arith) (fill {o = order 8 1 Sell 99} 99 (omega arith) none), record { lt = tt }))
+    both-ways longerRoster morning tooShort longer-fits (order 8 1 Sell 99) (refl, refl) (inr (inl refl)) (
+      instrument 1,
+      short,
+      (refl, refl),
+      (
+        fill {o = order 7 1 Buy 50} 0 (omega arith) (fill {o = order 8 1 Sell 99} 99 (omega arith) none),
+        record { lt = tt },
+      ),
+    )
 
 -- 23: all of both put group 1 at 605,000 ten-thousandths, past 600,000
 put-sold : Exactly putSold (order 8 2 Sell 25)
 unfolding computes
 put-sold =
-    both-ways longerRoster morning putSold longer-fits (order 8 2 Sell 25) (refl, refl) (inr (inr (inl refl)))
-    (group 1, long, (refl, weighs-less, refl), (fill {o = order 7 1 Buy 50} 50 (omega arith) (fill {o = order 8 2 Sell 25} 25 (omega arith) none), record { lt = tt }))
+    both-ways longerRoster morning putSold longer-fits (order 8 2 Sell 25) (refl, refl) (inr (inr (inl refl))) (
+      group 1,
+      long,
+      (refl, weighs-less, refl),
+      (fill {o = order 7 1 Buy 50} 50 (omega arith) (fill {o = order 8 2 Sell 25} 25 (omega arith) none), record { lt = tt }),
+    )
 
 -- 24: nothing of order 7 and the 77 of N put it at −405,000, past 400,000 short
 put-bought : Exactly putBought (order 8 2 Buy 77)
 unfolding computes
 put-bought =
-    both-ways longerRoster morning putBought longer-fits (order 8 2 Buy 77) (refl, refl) (inr (inr (inr refl)))
-    (group 1, short, (refl, weighs-less, refl), (fill {o = order 7 1 Buy 50} 0 (omega arith) (fill {o = order 8 2 Buy 77} 77 (omega arith) none), record { lt = tt }))
+    both-ways longerRoster morning putBought longer-fits (order 8 2 Buy 77) (refl, refl) (inr (inr (inr refl))) (
+      group 1,
+      short,
+      (refl, weighs-less, refl),
+      (fill {o = order 7 1 Buy 50} 0 (omega arith) (fill {o = order 8 2 Buy 77} 77 (omega arith) none), record { lt = tt }),
+    )
 
 -- 23: order 7 raised, once: all 63 of it put the group at 610,000
 raised-too-far : Exactly raisedTooFar (order 7 1 Buy 63)

@@ -29,7 +29,8 @@ unfolding mark
 only-new-marks trading (Limit c l) a h = inl h
 only-new-marks trading (Balance c i z) a h = inl h
 only-new-marks trading (Block what z) a h = inl h
-only-new-marks trading (New s c i id n) a h = at-each c true trading (λ t. t ≡ true → (trading a ≡ true) ⊎ (a ≡ c)) a (λ own _. inr own) (λ _ was. inl was) h
+only-new-marks trading (New s c i id n) a h =
+    at-each c true trading (λ t. t ≡ true → (trading a ≡ true) ⊎ (a ≡ c)) a (λ own _. inr own) (λ _ was. inl was) h
 only-new-marks trading (Replace id n) a h = inl h
 only-new-marks trading (Cancel id) a h = inl h
 only-new-marks trading (Fill id n) a h = inl h

@@ -45,7 +45,9 @@ pub record Untouched (a : ℕ) (b b′ : Book) : Type 0 where
   pub lines : b′ .linesOf a ≡ b .linesOf a
 
 -- a change of one order, to orders of the same account
-changed-elsewhere : {least : ℕ} {os : List Order} → Ascending least os → (a id : ℕ) (f : Order → List Order) (o : Order) → find id os ≡ some o → a ≢ o .account → ((x : Order) → List·Memᴰ x (f o) → x .account ≡ o .account) → (x : Order) → x .account ≡ a → List·Memᴰ x (change id f os) ↔ List·Memᴰ x os
+changed-elsewhere : {least : ℕ} {os : List Order} → Ascending least os → (a id : ℕ) (f : Order → List Order) (o : Order)
+    → find id os ≡ some o → a ≢ o .account → ((x : Order) → List·Memᴰ x (f o) → x .account ≡ o .account) → (x : Order) → x .account ≡ a
+    → List·Memᴰ x (change id f os) ↔ List·Memᴰ x os
 changed-elsewhere {least} {os} asc a id f o found other same x own = (
   λ m. ⊎-elim (λ k. absurd (other (sym own ∙ same x k))) (λ k. k .0) (change-exactly asc id f o found x .0 m),
   λ m. change-exactly asc id f o found x .1 (inr (m, apart m)),
@@ -67,12 +69,17 @@ module _ (mk : Market) (keeps : UnitKept mk) (r : Roster) (b : Book) (trading : 
   untouched (Limit c l) ok other =
       record { orders = λ x own. Iff·rfl; balances = λ i. refl; lines = at-elsewhere c (setLine l (b .linesOf c)) (b .linesOf) a other }
   untouched (Balance c i z) ok other =
-      record { orders = λ x own. Iff·rfl; balances = λ j. ap (λ S. S j) (at-elsewhere c (at i z (b .balanceOf c)) (b .balanceOf) a other); lines = refl }
+      record {
+        orders = λ x own. Iff·rfl;
+        balances = λ j. ap (λ S. S j) (at-elsewhere c (at i z (b .balanceOf c)) (b .balanceOf) a other);
+        lines = refl;
+      }
   untouched (Block what z) ok other = record { orders = λ x own. Iff·rfl; balances = λ i. refl; lines = refl }
   untouched (New s c i id n) ok other =
       record {
         orders = λ x own. (
-          λ m. ⊎-elim (λ e. absurd (other (sym own ∙ ap (λ y. y .account) e))) (λ k. k) (insert-members (newOrder s c i id n) (b .orders) x .0 m),
+          λ m. ⊎-elim (λ e. absurd (other (sym own ∙ ap (λ y. y .account) e))) (λ k. k)
+              (insert-members (newOrder s c i id n) (b .orders) x .0 m),
           λ m. insert-members (newOrder s c i id n) (b .orders) x .1 (inr m),
         );
         balances = λ j. refl;
@@ -81,7 +88,9 @@ module _ (mk : Market) (keeps : UnitKept mk) (r : Roster) (b : Book) (trading : 
   untouched (Replace id n) ok other =
       let f = found-order id b (ok .found) in
       record {
-        orders = changed-elsewhere (sound .ids) a id (λ y. replacedTotal y (natAbs n) ∷ []) (f .0) (f .1) (other (f .0) (f .1)) (λ x m. ap (λ y. y .account) (List·Memᴰ·eq-of-singleton m));
+        orders =
+            changed-elsewhere (sound .ids) a id (λ y. replacedTotal y (natAbs n) ∷ []) (f .0) (f .1) (other (f .0) (f .1))
+            (λ x m. ap (λ y. y .account) (List·Memᴰ·eq-of-singleton m));
         balances = λ j. refl;
         lines = refl;
       }
@@ -95,8 +104,13 @@ module _ (mk : Market) (keeps : UnitKept mk) (r : Roster) (b : Book) (trading : 
   untouched (Fill id n) ok other =
       let f = found-order id b (ok .found) in
       record {
-        orders = changed-elsewhere (sound .ids) a id (λ y. kept (filledBy y (natAbs n))) (f .0) (f .1) (other (f .0) (f .1)) (λ x m. ap (λ y. y .account) (kept-member (filledBy (f .0) (natAbs n)) x m .0));
-        balances = λ j. fill-balances mk b keeps id (f .0) (f .1) n a j ∙ ap (λ z. b .balanceOf a j +ℤ z) (fill-elsewhere (mk .unit) a j (f .0) (natAbs n) (other (f .0) (f .1))) ∙ +ℤ-idr (b .balanceOf a j);
+        orders =
+            changed-elsewhere (sound .ids) a id (λ y. kept (filledBy y (natAbs n))) (f .0) (f .1) (other (f .0) (f .1))
+            (λ x m. ap (λ y. y .account) (kept-member (filledBy (f .0) (natAbs n)) x m .0));
+        balances =
+            λ j. fill-balances mk b keeps id (f .0) (f .1) n a j
+            ∙ ap (λ z. b .balanceOf a j +ℤ z) (fill-elsewhere (mk .unit) a j (f .0) (natAbs n) (other (f .0) (f .1)))
+            ∙ +ℤ-idr (b .balanceOf a j);
         lines = refl;
       }
   untouched Junk ok other = record { orders = λ x own. Iff·rfl; balances = λ i. refl; lines = refl }

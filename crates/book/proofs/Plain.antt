@@ -7,7 +7,7 @@ use Rattle.ledger.specs.Roster.{Roster}
 use Rattle.book.specs.Market.{Market, UnitKept, derivatives}
 use Rattle.book.specs.Table.{answer}
 use Rattle.book.specs.Sound.{RosterFits, Sound}
-use Rattle.book.specs.Kept.{RawEvent, said, Desk, Kept, begun, keep, keptAfter}
+use Rattle.book.specs.EventLists.{RawEvent, asEvent, Desk, State, begun, keep, stateAfter}
 use Rattle.book.specs.Contract.{withWorked, Contract}
 use Rattle.book.specs.Demand3.{Demand3At}
 use Rattle.book.proofs.SoundSteps.{sound-empty}
@@ -24,11 +24,11 @@ unfolding begun
 sound-begun mk r fits = sound-empty mk r fits
 
 module _ (mk : Market) (r : Roster) where
-  abbrev plainAnswer : Kept → RawEvent → ℕ
-  plainAnswer k e = answer mk r (k .book) (k .trading) (said e)
+  abbrev plainAnswer : State → RawEvent → ℕ
+  plainAnswer k e = answer mk r (k .book) (k .trading) (asEvent e)
 
   abbrev pub plain : Desk
-  plain = record { Memory = Kept; answerTo = plainAnswer; next = λ k e. keep mk k (said e) (plainAnswer k e) }
+  plain = record { Memory = State; answerTo = plainAnswer; next = λ k e. keep mk k (asEvent e) (plainAnswer k e) }
 
   pub plain-meets : Contract plain mk r
   plain-meets =
@@ -44,6 +44,7 @@ module _ (mk : Market) (r : Roster) where
   plain-demand3 keeps fits = demand3 keeps plain-meets begun begun refl (sound-begun mk r fits)
 
   -- and after every list of events its book is sound
-  pub plain-sound : UnitKept mk → RosterFits r → (es : List RawEvent) → Sound mk r (keptAfter plain mk begun begun es .book) (keptAfter plain mk begun begun es .trading)
+  pub plain-sound : UnitKept mk → RosterFits r → (es : List RawEvent)
+      → Sound mk r (stateAfter plain mk begun begun es .book) (stateAfter plain mk begun begun es .trading)
   unfolding plain-meets
   plain-sound keeps fits es = holds-after keeps plain-meets begun begun es (record { shown = refl; sound = sound-begun mk r fits }) .sound

@@ -10,8 +10,8 @@ use lib.Signed.{_≤ℤ_, _<ℤ_}
 use Rattle.ledger.specs.declared.order.Order.{Order}
 use Rattle.ledger.specs.Derivatives.{one}
 use Rattle.ledger.specs.Roster.{Roster}
-use Rattle.ledger.specs.Positions.{Place, Way, position}
-use Rattle.ledger.specs.Fillings.{Filling, after}
+use Rattle.ledger.specs.Positions.{Scope, Way, position}
+use Rattle.ledger.specs.Fillings.{Filling, balanceAfter}
 use Rattle.ledger.specs.Moves.{Moves}
 use Rattle.limits.specs.Lines.{limit}
 use Rattle.limits.specs.Questions.{allPass}
@@ -19,31 +19,32 @@ use Rattle.book.specs.Market.{derivatives}
 use Rattle.book.specs.Books.{Book, work}
 use Rattle.book.specs.Table.{entered, questionsBefore}
 use Rattle.book.specs.Sound.{RosterFits}
-use Rattle.book.specs.Kept.{RawEvent, said, Desk, Kept, begun, memoryAfter, keptAfter}
+use Rattle.book.specs.EventLists.{RawEvent, asEvent, Desk, State, begun, memoryAfter, stateAfter}
 use Rattle.book.specs.Written.{written, writtenAll}
 use Rattle.book.proofs.Plain.{derivatives-unit, plain, plain-demand3}
 use Rattle.book.proofs.NotSetAgainLaws.{setsNone, sets-none}
-use Rattle.book.proofs.Demand3InFull.{InFull, in-full, none-later, memoryWith, keptWith}
+use Rattle.book.proofs.Demand3InFull.{InFull, in-full, none-later, memoryWith, stateWith}
 
 module _ (r : Roster) where
   abbrev pub plainDesk : Desk
   plainDesk = plain derivatives r
 
   -- what is kept after a list of events
-  abbrev pub keptOf : List RawEvent → Kept
-  keptOf es = keptAfter plainDesk derivatives begun begun es
+  abbrev pub stateOf : List RawEvent → State
+  stateOf es = stateAfter plainDesk derivatives begun begun es
 
   promise : RosterFits r → InFull plainDesk derivatives r begun begun
   promise fits = in-full plainDesk derivatives r begun begun .0 (plain-demand3 derivatives r derivatives-unit fits)
 
   module _ (before : List (List ℕ)) (n : List ℕ) where
-    abbrev keptBefore : Kept
-    keptBefore = keptOf (writtenAll before)
+    abbrev stateBefore : State
+    stateBefore = stateOf (writtenAll before)
 
     -- N enters or raises o, and passes every check before the position limits
     abbrev pub Meets : Order → Type 0
     Meets o =
-        (entered (keptBefore .book) (said (written n)) ≡ some o) × (allPass (questionsBefore derivatives r (keptBefore .book) (keptBefore .trading) (said (written n))) ≡ true)
+        (entered (stateBefore .book) (asEvent (written n)) ≡ some o)
+        × (allPass (questionsBefore derivatives r (stateBefore .book) (stateBefore .trading) (asEvent (written n))) ≡ true)
 
     abbrev pub answerTo : ℕ
     answerTo = plainDesk .answerTo (memoryAfter plainDesk begun (writtenAll before)) (written n)
@@ -54,12 +55,12 @@ module _ (r : Roster) where
     -- some filling of the open orders and N puts a position that o's fills move past its limit
     abbrev pub Past : Order → Type 0
     Past o =
-        let b = work one (keptBefore .book) (said (written n)) in
-        (p : Place)
+        let b = work one (stateBefore .book) (asEvent (written n)) in
+        (p : Scope)
         × (w : Way)
         × Moves r o p w
         × ((f : Filling (b .orders))
-        × (limit r (b .linesOf (o .account)) p w <ℤ position r (after one (o .account) (b .balanceOf (o .account)) f) p w))
+        × (limit r (b .linesOf (o .account)) p w <ℤ position r (balanceAfter one (o .account) (b .balanceOf (o .account)) f) p w))
 
     -- from the answer a filling, and from a filling the answer
     pub both-ways : RosterFits r → (o : Order) → Meets o → Refused → Past o → Past o × Refused
@@ -69,25 +70,28 @@ module _ (r : Roster) where
         (so .0 refused, so .1 past)
 
     abbrev pub bookAfter : List (List ℕ) → Book
-    bookAfter later = keptOf (writtenAll before ++ (written n ∷ writtenAll later)) .book
+    bookAfter later = stateOf (writtenAll before ++ (written n ∷ writtenAll later)) .book
 
     -- account a's position at p, after the later list: its limit is the figure, it is not past it, and no filling puts it past
-    abbrev pub Within : List (List ℕ) → ℕ → Place → Way → ℤ → Type 0
+    abbrev pub Within : List (List ℕ) → ℕ → Scope → Way → ℤ → Type 0
     Within later a p w figure =
         let b = bookAfter later in
         (limit r (b .linesOf a) p w ≡ figure)
         × (position r (b .balanceOf a) p w ≤ℤ figure)
-        × ((f : Filling (b .orders)) → position r (after one a (b .balanceOf a) f) p w ≤ℤ figure)
+        × ((f : Filling (b .orders)) → position r (balanceAfter one a (b .balanceOf a) f) p w ≤ℤ figure)
 
     -- no accepted event of the later list sets the limit again, tested
-    abbrev pub noneAgain : ℕ → Place → List (List ℕ) → Bool
+    abbrev pub noneAgain : ℕ → Scope → List (List ℕ) → Bool
     noneAgain a p later =
-        setsNone plainDesk derivatives r (memoryWith plainDesk derivatives r begun begun (writtenAll before) (written n)) (keptWith plainDesk derivatives r begun begun (writtenAll before) (written n)) a p (writtenAll later)
+        setsNone plainDesk derivatives r (memoryWith plainDesk derivatives r begun begun (writtenAll before) (written n))
+        (stateWith plainDesk derivatives r begun begun (writtenAll before) (written n)) a p (writtenAll later)
 
-    pub promised : RosterFits r → (o : Order) → Meets o → answerTo ≡ 0 → (p : Place) (w : Way) → Moves r o p w → (later : List (List ℕ)) → noneAgain (o .account) p later ≡ true → Within later (o .account) p w (limit r (keptBefore .book .linesOf (o .account)) p w)
+    pub promised : RosterFits r → (o : Order) → Meets o → answerTo ≡ 0 → (p : Scope) (w : Way) → Moves r o p w → (later : List (List ℕ))
+        → noneAgain (o .account) p later ≡ true → Within later (o .account) p w (limit r (stateBefore .book .linesOf (o .account)) p w)
     unfolding derivatives
     promised fits o j zero p w moves later test =
         let events = writtenAll before in
         promise fits events (written n) o (j .0) (j .1) .1 zero p w moves (writtenAll later)
         (none-later plainDesk derivatives r begun begun events (written n) (o .account) p (writtenAll later) .0
-        (sets-none plainDesk derivatives r (memoryWith plainDesk derivatives r begun begun events (written n)) (keptWith plainDesk derivatives r begun begun events (written n)) (o .account) p (writtenAll later) test))
+        (sets-none plainDesk derivatives r (memoryWith plainDesk derivatives r begun begun events (written n))
+        (stateWith plainDesk derivatives r begun begun events (written n)) (o .account) p (writtenAll later) test))

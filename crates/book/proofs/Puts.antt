@@ -11,7 +11,7 @@ use Rattle.book.specs.declared.Figures.{Figures}
 use Rattle.book.specs.declared.LimitLine.the-variants.{Default, OfGroup}
 use Rattle.book.specs.declared.Event.{Event}
 use Rattle.book.specs.declared.Event.the-variants.{Limit, Balance, New}
-use Rattle.book.specs.Kept.{begun}
+use Rattle.book.specs.EventLists.{begun}
 use Rattle.book.specs.Positions.{groupIn}
 use Rattle.book.specs.Days.{answersTo, endOf}
 use Rattle.book.proofs.Computed.{computes}
@@ -29,7 +29,9 @@ roster =
       instruments = 13;
       groupOf = λ c. 1;
       contractOf = λ i. 1;
-      weight = λ i. getD (minus 2200 ∷ minus 9500 ∷ minus 7600 ∷ minus 4000 ∷ minus 5900 ∷ pos 500 ∷ pos 500 ∷ pos 500 ∷ pos 500 ∷ pos 2400 ∷ pos 500 ∷ pos 1200 ∷ pos 6000 ∷ []) (i - 1) (pos 0);
+      weight =
+          λ i. getD (minus 2200 ∷ minus 9500 ∷ minus 7600 ∷ minus 4000 ∷ minus 5900 ∷ pos 500 ∷ pos 500 ∷ pos 500 ∷ pos 500 ∷ pos 2400
+          ∷ pos 500 ∷ pos 1200 ∷ pos 6000 ∷ []) (i - 1) (pos 0);
     }
 
 abbrev line : Figures

@@ -5,7 +5,10 @@ use native.Mathlib.Omega.{arith}
 use denote.Enum.Declared.{tagOf}
 use types.Run.{OneOf, miss}
 use Rattle.book.specs.declared.Answer.{Answer}
-use Rattle.book.specs.declared.Answer.the-variants.{Accepted, NoSoundDesk, NoEvent, UnknownAccount, UnknownItem, FigureOutOfRange, AlreadyTrading, OrderNotFound, QuantityOutOfRange, DuplicateOrder, AccountBlocked, InstrumentBlocked, GroupBlocked, NoLimitsConfigured, NoPlaceFree, BuyTooLarge, SellTooLarge, InstrumentTooLong, InstrumentTooShort, GroupTooLong, GroupTooShort}
+use Rattle.book.specs.declared.Answer.the-variants.{Accepted, NoSoundDesk, NoEvent, UnknownAccount, UnknownItem, FigureOutOfRange}
+use Rattle.book.specs.declared.Answer.the-variants.{AlreadyTrading, OrderNotFound, QuantityOutOfRange, DuplicateOrder, AccountBlocked}
+use Rattle.book.specs.declared.Answer.the-variants.{InstrumentBlocked, GroupBlocked, NoLimitsConfigured, NoPlaceFree, BuyTooLarge}
+use Rattle.book.specs.declared.Answer.the-variants.{SellTooLarge, InstrumentTooLong, InstrumentTooShort, GroupTooLong, GroupTooShort}
 use Rattle.book.specs.Answers.{numberOf}
 use Rattle.book.proofs.Answer.{the-type}
 

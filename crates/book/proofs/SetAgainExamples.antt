@@ -8,7 +8,7 @@ use mathlib.Core.Option.{none, some}
 use native.Mathlib.Omega.{arith}
 use lib.IntN.{ℤ, pos, negsuc}
 use Rattle.ledger.specs.Roster.{Roster}
-use Rattle.ledger.specs.Positions.{Place, instrument, group}
+use Rattle.ledger.specs.Positions.{Scope, instrument, group}
 use Rattle.limits.specs.Lines.{Line}
 use Rattle.book.specs.declared.Figures.{Figures}
 use Rattle.book.specs.declared.LimitLine.the-variants.{Own, Default, OfGroup}
@@ -32,12 +32,18 @@ abbrev book : Book
 book =
     record {
       balanceOf = λ a i. pos 0;
-      linesOf = λ a. record { ownOf = at 2 (some line) (λ i. none); defaultOf = λ c. some line; lineOfGroup = λ g. some (record { lcc = 9; lvc = 9 }) };
+      linesOf =
+          λ a. record {
+            ownOf = at 2 (some line) (λ i. none);
+            defaultOf = λ c. some line;
+            lineOfGroup =
+                λ g. some (record { lcc = 9; lvc = 9 });
+          };
       blocks = record { account = λ a. false; instrument = λ i. false; group = λ a g. false };
       orders = [];
     }
 
-abbrev Again : Event → Place → Type 0
+abbrev Again : Event → Scope → Type 0
 Again e p = SetsAgain (λ o. 1) roster book e 1 p
 
 -- the own line is unset while it is not set: nothing in force changes

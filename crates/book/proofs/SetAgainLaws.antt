@@ -53,7 +53,8 @@ own-line-set e a i = (λ h. let that = set-by-that-limit e (ownLine a i) .0 h in
 
 pub default-line-set : (e : Event) (a c : ℕ) → (lineSet e ≡ some (defaultLine a c)) ↔ ((f : Figures) × (e ≡ Limit a (Default c f)))
 unfolding lineSet
-default-line-set e a c = (λ h. let that = set-by-that-limit e (defaultLine a c) .0 h in by (that .0) (that .1) (that .3) (that .2), λ h. rw (h .1))
+default-line-set e a c =
+    (λ h. let that = set-by-that-limit e (defaultLine a c) .0 h in by (that .0) (that .1) (that .3) (that .2), λ h. rw (h .1))
   where
     by : (d : ℕ) (l : LimitLine) → defaultLine a c ≡ nameOf d l → e ≡ Limit d l → (f : Figures) × (e ≡ Limit a (Default c f))
     by d (Own j f) n h = absurd (let z : _≡_ {A = ℕ} 0 1 = cc in omega arith)
@@ -62,7 +63,8 @@ default-line-set e a c = (λ h. let that = set-by-that-limit e (defaultLine a c)
 
 pub group-line-set : (e : Event) (a g : ℕ) → (lineSet e ≡ some (groupLine a g)) ↔ ((x : ℤ) × (y : ℤ) × (e ≡ Limit a (OfGroup g x y)))
 unfolding lineSet
-group-line-set e a g = (λ h. let that = set-by-that-limit e (groupLine a g) .0 h in by (that .0) (that .1) (that .3) (that .2), λ h. rw (h .2))
+group-line-set e a g =
+    (λ h. let that = set-by-that-limit e (groupLine a g) .0 h in by (that .0) (that .1) (that .3) (that .2), λ h. rw (h .2))
   where
     by : (c : ℕ) (l : LimitLine) → groupLine a g ≡ nameOf c l → e ≡ Limit c l → (x : ℤ) × (y : ℤ) × (e ≡ Limit a (OfGroup g x y))
     by c (Own j f) n h = absurd (let z : _≡_ {A = ℕ} 0 1 = cc in omega arith)
@@ -70,7 +72,8 @@ group-line-set e a g = (λ h. let that = set-by-that-limit e (groupLine a g) .0 
     by c (OfGroup k x y) n h = (x, y, cc)
 
 -- an event that sets a default line leaves every own line
-default-keeps-own : (unit : Order → ℕ) (b : Book) (e : Event) (a c i : ℕ) → lineSet e ≡ some (defaultLine a c) → work unit b e .linesOf a .ownOf i ≡ b .linesOf a .ownOf i
+default-keeps-own : (unit : Order → ℕ) (b : Book) (e : Event) (a c i : ℕ) → lineSet e ≡ some (defaultLine a c)
+    → work unit b e .linesOf a .ownOf i ≡ b .linesOf a .ownOf i
 unfolding work lineSet setLine
 default-keeps-own unit b (Limit d (Own j f)) a c i e = absurd (let z : _≡_ {A = ℕ} 0 1 = cc in omega arith)
 default-keeps-own unit b (Limit d (Default k f)) a c i e =
@@ -87,18 +90,27 @@ default-keeps-own unit b Junk a c i e = refl
 module _ (unit : Order → ℕ) (r : Roster) (b : Book) (e : Event) (a : ℕ) where
   -- an instrument's limit is set again by a LIMIT on its own line where that is set before or after it, or on its contract's default
   -- line where its own is not set
-  pub instrument-set-again : (i : ℕ) → SetsAgain unit r b e a (instrument i) ↔ (((lineSet e ≡ some (ownLine a i)) × ((isSet (b .linesOf a .ownOf i) ≡ true) ⊎ (isSet (work unit b e .linesOf a .ownOf i) ≡ true))) ⊎ ((lineSet e ≡ some (defaultLine a (r .contractOf i))) × (isSet (b .linesOf a .ownOf i) ≡ false)))
+  pub instrument-set-again : (i : ℕ) → SetsAgain unit r b e a (instrument i)
+      ↔ (((lineSet e ≡ some (ownLine a i)) × ((isSet (b .linesOf a .ownOf i) ≡ true) ⊎ (isSet (work unit b e .linesOf a .ownOf i) ≡ true)))
+      ⊎ ((lineSet e ≡ some (defaultLine a (r .contractOf i))) × (isSet (b .linesOf a .ownOf i) ≡ false)))
   instrument-set-again i = (⊎-elim before after, ⊎-elim own-back default-back)
     where
       b′ : Book
       b′ = work unit b e
 
-      before : lineSet e ≡ some (lineOver r b a (instrument i)) → ((lineSet e ≡ some (ownLine a i)) × ((isSet (b .linesOf a .ownOf i) ≡ true) ⊎ (isSet (work unit b e .linesOf a .ownOf i) ≡ true))) ⊎ ((lineSet e ≡ some (defaultLine a (r .contractOf i))) × (isSet (b .linesOf a .ownOf i) ≡ false))
+      before : lineSet e ≡ some (lineOver r b a (instrument i))
+          → ((lineSet e ≡ some (ownLine a i)) × ((isSet (b .linesOf a .ownOf i) ≡ true) ⊎
+          (isSet (work unit b e .linesOf a .ownOf i) ≡ true))) ⊎ ((lineSet e ≡ some (defaultLine a (r .contractOf i)))
+          × (isSet (b .linesOf a .ownOf i) ≡ false))
       before h =
-          ⊎-elim (λ set. inl (h ∙ ap some (under-own r b a i set), inl set)) (λ unset. inr (h ∙ ap some (under-default r b a i unset), unset))
+          ⊎-elim (λ set. inl (h ∙ ap some (under-own r b a i set), inl set))
+          (λ unset. inr (h ∙ ap some (under-default r b a i unset), unset))
           (test (isSet (b .linesOf a .ownOf i)))
 
-      after : lineSet e ≡ some (lineOver r (work unit b e) a (instrument i)) → ((lineSet e ≡ some (ownLine a i)) × ((isSet (b .linesOf a .ownOf i) ≡ true) ⊎ (isSet (work unit b e .linesOf a .ownOf i) ≡ true))) ⊎ ((lineSet e ≡ some (defaultLine a (r .contractOf i))) × (isSet (b .linesOf a .ownOf i) ≡ false))
+      after : lineSet e ≡ some (lineOver r (work unit b e) a (instrument i))
+          → ((lineSet e ≡ some (ownLine a i)) × ((isSet (b .linesOf a .ownOf i) ≡ true) ⊎
+          (isSet (work unit b e .linesOf a .ownOf i) ≡ true))) ⊎ ((lineSet e ≡ some (defaultLine a (r .contractOf i)))
+          × (isSet (b .linesOf a .ownOf i) ≡ false))
       after h =
           ⊎-elim (λ set. inl (h ∙ ap some (under-own r b′ a i set), inr set))
           (λ unset.
@@ -106,18 +118,25 @@ module _ (unit : Order → ℕ) (r : Roster) (b : Book) (e : Event) (a : ℕ) wh
           inr (d, ap isSet (sym (default-keeps-own unit b e a (r .contractOf i) i d)) ∙ unset))
           (test (isSet (work unit b e .linesOf a .ownOf i)))
 
-      own-back : (lineSet e ≡ some (ownLine a i)) × ((isSet (b .linesOf a .ownOf i) ≡ true) ⊎ (isSet (work unit b e .linesOf a .ownOf i) ≡ true)) → SetsAgain unit r b e a (instrument i)
+      own-back : (lineSet e ≡ some (ownLine a i))
+          × ((isSet (b .linesOf a .ownOf i) ≡ true) ⊎ (isSet (work unit b e .linesOf a .ownOf i) ≡ true))
+          → SetsAgain unit r b e a (instrument i)
       own-back h =
-          ⊎-elim (λ set. inl (h .0 ∙ ap some (sym (under-own r b a i set)))) (λ set. inr (h .0 ∙ ap some (sym (under-own r b′ a i set)))) (h .1)
+          ⊎-elim (λ set. inl (h .0 ∙ ap some (sym (under-own r b a i set)))) (λ set. inr (h .0 ∙ ap some (sym (under-own r b′ a i set))))
+          (h .1)
 
-      default-back : (lineSet e ≡ some (defaultLine a (r .contractOf i))) × (isSet (b .linesOf a .ownOf i) ≡ false) → SetsAgain unit r b e a (instrument i)
+      default-back : (lineSet e ≡ some (defaultLine a (r .contractOf i))) × (isSet (b .linesOf a .ownOf i) ≡ false)
+          → SetsAgain unit r b e a (instrument i)
       default-back h = inl (h .0 ∙ ap some (sym (under-default r b a i (h .1))))
 
   -- ---- the same with the events written out
   pub group-again : (g : ℕ) → SetsAgain unit r b e a (group g) ↔ ((x : ℤ) × (y : ℤ) × (e ≡ Limit a (OfGroup g x y)))
   group-again g = Iff·trans (group-set-again unit r b e a g) (group-line-set e a g)
 
-  pub instrument-again : (i : ℕ) → SetsAgain unit r b e a (instrument i) ↔ ((((f : Figures) × (e ≡ Limit a (Own i f))) × ((isSet (b .linesOf a .ownOf i) ≡ true) ⊎ (isSet (work unit b e .linesOf a .ownOf i) ≡ true))) ⊎ (((f : Figures) × (e ≡ Limit a (Default (r .contractOf i) f))) × (isSet (b .linesOf a .ownOf i) ≡ false)))
+  pub instrument-again : (i : ℕ) → SetsAgain unit r b e a (instrument i)
+      ↔ ((((f : Figures) × (e ≡ Limit a (Own i f)))
+      × ((isSet (b .linesOf a .ownOf i) ≡ true) ⊎ (isSet (work unit b e .linesOf a .ownOf i) ≡ true))) ⊎
+      (((f : Figures) × (e ≡ Limit a (Default (r .contractOf i) f))) × (isSet (b .linesOf a .ownOf i) ≡ false)))
   instrument-again i =
       let own = own-line-set e a i in
       let default = default-line-set e a (r .contractOf i) in

@@ -31,12 +31,18 @@ roster-fits-iff r = (
 )
 
 -- "its lines .. are in range": "figures run from 0 to 1,000,000,000"
-pub lines-fit-iff : (largest : ℕ) (ls : Lines) → LinesFit largest ls ↔ (((i : ℕ) (l : Line) → ls .ownOf i ≡ some l → (l .tci ≤ largest) × (l .tvi ≤ largest) × (l .lci ≤ largest) × (l .lvi ≤ largest))
+pub lines-fit-iff : (largest : ℕ) (ls : Lines) → LinesFit largest ls
+    ↔ (((i : ℕ) (l : Line) → ls .ownOf i ≡ some l → (l .tci ≤ largest) × (l .tvi ≤ largest) × (l .lci ≤ largest) × (l .lvi ≤ largest))
     × ((c : ℕ) (l : Line) → ls .defaultOf c ≡ some l → (l .tci ≤ largest) × (l .tvi ≤ largest) × (l .lci ≤ largest) × (l .lvi ≤ largest))
     × ((g : ℕ) (l : GroupLine) → ls .lineOfGroup g ≡ some l → (l .lcc ≤ largest) × (l .lvc ≤ largest)))
 lines-fit-iff largest ls = (
   λ h. (λ i l e. all-four (h .own i l e), λ c l e. all-four (h .default c l e), λ g l e. (h .ofGroup g l e .lcc, h .ofGroup g l e .lvc)),
-  λ h. record { own = λ i l e. of-four (h .0 i l e); default = λ c l e. of-four (h .1 c l e); ofGroup = λ g l e. record { lcc = h .2 g l e .0; lvc = h .2 g l e .1 } },
+  λ h. record {
+    own = λ i l e. of-four (h .0 i l e);
+    default = λ c l e. of-four (h .1 c l e);
+    ofGroup =
+        λ g l e. record { lcc = h .2 g l e .0; lvc = h .2 g l e .1 };
+  },
 )
   where
     all-four : {l : Line} → LineFits largest l → (l .tci ≤ largest) × (l .tvi ≤ largest) × (l .lci ≤ largest) × (l .lvi ≤ largest)

@@ -41,21 +41,31 @@ module _ (mk : Market) where
       made : Line
       made = record { tci = natAbs (f .tci); tvi = natAbs (f .tvi); lci = natAbs (f .lci); lvi = natAbs (f .lvi) }
 
-      by : (t : Bool) → t || (isLimit mk (f .tci) && isLimit mk (f .tvi) && isLimit mk (f .lci) && isLimit mk (f .lvi)) ≡ true → cond t none (some (record { tci = natAbs (f .tci); tvi = natAbs (f .tvi); lci = natAbs (f .lci); lvi = natAbs (f .lvi) })) ≡ some l → LineFits (mk .largest) l
+      by : (t : Bool) → t || (isLimit mk (f .tci) && isLimit mk (f .tvi) && isLimit mk (f .lci) && isLimit mk (f .lvi)) ≡ true
+          → cond t none (some (record { tci = natAbs (f .tci); tvi = natAbs (f .tvi); lci = natAbs (f .lci); lvi = natAbs (f .lvi) }))
+          ≡ some l → LineFits (mk .largest) l
       by true fit e = absurd (let z : _≡_ {A = ℕ} 0 1 = cc in omega arith)
       by false fit e =
           let h = four-true (isLimit mk (f .tci)) (isLimit mk (f .tvi)) (isLimit mk (f .lci)) (isLimit mk (f .lvi)) fit in
           let same : l ≡ made = cc in
-          rw same (record { tci = figure-fits (f .tci) (h .0); tvi = figure-fits (f .tvi) (h .1); lci = figure-fits (f .lci) (h .2); lvi = figure-fits (f .lvi) (h .3) })
+          rw same (record {
+            tci = figure-fits (f .tci) (h .0);
+            tvi = figure-fits (f .tvi) (h .1);
+            lci = figure-fits (f .lci) (h .2);
+            lvi =
+                figure-fits (f .lvi) (h .3);
+          })
 
-  pub group-line-fits : (x y : ℤ) → (isMinusOne x && isMinusOne y) || (isLimit mk x && isLimit mk y) ≡ true → (l : GroupLine) → groupLineOf x y ≡ some l → GroupLineFits (mk .largest) l
+  pub group-line-fits : (x y : ℤ) → (isMinusOne x && isMinusOne y) || (isLimit mk x && isLimit mk y) ≡ true → (l : GroupLine)
+      → groupLineOf x y ≡ some l → GroupLineFits (mk .largest) l
   unfolding groupLineOf
   group-line-fits x y fit l e = by (isMinusOne x && isMinusOne y) fit e
     where
       made : GroupLine
       made = record { lcc = natAbs x; lvc = natAbs y }
 
-      by : (t : Bool) → t || (isLimit mk x && isLimit mk y) ≡ true → cond t none (some (record { lcc = natAbs x; lvc = natAbs y })) ≡ some l → GroupLineFits (mk .largest) l
+      by : (t : Bool) → t || (isLimit mk x && isLimit mk y) ≡ true → cond t none (some (record { lcc = natAbs x; lvc = natAbs y })) ≡ some l
+          → GroupLineFits (mk .largest) l
       by true fit e = absurd (let z : _≡_ {A = ℕ} 0 1 = cc in omega arith)
       by false fit e =
           let h = both-true (isLimit mk x) (isLimit mk y) fit in
@@ -66,21 +76,27 @@ module _ (mk : Market) where
   unfolding setLine
   set-fits (Own i f) ls fit was =
       record {
-        own = λ j l. at-each i (lineOf f) (ls .ownOf) (λ x. x ≡ some l → LineFits (mk .largest) l) j (λ _. line-fits f fit l) (λ _. was .own j l);
+        own =
+            λ j l. at-each i (lineOf f) (ls .ownOf) (λ x. x ≡ some l → LineFits (mk .largest) l) j (λ _. line-fits f fit l)
+            (λ _. was .own j l);
         default = was .default;
         ofGroup = was .ofGroup;
       }
   set-fits (Default c f) ls fit was =
       record {
         own = was .own;
-        default = λ j l. at-each c (lineOf f) (ls .defaultOf) (λ x. x ≡ some l → LineFits (mk .largest) l) j (λ _. line-fits f fit l) (λ _. was .default j l);
+        default =
+            λ j l. at-each c (lineOf f) (ls .defaultOf) (λ x. x ≡ some l → LineFits (mk .largest) l) j (λ _. line-fits f fit l)
+            (λ _. was .default j l);
         ofGroup = was .ofGroup;
       }
   set-fits (OfGroup g x y) ls fit was =
       record {
         own = was .own;
         default = was .default;
-        ofGroup = λ j l. at-each g (groupLineOf x y) (ls .lineOfGroup) (λ k. k ≡ some l → GroupLineFits (mk .largest) l) j (λ _. group-line-fits x y fit l) (λ _. was .ofGroup j l);
+        ofGroup =
+            λ j l. at-each g (groupLineOf x y) (ls .lineOfGroup) (λ k. k ≡ some l → GroupLineFits (mk .largest) l) j
+            (λ _. group-line-fits x y fit l) (λ _. was .ofGroup j l);
       }
 
 -- ---- a limit of an instrument is at most the largest figure
@@ -88,11 +104,13 @@ largest-fits : (largest : ℕ) (w : Way) (l : Line) → LineFits largest l → l
 largest-fits largest long l fits = fits .lci
 largest-fits largest short l fits = fits .lvi
 
-pub limit-fits : (r : Roster) (ls : Lines) (largest : ℕ) → LinesFit largest ls → (i : ℕ) (w : Way) → limit r ls (instrument i) w ≤ℤ pos largest
+pub limit-fits : (r : Roster) (ls : Lines) (largest : ℕ) → LinesFit largest ls → (i : ℕ) (w : Way)
+    → limit r ls (instrument i) w ≤ℤ pos largest
 unfolding limit lineInForce
 limit-fits r ls largest fit i w = by (ls .ownOf i) (ls .defaultOf (r .contractOf i)) (fit .own i) (fit .default (r .contractOf i))
   where
-    by : (own default : Option Line) → ((l : Line) → own ≡ some l → LineFits largest l) → ((l : Line) → default ≡ some l → LineFits largest l) → figure (largestPosition w) (orElse own default) ≤ℤ pos largest
+    by : (own default : Option Line) → ((l : Line) → own ≡ some l → LineFits largest l)
+        → ((l : Line) → default ≡ some l → LineFits largest l) → figure (largestPosition w) (orElse own default) ≤ℤ pos largest
     by (some l) default h k = let f = largest-fits largest w l (h l refl) in omega signed
     by none (some l) h k = let f = largest-fits largest w l (k l refl) in omega signed
     by none none h k = omega signed

@@ -24,7 +24,8 @@ use Rattle.book.specs.OpenOrders.{find, change, kept}
 use Rattle.book.specs.Books.{Book, newOrder, work, mark}
 use Rattle.book.specs.Table.{accountKnown, itemKnown, figuresFit, idOpen, quantityFits, idFree, placeFree}
 use Rattle.book.specs.Sound.{OrderFits, Ascending, Sound}
-use Rattle.book.proofs.Cuts.{standing, insert-ascending, insert-members, insert-length, standing-member, change-members, change-length}
+use Rattle.book.proofs.Cuts.{standing, insert-ascending, insert-members, insert-length, standing-member, change-members}
+use Rattle.book.proofs.Cuts.{change-length}
 use Rattle.book.proofs.Ids.{Became, gone, became, replaced-became, filled-became, change-ascending}
 use Rattle.book.proofs.Accepted.{Passed}
 use Rattle.book.proofs.Tables.{at-each, between-numbered, quantity-numbered}
@@ -45,7 +46,8 @@ became-length o l (became e) = omega arith
 
 module _ (id : ℕ) (f : Order → List Order) (os : List Order) (o : Order) (found : find id os ≡ some o) where
   -- what holds of the open orders, and of what one of them becomes, holds after the change
-  pub change-each : (P : Order → Type 0) → ((x : Order) → List·Memᴰ x os → P x) → ((x : Order) → List·Memᴰ x (f o) → P x) → (x : Order) → List·Memᴰ x (change id f os) → P x
+  pub change-each : (P : Order → Type 0) → ((x : Order) → List·Memᴰ x os → P x) → ((x : Order) → List·Memᴰ x (f o) → P x) → (x : Order)
+      → List·Memᴰ x (change id f os) → P x
   change-each P old new x m = ⊎-elim (new x) (old x) (change-members (standing id os o found) f x m)
 
   pub change-count : ((x : Order) → Became x (f x)) → (most : ℕ) → length os ≤ most → length (change id f os) ≤ most
@@ -54,7 +56,8 @@ module _ (id : ℕ) (f : Order → List Order) (os : List Order) (o : Order) (fo
 
 -- ---- orders in range
 module _ (r : Roster) where
-  pub new-fits : (s : Side) (a i id : ℕ) (n : ℤ) → Numbered (r .accounts) a → Numbered (r .instruments) i → Numbered 1000000 (natAbs n) → OrderFits r (newOrder s a i id n)
+  pub new-fits : (s : Side) (a i id : ℕ) (n : ℤ) → Numbered (r .accounts) a → Numbered (r .instruments) i → Numbered 1000000 (natAbs n)
+      → OrderFits r (newOrder s a i id n)
   unfolding newOrder remaining
   new-fits s a i id n account item quantity =
       record { account = account; instrument = item; total = quantity; remains = omega arith }
@@ -80,13 +83,17 @@ module _ (mk : Market) (r : Roster) (b : Book) (trading : ℕ → Bool) (sound :
   fits-after (Balance a i z) ok x m = sound .fits x m
   fits-after (Block what z) ok x m = sound .fits x m
   fits-after (New s a i id n) ok x m =
-      let new = new-fits r s a i id n (between-numbered (r .accounts) a (ok .account)) (between-numbered (r .instruments) i (ok .item)) (quantity-numbered n (ok .figures)) in
+      let new = new-fits r s a i id n (between-numbered (r .accounts) a (ok .account)) (between-numbered (r .instruments) i (ok .item))
+      (quantity-numbered n (ok .figures)) in
       ⊎-elim (λ e. rw e new) (sound .fits x) (insert-members (newOrder s a i id n) (b .orders) x .0 m)
   fits-after (Replace id n) ok x m =
       let f = found-order id b (ok .found) in
-      let above = ltb-true (f .0 .filled) (natAbs n) (test-found (λ o. ltb (o .filled) (natAbs n)) (find id (b .orders)) (f .0) (f .1) (ok .quantity)) in
-      let new = replaced-fits r (f .0) (natAbs n) (sound .fits (f .0) (member id (f .0) (f .1))) (quantity-numbered n (ok .figures)) above in
-      change-each id (λ y. replacedTotal y (natAbs n) ∷ []) (b .orders) (f .0) (f .1) (OrderFits r) (sound .fits) (λ y k. rw (List·Memᴰ·eq-of-singleton k) new) x m
+      let above = ltb-true (f .0 .filled) (natAbs n)
+      (test-found (λ o. ltb (o .filled) (natAbs n)) (find id (b .orders)) (f .0) (f .1) (ok .quantity)) in
+      let new = replaced-fits r (f .0) (natAbs n) (sound .fits (f .0) (member id (f .0) (f .1)))
+      (quantity-numbered n (ok .figures)) above in
+      change-each id (λ y. replacedTotal y (natAbs n) ∷ []) (b .orders) (f .0) (f .1) (OrderFits r) (sound .fits)
+      (λ y k. rw (List·Memᴰ·eq-of-singleton k) new) x m
   fits-after (Cancel id) ok x m =
       let f = found-order id b (ok .found) in
       change-each id (λ y. []) (b .orders) (f .0) (f .1) (OrderFits r) (sound .fits) (λ y k. absurd (List·Memᴰ·not-nil k)) x m
@@ -135,7 +142,8 @@ module _ (mk : Market) (r : Roster) (b : Book) (trading : ℕ → Bool) (sound :
 
 -- ---- every account with an open order is marked
 module _ (mk : Market) (r : Roster) (b : Book) (trading : ℕ → Bool) (sound : Sound mk r b trading) where
-  pub marked-after : (e : Event) → Passed mk r b trading e → (x : Order) → List·Memᴰ x (work (mk .unit) b e .orders) → mark trading e (x .account) ≡ true
+  pub marked-after : (e : Event) → Passed mk r b trading e → (x : Order) → List·Memᴰ x (work (mk .unit) b e .orders)
+      → mark trading e (x .account) ≡ true
   unfolding work mark idOpen newOrder replacedTotal filledBy
   marked-after (Limit a l) ok x m = sound .marked x m
   marked-after (Balance a i z) ok x m = sound .marked x m
@@ -146,10 +154,12 @@ module _ (mk : Market) (r : Roster) (b : Book) (trading : ℕ → Bool) (sound :
   marked-after (Replace id n) ok x m =
       let f = found-order id b (ok .found) in
       let own = sound .marked (f .0) (member mk r b trading sound id (f .0) (f .1)) in
-      change-each id (λ y. replacedTotal y (natAbs n) ∷ []) (b .orders) (f .0) (f .1) (λ y. trading (y .account) ≡ true) (sound .marked) (λ y k. rw (List·Memᴰ·eq-of-singleton k) own) x m
+      change-each id (λ y. replacedTotal y (natAbs n) ∷ []) (b .orders) (f .0) (f .1) (λ y. trading (y .account) ≡ true) (sound .marked)
+      (λ y k. rw (List·Memᴰ·eq-of-singleton k) own) x m
   marked-after (Cancel id) ok x m =
       let f = found-order id b (ok .found) in
-      change-each id (λ y. []) (b .orders) (f .0) (f .1) (λ y. trading (y .account) ≡ true) (sound .marked) (λ y k. absurd (List·Memᴰ·not-nil k)) x m
+      change-each id (λ y. []) (b .orders) (f .0) (f .1) (λ y. trading (y .account) ≡ true) (sound .marked)
+      (λ y k. absurd (List·Memᴰ·not-nil k)) x m
   marked-after (Fill id n) ok x m =
       let f = found-order id b (ok .found) in
       let own = sound .marked (f .0) (member mk r b trading sound id (f .0) (f .1)) in

@@ -48,7 +48,13 @@ sound-empty mk r fits =
       count = omega arith;
       fits = λ o m. absurd (List·Memᴰ·not-nil m);
       ids = nothing;
-      bounded = λ a i w. omega (signed, zero-toward w, open-none (mk .unit) (sideTo w) a i, sum-parts (toward w (pos 0)) (openOn (mk .unit) [] (sideTo w) a i));
+      bounded =
+          λ a i w. omega (
+            signed,
+            zero-toward w,
+            open-none (mk .unit) (sideTo w) a i,
+            sum-parts (toward w (pos 0)) (openOn (mk .unit) [] (sideTo w) a i),
+          );
       marked = λ o m. absurd (List·Memᴰ·not-nil m);
     }
 
@@ -61,7 +67,8 @@ module _ (mk : Market) (keeps : UnitKept mk) (r : Roster) (b : Book) (trading : 
   pub lines-after : (e : Event) → Passed mk r b trading e → (a : ℕ) → LinesFit (mk .largest) (work (mk .unit) b e .linesOf a)
   unfolding work figuresFit
   lines-after (Limit c l) ok a =
-      at-each c (setLine l (b .linesOf c)) (b .linesOf) (LinesFit (mk .largest)) a (λ _. set-fits mk l (b .linesOf c) (ok .figures) (sound .lines c)) (λ _. sound .lines a)
+      at-each c (setLine l (b .linesOf c)) (b .linesOf) (LinesFit (mk .largest)) a
+      (λ _. set-fits mk l (b .linesOf c) (ok .figures) (sound .lines c)) (λ _. sound .lines a)
   lines-after (Balance c i z) ok a = sound .lines a
   lines-after (Block what z) ok a = sound .lines a
   lines-after (New s c i id n) ok a = sound .lines a
@@ -75,25 +82,30 @@ module _ (mk : Market) (keeps : UnitKept mk) (r : Roster) (b : Book) (trading : 
   unmarked-idle a unmarked o m own = true≢false (sym (sound .marked o m) ∙ (rw (← own) at unmarked))
 
   -- so where a BALANCE is accepted, the positions that it leaves are in range
-  balance-bounded : (a i : ℕ) (z : ℤ) → Passed mk r b trading (Balance a i z) → (j : ℕ) (w : Way) → potentialOf mk r (work (mk .unit) b (Balance a i z)) a (instrument j) w ≤ℤ pos (mk .largest)
+  balance-bounded : (a i : ℕ) (z : ℤ) → Passed mk r b trading (Balance a i z) → (j : ℕ) (w : Way)
+      → potentialOf mk r (work (mk .unit) b (Balance a i z)) a (instrument j) w ≤ℤ pos (mk .largest)
   unfolding figuresFit notYetTrading position potential
   balance-bounded a i z ok j w =
       let free = unmarked-idle a (not-true (trading a) (ok .idle)) in
       rw (balance-own mk r b a (instrument j) w i z free)
       (at-each i z (b .balanceOf a) (λ x. toward w x ≤ℤ pos (mk .largest)) j
-      (λ _. let h = betweenℤ-both (negℤ (pos (mk .largest))) (pos (mk .largest)) z (ok .figures) in toward-fits w z (mk .largest) (h .0) (h .1))
+      (λ _. let h = betweenℤ-both (negℤ (pos (mk .largest))) (pos (mk .largest)) z (ok .figures) in
+      toward-fits w z (mk .largest) (h .0) (h .1))
       (λ _. rw (idle (mk .unit) r a (b .orders) (b .balanceOf a) (instrument j) w free) at (sound .bounded a j w)))
 
   in-range : (a i : ℕ) (w : Way) → potentialOf mk r b a (instrument i) w ≤ℤ pos (mk .largest)
   unfolding potential
   in-range a i w = sound .bounded a i w
 
-  pub bounded-after : (e : Event) → Accepted mk r b trading e → (a i : ℕ) (w : Way) → potentialOf mk r (work (mk .unit) b e) a (instrument i) w ≤ℤ pos (mk .largest)
+  pub bounded-after : (e : Event) → Accepted mk r b trading e → (a i : ℕ) (w : Way)
+      → potentialOf mk r (work (mk .unit) b e) a (instrument i) w ≤ℤ pos (mk .largest)
   bounded-after e acc a i w = by e acc
     where
-      keep : (e : Event) → Accepted mk r b trading e → SetsNoBalance a e → potentialOf mk r (work (mk .unit) b e) a (instrument i) w ≤ℤ pos (mk .largest)
+      keep : (e : Event) → Accepted mk r b trading e → SetsNoBalance a e
+          → potentialOf mk r (work (mk .unit) b e) a (instrument i) w ≤ℤ pos (mk .largest)
       keep e acc free =
-          kept-within mk keeps r b trading a (instrument i) w (pos (mk .largest)) e acc free (limit-fits r (b .linesOf a) (mk .largest) (sound .lines a) i w) (in-range a i w)
+          kept-within mk keeps r b trading a (instrument i) w (pos (mk .largest)) e acc free
+          (limit-fits r (b .linesOf a) (mk .largest) (sound .lines a) i w) (in-range a i w)
 
       by : (e : Event) → Accepted mk r b trading e → potentialOf mk r (work (mk .unit) b e) a (instrument i) w ≤ℤ pos (mk .largest)
       by (Limit c l) acc = keep (Limit c l) acc tt

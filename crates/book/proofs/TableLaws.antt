@@ -30,7 +30,9 @@ positionNumbers none = []
 positionNumbers (some o) = 21 ∷ 22 ∷ 23 ∷ 24 ∷ []
 
 -- "Questions, in order": 5 to 20, and then 21 to 24 of a NEW and of "a REPLACE whose total rises"
-pub numbers-in-order : (mk : Market) (r : Roster) (sound : Bool) (b : Book) (trading : ℕ → Bool) (e : Event) → numbersOf (questions mk r sound b trading e) ≡ 5 ∷ 6 ∷ 7 ∷ 8 ∷ 9 ∷ 10 ∷ 11 ∷ 12 ∷ 13 ∷ 14 ∷ 15 ∷ 16 ∷ 17 ∷ 18 ∷ 19 ∷ 20 ∷ positionNumbers (entered b e)
+pub numbers-in-order : (mk : Market) (r : Roster) (sound : Bool) (b : Book) (trading : ℕ → Bool) (e : Event)
+    → numbersOf (questions mk r sound b trading e) ≡ 5 ∷ 6 ∷ 7 ∷ 8 ∷ 9 ∷ 10 ∷ 11 ∷ 12 ∷ 13 ∷ 14 ∷ 15 ∷ 16 ∷ 17 ∷ 18 ∷ 19 ∷ 20
+    ∷ positionNumbers (entered b e)
 unfolding questions questionsBefore limitQuestions positionQuestions
 numbers-in-order mk r sound b trading e = rw (at-the-end (entered b e))
   where
@@ -81,7 +83,15 @@ entered-iff b e o = (there e, ⊎-elim by-new by-replace)
     by-new : IsNew e o → entered b e ≡ some o
     by-new h =
         rw (h .1)
-        (λ i. some (record { id = o .id; account = o .account; instrument = o .instrument; side = o .side; total = sym (h .2) i; filled = sym (h .3) i }))
+        (λ i. some (record {
+          id = o .id;
+          account = o .account;
+          instrument = o .instrument;
+          side = o .side;
+          total = sym (h .2) i;
+          filled =
+              sym (h .3) i;
+        }))
 
     by-replace : Raises b e o → entered b e ≡ some o
     by-replace h = rw (h .3, h .4, lt-ltb (h .2 .total) (natAbs (h .1)) (h .5), h .6)

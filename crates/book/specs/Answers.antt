@@ -1,7 +1,10 @@
 -- The number of each answer to an event: that of the question which is answered no, or 0.
 use Prim.Native.Nat.{ℕ}
 use Rattle.book.specs.declared.Answer.{Answer}
-use Rattle.book.specs.declared.Answer.the-variants.{Accepted, NoSoundDesk, NoEvent, UnknownAccount, UnknownItem, FigureOutOfRange, AlreadyTrading, OrderNotFound, QuantityOutOfRange, DuplicateOrder, AccountBlocked, InstrumentBlocked, GroupBlocked, NoLimitsConfigured, NoPlaceFree, BuyTooLarge, SellTooLarge, InstrumentTooLong, InstrumentTooShort, GroupTooLong, GroupTooShort}
+use Rattle.book.specs.declared.Answer.the-variants.{Accepted, NoSoundDesk, NoEvent, UnknownAccount, UnknownItem, FigureOutOfRange}
+use Rattle.book.specs.declared.Answer.the-variants.{AlreadyTrading, OrderNotFound, QuantityOutOfRange, DuplicateOrder, AccountBlocked}
+use Rattle.book.specs.declared.Answer.the-variants.{InstrumentBlocked, GroupBlocked, NoLimitsConfigured, NoPlaceFree, BuyTooLarge}
+use Rattle.book.specs.declared.Answer.the-variants.{SellTooLarge, InstrumentTooLong, InstrumentTooShort, GroupTooLong, GroupTooShort}
 
 unfoldable pub numberOf : Answer → ℕ
 numberOf Accepted = 0

@@ -6,24 +6,24 @@ use Rattle.book.specs.Market.{Market}
 use Rattle.book.specs.Books.{work, mark}
 use Rattle.book.specs.Table.{answer}
 use Rattle.book.specs.Sound.{Sound}
-use Rattle.book.specs.Kept.{RawEvent, said, Desk, Kept}
+use Rattle.book.specs.EventLists.{RawEvent, asEvent, Desk, State}
 
 -- the kept book after an accepted event
-abbrev pub withWorked : Market → Kept → RawEvent → Kept
-withWorked mk k e = record { book = work (mk .unit) (k .book) (said e); trading = mark (k .trading) (said e) }
+abbrev pub withWorked : Market → State → RawEvent → State
+withWorked mk k e = record { book = work (mk .unit) (k .book) (asEvent e); trading = mark (k .trading) (asEvent e) }
 
 pub record Contract (D : Desk) (mk : Market) (r : Roster) : Type 1 where
   -- the memory holds the book and the marks
-  pub Shows : D .Memory → Kept → Type 0
+  pub Shows : D .Memory → State → Type 0
   -- of a sound book that it shows, the answer is the table's
   pub judged :
-      (m : D .Memory) (k : Kept) (e : RawEvent)
+      (m : D .Memory) (k : State) (e : RawEvent)
       → Shows m k
       → Sound mk r (k .book) (k .trading)
-      → D .answerTo m e ≡ answer mk r (k .book) (k .trading) (said e)
+      → D .answerTo m e ≡ answer mk r (k .book) (k .trading) (asEvent e)
   -- an accepted event is worked
   pub worked :
-      (m : D .Memory) (k : Kept) (e : RawEvent)
+      (m : D .Memory) (k : State) (e : RawEvent)
       → Shows m k
       → Sound mk r (k .book) (k .trading)
       → D .answerTo m e ≡ 0

@@ -8,16 +8,16 @@ use Rattle.book.specs.declared.Event.{Event}
 use Rattle.book.specs.Market.{derivatives}
 use Rattle.book.specs.Decoding.{decode}
 use Rattle.book.specs.Table.{answer}
-use Rattle.book.specs.Kept.{Kept, keep}
+use Rattle.book.specs.EventLists.{State, keep}
 
 -- each event worked where it is accepted
-abbrev pub answersTo : Roster → Kept → List Event → List ℕ
+abbrev pub answersTo : Roster → State → List Event → List ℕ
 answersTo r k [] = []
 answersTo r k (e ∷ es) =
     let n = answer derivatives r (k .book) (k .trading) e in
     n ∷ answersTo r (keep derivatives k e n) es
 
-abbrev pub endOf : Roster → Kept → List Event → Kept
+abbrev pub endOf : Roster → State → List Event → State
 endOf r k [] = k
 endOf r k (e ∷ es) = endOf r (keep derivatives k e (answer derivatives r (k .book) (k .trading) e)) es
 

@@ -42,7 +42,8 @@ figureField e j = i64At e (16 + j * 8)
 
 abbrev pub byKind : {A : Type 0} → ℕ → A → A → A → A → A → A → A → A
 byKind k limit balance block new replace cancel fill =
-    cond (eqb k 1) limit (cond (eqb k 2) balance (cond (eqb k 3) block (cond (eqb k 4) new (cond (eqb k 5) replace (cond (eqb k 6) cancel fill)))))
+    cond (eqb k 1) limit (cond (eqb k 2) balance
+    (cond (eqb k 3) block (cond (eqb k 4) new (cond (eqb k 5) replace (cond (eqb k 6) cancel fill)))))
 
 abbrev pub byLevel : {A : Type 0} → ℕ → A → A → A → A
 byLevel l one two three = cond (eqb l 1) one (cond (eqb l 2) two three)

@@ -7,7 +7,7 @@ use Rattle.ledger.specs.Roster.{Roster}
 use Rattle.book.specs.Market.{derivatives}
 use Rattle.book.specs.Decoding.{between, decode}
 use Rattle.book.specs.Table.{answer}
-use Rattle.book.specs.Kept.{begun}
+use Rattle.book.specs.EventLists.{begun}
 use Rattle.book.specs.Positions.{instrumentIn}
 use Rattle.book.specs.Days.{answersTo, endOf, decoded, allBytes}
 use Rattle.book.specs.EventBytes.{line, groupLine, balance, buy, sell}

@@ -9,15 +9,16 @@ unfoldable pub bytesOf : ℕ → ℕ → List ℕ
 bytesOf zero v = []
 bytesOf (suc n) v = v % 256 ∷ bytesOf n (v / 256)
 
-unfoldable pub figure : ℤ → List ℕ
-figure z = bytesOf 8 (bitsOf 64 z)
+unfoldable pub figureBytes : ℤ → List ℕ
+figureBytes z = bytesOf 8 (bitsOf 64 z)
 
 -- kind, side, account, item, level, zero, order id, four figures
 unfoldable pub eventBytes : (kind side account item level id : ℕ) → ℤ → ℤ → ℤ → ℤ → List ℕ
 eventBytes kind side account item level id w x y z =
     kind
     ∷ side
-    ∷ (bytesOf 2 account ++ (bytesOf 2 item ++ (level ∷ 0 ∷ (bytesOf 8 id ++ (figure w ++ (figure x ++ (figure y ++ figure z)))))))
+    ∷ (bytesOf 2 account
+    ++ (bytesOf 2 item ++ (level ∷ 0 ∷ (bytesOf 8 id ++ (figureBytes w ++ (figureBytes x ++ (figureBytes y ++ figureBytes z)))))))
 
 -- ---- each kind, with the fields that it names
 abbrev pub limitBytes : (level account item : ℕ) → ℤ → ℤ → ℤ → ℤ → List ℕ

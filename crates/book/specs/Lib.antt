@@ -4,7 +4,7 @@ pub mod OpenOrders
 pub mod Books
 pub mod Table
 pub mod Sound
-pub mod Kept
+pub mod EventLists
 pub mod SetAgain
 pub mod Demand3
 pub mod Contract

@@ -4,7 +4,8 @@ use Prim.Native.Nat.{ℕ}
 use mathlib.Core.List.{List, [], _∷_, _++_}
 use lib.IntN.{pos, negsuc, negℤ}
 use lib.ListN.{take}
-use Rattle.book.specs.EventBytes.{limitBytes, line, groupLine, balanceBytes, balance, blockBytes, buy, sell, replaceBytes, cancelBytes, fillBytes}
+use Rattle.book.specs.EventBytes.{limitBytes, line, groupLine, balanceBytes, balance, blockBytes, buy, sell, replaceBytes}
+use Rattle.book.specs.EventBytes.{cancelBytes, fillBytes}
 use Rattle.book.specs.Rosters.{Tables}
 
 -- two accounts, groups and contracts; contract 1, of group 1, has instruments 1, of weight 10000, and 2, a put of weight −5000; contract

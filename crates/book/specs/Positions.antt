@@ -3,11 +3,11 @@ use Prim.Native.Nat.{ℕ}
 use mathlib.Core.List.{List, [], _∷_}
 use lib.IntN.{ℤ}
 use Rattle.ledger.specs.Roster.{Roster}
-use Rattle.ledger.specs.Positions.{Place, Way, long, short, instrument, group, potential}
+use Rattle.ledger.specs.Positions.{Scope, Way, long, short, instrument, group, potential}
 use Rattle.book.specs.Market.{derivatives}
 use Rattle.book.specs.Books.{Book}
 
-unfoldable pub potentialIn : Roster → Book → ℕ → Place → Way → ℤ
+unfoldable pub potentialIn : Roster → Book → ℕ → Scope → Way → ℤ
 potentialIn r b a p w = potential (derivatives .unit) r (b .orders) a (b .balanceOf a) p w
 
 -- S, PCI and PVI of an account and instrument

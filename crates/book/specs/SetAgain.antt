@@ -7,7 +7,7 @@ use mathlib.Core.Bool.{cond}
 use mathlib.Core.Option.{Option, none, some}
 use Rattle.ledger.specs.declared.order.Order.{Order}
 use Rattle.ledger.specs.Roster.{Roster}
-use Rattle.ledger.specs.Positions.{Place, instrument, group}
+use Rattle.ledger.specs.Positions.{Scope, instrument, group}
 use Rattle.limits.specs.Lines.{isSet}
 use Rattle.book.specs.declared.LimitLine.{LimitLine}
 use Rattle.book.specs.declared.LimitLine.the-variants.{Own, Default, OfGroup}
@@ -38,12 +38,12 @@ lineSet (Fill id n) = none
 lineSet Junk = none
 
 -- the line that a position of account a is under: the group's line, or the line in force
-unfoldable pub lineOver : Roster → Book → ℕ → Place → LineName
+unfoldable pub lineOver : Roster → Book → ℕ → Scope → LineName
 lineOver r b a (instrument i) =
     cond (isSet (b .linesOf a .ownOf i)) (ownLine a i) (defaultLine a (r .contractOf i))
 lineOver r b a (group g) = groupLine a g
 
 -- an accepted event sets the limit of account a's position again
-abbrev pub SetsAgain : (Order → ℕ) → Roster → Book → Event → ℕ → Place → Type 0
+abbrev pub SetsAgain : (Order → ℕ) → Roster → Book → Event → ℕ → Scope → Type 0
 SetsAgain unit r b e a p =
     (lineSet e ≡ some (lineOver r b a p)) ⊎ (lineSet e ≡ some (lineOver r (work unit b e) a p))

@@ -3,7 +3,7 @@ use Prim.Native.Nat.{ℕ, zero, suc, _%_}
 use mathlib.Core.List.{List, [], _∷_}
 use native.Mathlib.Omega.{arith}
 use Rattle.words.specs.Bytes.{Bytes}
-use Rattle.book.specs.Kept.{RawEvent}
+use Rattle.book.specs.EventLists.{RawEvent}
 
 -- each number modulo 256: bytes stay as they are
 unfoldable pub asBytes : List ℕ → List ℕ

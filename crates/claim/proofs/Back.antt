@@ -6,21 +6,21 @@ use mathlib.Core.Bool.{true}
 use mathlib.Core.List.{List, [], _∷_, _++_, List·Memᴰ, List·Memᴰ·head, List·Memᴰ·tail}
 use lib.ListN.{length}
 use Rattle.ledger.specs.Derivatives.{one}
-use Rattle.ledger.specs.Positions.{Place}
+use Rattle.ledger.specs.Positions.{Scope}
 use Rattle.ledger.specs.Roster.{Roster}
 use Rattle.limits.specs.Questions.{Question, allPass}
 use Rattle.book.specs.declared.LimitLine.{LimitLine}
 use Rattle.book.specs.declared.Event.the-variants.{Limit}
 use Rattle.book.specs.Market.{derivatives}
 use Rattle.book.specs.Books.{work}
-use Rattle.book.specs.Kept.{RawEvent, said, Kept, memoryAfter, keptAfter}
+use Rattle.book.specs.EventLists.{RawEvent, asEvent, State, memoryAfter, stateAfter}
 use Rattle.book.specs.SetAgain.{nameOf, lineOver}
 use Rattle.book.specs.Demand3.{NotSetAgain}
 use Rattle.book.proofs.SetAgainLaws.{set-by-that-limit}
 use Rattle.book.proofs.NotSetAgainLaws.{not-set-again-iff}
 use Rattle.desk.specs.Step.{answerTo}
 use Rattle.desk.specs.Days.{answersOver, memoryOver}
-use Rattle.desk.specs.Run.{Whole, eventsFor, bytesOfEach, joined}
+use Rattle.desk.specs.Run.{Whole, eventsFor, bytesOfEach, concatenated}
 use Rattle.desk.specs.Demands.{OneOf, Answers, gate, Demand1 as DeskDemand1, Demand2 as DeskDemand2, Demand3 as DeskDemand3}
 use Rattle.claim.specs.Claim.{FirstNo, Demand1, Demand2, Demand3, Run}
 use Rattle.claim.proofs.Demands.{failed-first}
@@ -65,15 +65,18 @@ back-2 d =
     }
 
 -- ---- demand 3
-none-on-the-line : (r : Roster) (m : List ℕ) (k : Kept) (a : ℕ) (p : Place) (later : List RawEvent)
+none-on-the-line : (r : Roster) (m : List ℕ) (k : State) (a : ℕ) (p : Scope) (later : List RawEvent)
     → NotSetAgain gate derivatives r m k a p later
-    → (before : List RawEvent) (e : RawEvent) (behind : List RawEvent) (c : ℕ) (l : LimitLine) → later ≡ before ++ (e ∷ behind) → said e ≡ Limit c l → answerTo (memoryAfter gate m before) (e .bytes) ≡ 0 → (nameOf c l ≡ lineOver r (keptAfter gate derivatives m k before .book) a p) ⊎ (nameOf c l ≡ lineOver r (work one (keptAfter gate derivatives m k before .book) (said e)) a p) → ⊥
+    → (before : List RawEvent) (e : RawEvent) (behind : List RawEvent) (c : ℕ) (l : LimitLine) → later ≡ before ++ (e ∷ behind)
+    → asEvent e ≡ Limit c l → answerTo (memoryAfter gate m before) (e .bytes) ≡ 0
+    → (nameOf c l ≡ lineOver r (stateAfter gate derivatives m k before .book) a p) ⊎
+    (nameOf c l ≡ lineOver r (work one (stateAfter gate derivatives m k before .book) (asEvent e)) a p) → ⊥
 unfolding derivatives
 none-on-the-line r m k a p later out before e behind c l cut limits zero under =
     not-set-again-iff gate derivatives r a p m k later .0 out before e behind cut zero
     (⊎-elim
-    (λ x. inl (set-by-that-limit (said e) _ .1 (c, l, limits, sym x)))
-    (λ x. inr (set-by-that-limit (said e) _ .1 (c, l, limits, sym x)))
+    (λ x. inl (set-by-that-limit (asEvent e) _ .1 (c, l, limits, sym x)))
+    (λ x. inr (set-by-that-limit (asEvent e) _ .1 (c, l, limits, sym x)))
     under)
 
 pub back-3 : Demand3 → DeskDemand3
@@ -105,11 +108,14 @@ last-of [] n w = w
 last-of (x ∷ []) n w = w .1
 last-of (x ∷ y ∷ es) n w = last-of (y ∷ es) n (w .1)
 
-pub run-back : Run → (m : List ℕ) (es : List RawEvent) (n : RawEvent) (room : List ℕ) → Whole (es ++ (n ∷ [])) → length es < length room → (eventsFor (joined (es ++ (n ∷ []))) room ≡ bytesOfEach (es ++ (n ∷ []))) × (memoryOver m (bytesOfEach (es ++ (n ∷ []))) ≡ memoryAfter gate m (es ++ (n ∷ [])))
+pub run-back : Run → (m : List ℕ) (es : List RawEvent) (n : RawEvent) (room : List ℕ) → Whole (es ++ (n ∷ [])) → length es < length room
+    → (eventsFor (concatenated (es ++ (n ∷ []))) room ≡ bytesOfEach (es ++ (n ∷ [])))
+    × (memoryOver m (bytesOfEach (es ++ (n ∷ []))) ≡ memoryAfter gate m (es ++ (n ∷ [])))
 run-back r m es n room w space =
     let last = last-of es n w in
     let so = r .events m es n room (full-before es n w) (last .0) (last .1) space in
     (so .0, so .1)
 
-pub next-back : Run → (m : List ℕ) (es : List RawEvent) (n : RawEvent) → answersOver m (bytesOfEach (es ++ (n ∷ []))) ≡ answersOver m (bytesOfEach es) ++ (answerTo (memoryAfter gate m es) (n .bytes) ∷ [])
+pub next-back : Run → (m : List ℕ) (es : List RawEvent) (n : RawEvent)
+    → answersOver m (bytesOfEach (es ++ (n ∷ []))) ≡ answersOver m (bytesOfEach es) ++ (answerTo (memoryAfter gate m es) (n .bytes) ∷ [])
 next-back r = r .next

@@ -13,7 +13,7 @@ use Rattle.limits.specs.Questions.{Question}
 use Rattle.book.specs.Market.{derivatives}
 use Rattle.book.specs.Decoding.{decode}
 use Rattle.book.specs.Table.{q, entered}
-use Rattle.book.specs.Kept.{RawEvent, said}
+use Rattle.book.specs.EventLists.{RawEvent, asEvent}
 use Rattle.book.proofs.SetAgainLaws.{set-by-that-limit}
 use Rattle.book.proofs.NotSetAgainLaws.{not-set-again-iff}
 use Rattle.book.proofs.TableLaws.{positionNumbers, numbers-in-order}
@@ -21,7 +21,7 @@ use Rattle.layout.specs.View.{rosterOf, bookOf, tradingOf}
 use Rattle.soundness.specs.Soundness.{soundDesk}
 use Rattle.opening.specs.Questions.{rosterFrom, openingQuestions}
 use Rattle.reading.specs.Reading.{readingQuestions}
-use Rattle.desk.specs.Step.{eventQuestions, after}
+use Rattle.desk.specs.Step.{eventQuestions, afterEvent}
 use Rattle.desk.specs.Days.{answersOver}
 use Rattle.desk.specs.Run.{Whole, answered}
 use Rattle.desk.specs.Demands.{OneOf, FirstFailed, Answers, gate}
@@ -76,10 +76,12 @@ reading-numbers : (m : List ℕ) (items a n : ℕ) → map (λ x. x .number) (re
 unfolding readingQuestions
 reading-numbers m items a n = refl
 
-event-numbers : (m e : List ℕ) → map (λ x. x .number) (eventQuestions m e) ≡ 5 ∷ 6 ∷ 7 ∷ 8 ∷ 9 ∷ 10 ∷ 11 ∷ 12 ∷ 13 ∷ 14 ∷ 15 ∷ 16 ∷ 17 ∷ 18 ∷ 19 ∷ 20 ∷ cond (isSet (entered (bookOf m) (decode e))) (21 ∷ 22 ∷ 23 ∷ 24 ∷ []) []
+event-numbers : (m e : List ℕ) → map (λ x. x .number) (eventQuestions m e) ≡ 5 ∷ 6 ∷ 7 ∷ 8 ∷ 9 ∷ 10 ∷ 11 ∷ 12 ∷ 13 ∷ 14 ∷ 15 ∷ 16 ∷ 17 ∷ 18
+    ∷ 19 ∷ 20 ∷ cond (isSet (entered (bookOf m) (decode e))) (21 ∷ 22 ∷ 23 ∷ 24 ∷ []) []
 unfolding eventQuestions
 event-numbers m e =
-    rw (← at-the-end (entered (bookOf m) (decode e))) (numbers-in-order derivatives (rosterOf m) (soundDesk m) (bookOf m) (tradingOf m) (decode e))
+    rw (← at-the-end (entered (bookOf m) (decode e)))
+    (numbers-in-order derivatives (rosterOf m) (soundDesk m) (bookOf m) (tradingOf m) (decode e))
   where
     at-the-end : (x : Option Order) → positionNumbers x ≡ cond (isSet x) (21 ∷ 22 ∷ 23 ∷ 24 ∷ []) []
     at-the-end none = refl
@@ -120,8 +122,10 @@ demand-3 m s bytes opens events =
                 (not-set-again-iff gate derivatives (rosterFrom s) (o .account) p _ _ later .1
                 (λ before e behind cut accepted.
                 ⊎-elim
-                (λ h. let x = set-by-that-limit (said e) _ .0 h in out before e behind (x .0) (x .1) cut (x .2) accepted (inl (sym (x .3))))
-                (λ h. let x = set-by-that-limit (said e) _ .0 h in out before e behind (x .0) (x .1) cut (x .2) accepted (inr (sym (x .3)))))) in
+                (λ h. let x = set-by-that-limit (asEvent e) _ .0 h in
+                out before e behind (x .0) (x .1) cut (x .2) accepted (inl (sym (x .3))))
+                (λ h. let x = set-by-that-limit (asEvent e) _ .0 h in
+                out before e behind (x .0) (x .1) cut (x .2) accepted (inr (sym (x .3)))))) in
                 (kept .same, kept .stands, kept .filled),
           ),
       d .answered events,
@@ -131,7 +135,8 @@ demand-3 m s bytes opens events =
     )
 
 -- ---- the run
-one-by-one : (whole : List RawEvent) (last : RawEvent) → ((e : RawEvent) → List·Memᴰ e whole → length (e .bytes) ≡ 48) → 1 ≤ length (last .bytes) → length (last .bytes) ≤ 48 → Whole (whole ++ (last ∷ []))
+one-by-one : (whole : List RawEvent) (last : RawEvent) → ((e : RawEvent) → List·Memᴰ e whole → length (e .bytes) ≡ 48)
+    → 1 ≤ length (last .bytes) → length (last .bytes) ≤ 48 → Whole (whole ++ (last ∷ []))
 one-by-one [] last full some-bytes short = (some-bytes, short)
 one-by-one (e ∷ []) last full some-bytes short = (full e (List·Memᴰ·head refl), (some-bytes, short))
 one-by-one (e ∷ f ∷ es) last full some-bytes short =
@@ -140,14 +145,15 @@ one-by-one (e ∷ f ∷ es) last full some-bytes short =
 answers-count : (m : List ℕ) (es : List (List ℕ)) → length (answersOver m es) ≡ length es
 unfolding answersOver
 answers-count m [] = refl
-answers-count m (e ∷ es) = ap suc (answers-count (after m e) es)
+answers-count m (e ∷ es) = ap suc (answers-count (afterEvent m e) es)
 
 pub run : Run
 run =
     record {
       events = λ m whole last room full some-bytes short space.
           let es = whole ++ (last ∷ []) in
-          let worked = run-is-the-list .worked es room (one-by-one whole last full some-bytes short) (omega (arith, length-append whole (last ∷ []))) in (
+          let worked = run-is-the-list .worked es room (one-by-one whole last full some-bytes short)
+          (omega (arith, length-append whole (last ∷ []))) in (
             worked,
             run-is-the-list .memory m es,
             rw worked (rw (answers-count m (map (λ e. e .bytes) es), length-map es (λ e. e .bytes)) refl),

@@ -15,7 +15,7 @@ use Rattle.ledger.specs.Positions.{group, long, ofInstrument, potential}
 use Rattle.ledger.specs.Fillings.{none, fill}
 use Rattle.book.specs.EventBytes.{cancelBytes}
 use Rattle.book.specs.Decoding.{between}
-use Rattle.book.specs.Kept.{RawEvent, begun}
+use Rattle.book.specs.EventLists.{RawEvent, begun}
 use Rattle.book.specs.Listing.{listingEvents}
 use Rattle.book.specs.Written.{written, writtenAll}
 use Rattle.book.proofs.LongerDay.{weighs-more, weighs-less}
@@ -24,7 +24,7 @@ use Rattle.opening.specs.Opening.{afterOpening}
 use Rattle.reading.specs.Reading.{instrumentAnswer, groupAnswer, instrumentReport, groupReport, positionIn, reported}
 use Rattle.book.specs.Positions.{instrumentIn, groupIn}
 use Rattle.desk.specs.Days.{answersOver, memoryOver}
-use Rattle.desk.specs.Run.{eventsFor, answered, joined}
+use Rattle.desk.specs.Run.{eventsFor, answered, concatenated}
 use Rattle.desk.specs.Listing.{listingRoster}
 use Rattle.claim.specs.Examples.{memoryAt}
 use Rattle.claim.specs.Days.{order, ListingDay, InEveryMemory}
@@ -32,7 +32,7 @@ use Rattle.claim.proofs.Demands.{demand-2, demand-3, run}
 use Rattle.claim.proofs.Uses.{listed-passes}
 use Rattle.claim.proofs.Plainly.{plainly, answers-plainly}
 use Rattle.claim.proofs.Opened.{opened, opens-long}
-use Rattle.claim.proofs.Examples.{plainKept, kept-at, refused, accepted}
+use Rattle.claim.proofs.Examples.{plainState, state-at, refused, accepted}
 
 -- ---- document 01's listing
 listing-opens : (m : List ℕ) → 65536 ≤ length m → openingAnswer m listingRoster ≡ 0
@@ -41,29 +41,44 @@ listing-opens m enough = opens-long m listingRoster enough refl
 
 module _ (m : List ℕ) (bytes : Bytes m) (opens : openingAnswer m listingRoster ≡ 0) where
   -- what is reported of an instrument, by demand 2, is what the book gives, by demand 3
-  instrument-line : (i : ℕ) → between 1 (rosterFrom listingRoster .instruments) i ≡ true → (before : List ℤ) → reported (instrumentAnswer (memoryAt m listingRoster listingEvents) 1 i) (instrumentReport (memoryAt m listingRoster listingEvents) 1 i) before ≡ instrumentIn (rosterFrom listingRoster) (plainKept listingRoster listingEvents .book) 1 i
+  instrument-line : (i : ℕ) → between 1 (rosterFrom listingRoster .instruments) i ≡ true → (before : List ℤ)
+      → reported (instrumentAnswer (memoryAt m listingRoster listingEvents) 1 i)
+      (instrumentReport (memoryAt m listingRoster listingEvents) 1 i) before ≡ instrumentIn (rosterFrom listingRoster)
+      (plainState listingRoster listingEvents .book) 1 i
   unfolding opened instrumentReport positionIn potential ofInstrument
   instrument-line i on before =
       let read = demand-3 m listingRoster bytes opens (writtenAll listingEvents) .3 1 i refl on in
-      demand-2 .instrument-reported (memoryAt m listingRoster listingEvents) 1 i before (read .0) ∙ read .1 ∙ ap (λ k. instrumentIn (rosterFrom listingRoster) (k .book) 1 i) (kept-at m listingRoster bytes opens listingEvents)
+      demand-2 .instrument-reported (memoryAt m listingRoster listingEvents) 1 i before (read .0) ∙ read .1
+      ∙ ap (λ k. instrumentIn (rosterFrom listingRoster) (k .book) 1 i) (state-at m listingRoster bytes opens listingEvents)
 
-  group-line : (before : List ℤ) → reported (groupAnswer (memoryAt m listingRoster listingEvents) 1 1) (groupReport (memoryAt m listingRoster listingEvents) 1 1) before ≡ groupIn (rosterFrom listingRoster) (plainKept listingRoster listingEvents .book) 1 1
+  group-line : (before : List ℤ) → reported (groupAnswer (memoryAt m listingRoster listingEvents) 1 1)
+      (groupReport (memoryAt m listingRoster listingEvents) 1 1) before ≡ groupIn (rosterFrom listingRoster)
+      (plainState listingRoster listingEvents .book) 1 1
   unfolding opened groupReport positionIn potential ofInstrument
   group-line before =
       let read = demand-3 m listingRoster bytes opens (writtenAll listingEvents) .4 1 1 refl refl in
-      demand-2 .group-reported (memoryAt m listingRoster listingEvents) 1 1 before (read .0) ∙ read .1 ∙ ap (λ k. groupIn (rosterFrom listingRoster) (k .book) 1 1) (kept-at m listingRoster bytes opens listingEvents)
+      demand-2 .group-reported (memoryAt m listingRoster listingEvents) 1 1 before (read .0) ∙ read .1
+      ∙ ap (λ k. groupIn (rosterFrom listingRoster) (k .book) 1 1) (state-at m listingRoster bytes opens listingEvents)
 
-  answered-so : answersOver (afterOpening m listingRoster) (map (λ e. e .bytes) (writtenAll listingEvents)) ≡ 0 ∷ 0 ∷ 0 ∷ 0 ∷ 23 ∷ 0 ∷ 0 ∷ 0 ∷ []
+  answered-so : answersOver (afterOpening m listingRoster) (map (λ e. e .bytes) (writtenAll listingEvents)) ≡ 0 ∷ 0 ∷ 0 ∷ 0 ∷ 23 ∷ 0 ∷ 0 ∷ 0
+      ∷ []
   unfolding opened
-  answered-so = answers-plainly (rosterFrom listingRoster) (afterOpening m listingRoster) begun (plainly m listingRoster bytes opens) (writtenAll listingEvents)
+  answered-so =
+      answers-plainly (rosterFrom listingRoster) (afterOpening m listingRoster) begun (plainly m listingRoster bytes opens)
+      (writtenAll listingEvents)
 
-  in-one-run : (room : List ℕ) → 8 ≤ length room → (answered (afterOpening m listingRoster) (joined (writtenAll listingEvents)) room ≡ 0 ∷ 0 ∷ 0 ∷ 0 ∷ 23 ∷ 0 ∷ 0 ∷ 0 ∷ drop 8 room) × (memoryOver (afterOpening m listingRoster) (eventsFor (joined (writtenAll listingEvents)) room) ≡ memoryAt m listingRoster listingEvents)
+  in-one-run : (room : List ℕ) → 8 ≤ length room
+      → (answered (afterOpening m listingRoster) (concatenated (writtenAll listingEvents)) room ≡ 0 ∷ 0 ∷ 0 ∷ 0 ∷ 23 ∷ 0 ∷ 0 ∷ 0
+      ∷ drop 8 room) × (memoryOver (afterOpening m listingRoster) (eventsFor (concatenated (writtenAll listingEvents)) room)
+      ≡ memoryAt m listingRoster listingEvents)
   unfolding opened
   in-one-run room enough =
       let whole = writtenAll (take 7 listingEvents) in
       let seven : length whole ≡ 7 = refl in
-      let full : (e : RawEvent) → List·Memᴰ e whole → length (e .bytes) ≡ 48 = λ e there. eqb-true (length (e .bytes)) 48 (listed-passes (λ x. eqb (length (x .bytes)) 48) e whole there refl) in
-      let so = run .events (afterOpening m listingRoster) whole (written (cancelBytes 7)) room full (omega arith) (omega arith) (omega arith) in
+      let full : (e : RawEvent) → List·Memᴰ e whole → length (e .bytes) ≡ 48 =
+      λ e there. eqb-true (length (e .bytes)) 48 (listed-passes (λ x. eqb (length (x .bytes)) 48) e whole there refl) in
+      let so = run .events (afterOpening m listingRoster) whole (written (cancelBytes 7)) room full (omega arith) (omega arith)
+      (omega arith) in
       (so .2 ∙ rw answered-so, rw (so .0) (so .1))
 
   all-of-it : ListingDay m

@@ -13,7 +13,7 @@ use Rattle.ledger.specs.Positions.{instrument, group, long, short}
 use Rattle.ledger.specs.Fillings.{none, fill}
 use Rattle.book.specs.declared.LimitLine.the-variants.{OfGroup}
 use Rattle.book.specs.EventBytes.{groupLine, blockBytes, buy}
-use Rattle.book.specs.Kept.{RawEvent, begun}
+use Rattle.book.specs.EventLists.{RawEvent, begun}
 use Rattle.book.specs.LongerDay.{morning, putSoldToTheLimit, afternoon, evening}
 use Rattle.book.specs.Written.{written, writtenAll}
 use Rattle.book.proofs.LongerDay.{weighs-more, weighs-less}
@@ -42,7 +42,8 @@ module _ (m : List ℕ) (bytes : Bytes m) (opens : openingAnswer m longerRoster 
   set-again =
       limit-set-again m longerRoster bytes opens morning putSoldToTheLimit (order 8 2 Sell 24) (group 1) long (pos 600000)
       (afternoon ++ evening)
-      (writtenAll (afternoon ++ (blockBytes 1 1 0 0 ∷ []))) (written (groupLine 100 100)) (writtenAll (buy 1 9 70 ∷ [])) 1 (OfGroup 1 (pos 100) (pos 100))
+      (writtenAll (afternoon ++ (blockBytes 1 1 0 0 ∷ []))) (written (groupLine 100 100)) (writtenAll (buy 1 9 70 ∷ [])) 1
+      (OfGroup 1 (pos 100) (pos 100))
       refl refl refl refl
       (fill {o = order 9 1 Buy 70} 70 (omega arith) none, record { lt = tt })
 

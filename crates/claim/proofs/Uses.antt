@@ -14,7 +14,7 @@ use Rattle.limits.proofs.Answers.{both-true, pass-zero}
 use Rattle.book.specs.declared.Event.the-variants.{Junk}
 use Rattle.book.specs.Decoding.{between, decode}
 use Rattle.book.specs.Table.{q, isEvent, entered, questionsBefore, questions}
-use Rattle.book.specs.Kept.{RawEvent, memoryAfter}
+use Rattle.book.specs.EventLists.{RawEvent, memoryAfter}
 use Rattle.book.specs.Written.{written}
 use Rattle.layout.specs.Rosters.{longEnough}
 use Rattle.layout.specs.View.{rosterOf, bookOf}
@@ -22,7 +22,7 @@ use Rattle.soundness.specs.Soundness.{soundDesk}
 use Rattle.opening.specs.Questions.{openingQuestions, openingAnswer}
 use Rattle.opening.specs.Opening.{afterOpening}
 use Rattle.reading.specs.Reading.{readingQuestions, instrumentAnswer, groupAnswer}
-use Rattle.desk.specs.Step.{eventQuestions, answerTo, after}
+use Rattle.desk.specs.Step.{eventQuestions, answerTo, afterEvent}
 use Rattle.desk.specs.Demands.{gate}
 use Rattle.claim.specs.Claim.{FirstNo}
 use Rattle.claim.specs.Uses.{NumbersAndBytes, Determined, Refusals, Acceptances, Examples, StaysSound}
@@ -53,7 +53,7 @@ number-told n = by (eqb n 0) refl
 behind-events : (m : List ℕ) (events : List RawEvent) (k : ℕ) → 65536 ≤ k → getD (memoryAfter gate m events) k 0 ≡ getD m k 0
 unfolding memoryAfter
 behind-events m [] k h = refl
-behind-events m (e ∷ es) k h = behind-events (after m (e .bytes)) es k h ∙ demand-1 .behind-event m (e .bytes) k h
+behind-events m (e ∷ es) k h = behind-events (afterEvent m (e .bytes)) es k h ∙ demand-1 .behind-event m (e .bytes) k h
 
 pub numbers-and-bytes : NumbersAndBytes
 numbers-and-bytes =
@@ -138,7 +138,8 @@ group-by m a g = (demand-2 .group-refused m a g, demand-2 .group-accepted m a g)
 event-numbers : (m e : List ℕ) → Numbers (eventQuestions m e)
 event-numbers m e = rw (demand-2 .event-numbers m e) (none-0 (isSet (entered (bookOf m) (decode e))))
   where
-    none-0 : (t : Bool) → allOf (λ n. not (eqb n 0)) (5 ∷ 6 ∷ 7 ∷ 8 ∷ 9 ∷ 10 ∷ 11 ∷ 12 ∷ 13 ∷ 14 ∷ 15 ∷ 16 ∷ 17 ∷ 18 ∷ 19 ∷ 20 ∷ cond t (21 ∷ 22 ∷ 23 ∷ 24 ∷ []) []) ≡ true
+    none-0 : (t : Bool) → allOf (λ n. not (eqb n 0))
+        (5 ∷ 6 ∷ 7 ∷ 8 ∷ 9 ∷ 10 ∷ 11 ∷ 12 ∷ 13 ∷ 14 ∷ 15 ∷ 16 ∷ 17 ∷ 18 ∷ 19 ∷ 20 ∷ cond t (21 ∷ 22 ∷ 23 ∷ 24 ∷ []) []) ≡ true
     none-0 true = refl
     none-0 false = refl
 
@@ -215,6 +216,9 @@ stays-sound m s bytes opens events = by (soundDesk now) refl
     now : List ℕ
     now = memoryAfter gate (afterOpening m s) events
 
-    by : (t : Bool) → soundDesk (memoryAfter gate (afterOpening m s) events) ≡ t → soundDesk (memoryAfter gate (afterOpening m s) events) ≡ true
+    by : (t : Bool) → soundDesk (memoryAfter gate (afterOpening m s) events) ≡ t
+        → soundDesk (memoryAfter gate (afterOpening m s) events) ≡ true
     by true h = h
-    by false h = absurd (demand-3 m s bytes opens events .2 (written []) (unsound-is-5 (memoryAfter gate (afterOpening m s) events) (written [] .bytes) h))
+    by false h =
+        absurd (demand-3 m s bytes opens events .2 (written [])
+        (unsound-is-5 (memoryAfter gate (afterOpening m s) events) (written [] .bytes) h))

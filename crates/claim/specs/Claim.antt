@@ -15,8 +15,8 @@ use Rattle.words.specs.Bytes.{Bytes}
 use Rattle.ledger.specs.declared.order.Order.{Order}
 use Rattle.ledger.specs.declared.order.Side.the-variants.{Buy, Sell}
 use Rattle.ledger.specs.Derivatives.{one}
-use Rattle.ledger.specs.Positions.{Way, long, short, Place, openOn, ofInstrument, groupPart, sumGroup, position}
-use Rattle.ledger.specs.Fillings.{Filling, after as filledAfter}
+use Rattle.ledger.specs.Positions.{Way, long, short, Scope, openOn, ofInstrument, groupPart, sumGroup, position}
+use Rattle.ledger.specs.Fillings.{Filling, balanceAfter}
 use Rattle.ledger.specs.Moves.{Moves}
 use Rattle.limits.specs.Lines.{isSet, limit}
 use Rattle.limits.specs.Questions.{Question, allPass}
@@ -26,17 +26,17 @@ use Rattle.book.specs.Market.{derivatives}
 use Rattle.book.specs.Decoding.{between, decode}
 use Rattle.book.specs.Books.{work}
 use Rattle.book.specs.Table.{q, entered, questionsBefore, answer}
-use Rattle.book.specs.Kept.{RawEvent, said, begun, keep, memoryAfter, keptAfter}
+use Rattle.book.specs.EventLists.{RawEvent, asEvent, begun, keep, memoryAfter, stateAfter}
 use Rattle.book.specs.SetAgain.{nameOf, lineOver}
 use Rattle.layout.specs.View.{rosterOf, balancesOf, openOrders, bookOf}
 use Rattle.soundness.specs.Soundness.{soundDesk}
 use Rattle.opening.specs.Questions.{rosterFrom, openingQuestions, openingAnswer}
 use Rattle.opening.specs.Opening.{afterOpening}
 use Rattle.reading.specs.Reading.{readingQuestions, instrumentAnswer, groupAnswer, instrumentReport, groupReport, reported}
-use Rattle.desk.specs.Step.{eventQuestions, answerTo, after}
+use Rattle.desk.specs.Step.{eventQuestions, answerTo, afterEvent}
 use Rattle.book.specs.Positions.{instrumentIn, groupIn}
 use Rattle.desk.specs.Days.{answersOver, memoryOver}
-use Rattle.desk.specs.Run.{eventsFor, answered, joined}
+use Rattle.desk.specs.Run.{eventsFor, answered, concatenated}
 use Rattle.desk.specs.Demands.{gate}
 
 -- ---- 1. "The answer to every roster and every event, sound or junk, is an acceptance or one numbered refusal, it always comes, and a
@@ -48,10 +48,10 @@ pub record Demand1 : Type 0 where
       → List·Memᴰ (answerTo m e)
       (0 ∷ 5 ∷ 6 ∷ 7 ∷ 8 ∷ 9 ∷ 10 ∷ 11 ∷ 12 ∷ 13 ∷ 14 ∷ 15 ∷ 16 ∷ 17 ∷ 18 ∷ 19 ∷ 20 ∷ 21 ∷ 22 ∷ 23 ∷ 24 ∷ [])
   pub roster-refused : (m s : List ℕ) → openingAnswer m s ≢ 0 → afterOpening m s ≡ m
-  pub event-refused : (m e : List ℕ) → answerTo m e ≢ 0 → after m e ≡ m
+  pub event-refused : (m e : List ℕ) → answerTo m e ≢ 0 → afterEvent m e ≡ m
   -- document 01: "later bytes are never touched", accepted or not
   pub behind-roster : (m s : List ℕ) (k : ℕ) → 65536 ≤ k → getD (afterOpening m s) k 0 ≡ getD m k 0
-  pub behind-event : (m e : List ℕ) (k : ℕ) → 65536 ≤ k → getD (after m e) k 0 ≡ getD m k 0
+  pub behind-event : (m e : List ℕ) (k : ℕ) → 65536 ≤ k → getD (afterEvent m e) k 0 ≡ getD m k 0
 
 -- ---- 2. "The answer to a roster or an event is the first check that it fails, the EntryPoint LiNe phases among them, as document 01
 -- lists them, or an acceptance if it fails none, and every potential position reported is the one that the open orders and balances give."
@@ -125,46 +125,46 @@ Demand3 =
     → (let r = rosterFrom s in
     -- each event gets the memory as the one before left it; the plain book is kept from the roster, the events and their answers
     let now = memoryAfter gate (afterOpening m s) events in
-    let kept = keptAfter gate derivatives (afterOpening m s) begun events in
+    let kept = stateAfter gate derivatives (afterOpening m s) begun events in
     let book = kept .book in
     -- "After it let N be a new order, or a replace that raises one (then counted once, at its new total), that passes every check before
     -- the position limits." o is the order that N enters, or raises to its new total
     ((n : RawEvent) (o : Order)
-    → entered book (said n) ≡ some o
-    → allPass (questionsBefore derivatives r book (kept .trading) (said n)) ≡ true
-    → (let withN = work one book (said n) in
+    → entered book (asEvent n) ≡ some o
+    → allPass (questionsBefore derivatives r book (kept .trading) (asEvent n)) ≡ true
+    → (let withN = work one book (asEvent n) in
     -- "N is refused for a position limit exactly when some filling of the open orders and N, each by any whole number from none to all
     -- that remains, puts the instrument's or group's position past its limit on a side to which N's own fills move it."
     (((answerTo now (n .bytes) ≡ 21)
     ⊎ ((answerTo now (n .bytes) ≡ 22) ⊎ ((answerTo now (n .bytes) ≡ 23) ⊎ (answerTo now (n .bytes) ≡ 24))))
-    ↔ ((p : Place)
+    ↔ ((p : Scope)
     × (w : Way)
     × Moves r o p w
     × ((f : Filling (withN .orders))
-    × (limit r (withN .linesOf (o .account)) p w <ℤ position r (filledAfter one (o .account) (withN .balanceOf (o .account)) f) p w))))
+    × (limit r (withN .linesOf (o .account)) p w <ℤ position r (balanceAfter one (o .account) (withN .balanceOf (o .account)) f) p w))))
     -- "If N is accepted, then whatever events follow, those positions are not past those limits on those sides, after N and after each
     -- event, until a limit that applies to them is set again." Every beginning of a list is a list
     × (answerTo now (n .bytes) ≡ 0
-    → (p : Place) (w : Way)
+    → (p : Scope) (w : Way)
     → Moves r o p w
     → (later : List RawEvent)
-    → (let next = after now (n .bytes) in
-    let keptN = keep derivatives kept (said n) (answerTo now (n .bytes)) in
+    → (let next = afterEvent now (n .bytes) in
+    let keptN = keep derivatives kept (asEvent n) (answerTo now (n .bytes)) in
     -- no accepted LIMIT among them is on the line that the position is under before it or after it
     ((before : List RawEvent) (e : RawEvent) (behind : List RawEvent) (a : ℕ) (l : LimitLine)
     → later ≡ before ++ (e ∷ behind)
-    → said e ≡ Limit a l
+    → asEvent e ≡ Limit a l
     → answerTo (memoryAfter gate next before) (e .bytes) ≡ 0
-    → (let b = keptAfter gate derivatives next keptN before .book in
-    (nameOf a l ≡ lineOver r b (o .account) p) ⊎ (nameOf a l ≡ lineOver r (work one b (said e)) (o .account) p) → ⊥))
+    → (let b = stateAfter gate derivatives next keptN before .book in
+    (nameOf a l ≡ lineOver r b (o .account) p) ⊎ (nameOf a l ≡ lineOver r (work one b (asEvent e)) (o .account) p) → ⊥))
     -- the limit is the one that N was judged by, the position is not past it, and no filling of what is open then puts it past
-    → (let b = keptAfter gate derivatives next keptN later .book in
+    → (let b = stateAfter gate derivatives next keptN later .book in
     (limit r (b .linesOf (o .account)) p w ≡ limit r (book .linesOf (o .account)) p w)
     × (position r (b .balanceOf (o .account)) p w ≤ℤ limit r (book .linesOf (o .account)) p w)
     × ((f : Filling (b .orders))
-    → position r (filledAfter one (o .account) (b .balanceOf (o .account)) f) p w ≤ℤ limit r (book .linesOf (o .account)) p w))))))
+    → position r (balanceAfter one (o .account) (b .balanceOf (o .account)) f) p w ≤ℤ limit r (book .linesOf (o .account)) p w))))))
     -- "Answers are demand 2's": the same table, asked of the plain book, so that 5 is never the answer
-    × ((e : RawEvent) → answerTo now (e .bytes) ≡ answer derivatives r book (kept .trading) (said e))
+    × ((e : RawEvent) → answerTo now (e .bytes) ≡ answer derivatives r book (kept .trading) (asEvent e))
     × ((e : RawEvent) → answerTo now (e .bytes) ≢ 5)
     -- document 01: "Positions read after the list are those that the book gives"
     × ((a i : ℕ)
@@ -187,9 +187,9 @@ pub record Run : Type 0 where
       → length whole < length room
       → (let events = whole ++ (last ∷ []) in
       let each = map (λ e. e .bytes) events in
-      (eventsFor (joined events) room ≡ each)
+      (eventsFor (concatenated events) room ≡ each)
       × (memoryOver m each ≡ memoryAfter gate m events)
-      × (answered m (joined events) room ≡ answersOver m each ++ drop (length events) room))
+      × (answered m (concatenated events) room ≡ answersOver m each ++ drop (length events) room))
   -- one event more: its answer stands behind the others, and is that at the memory which they leave
   pub next :
       (m : List ℕ) (es : List RawEvent) (n : RawEvent)

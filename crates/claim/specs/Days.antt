@@ -20,7 +20,7 @@ use Rattle.opening.specs.Questions.{openingAnswer}
 use Rattle.opening.specs.Opening.{afterOpening}
 use Rattle.reading.specs.Reading.{instrumentAnswer, groupAnswer, instrumentReport, groupReport, reported}
 use Rattle.desk.specs.Days.{answersOver, memoryOver}
-use Rattle.desk.specs.Run.{eventsFor, answered, joined}
+use Rattle.desk.specs.Run.{eventsFor, answered, concatenated}
 use Rattle.desk.specs.Listing.{listingRoster}
 use Rattle.book.specs.Edges.{starredEdges}
 use Rattle.desk.specs.Edges.{AllHold, edgeRoster}
@@ -44,8 +44,10 @@ pub record ListingDay (m : List ℕ) : Type 0 where
   pub run :
       (room : List ℕ)
       → 8 ≤ length room
-      → (answered (afterOpening m listingRoster) (joined (writtenAll listingEvents)) room ≡ 0 ∷ 0 ∷ 0 ∷ 0 ∷ 23 ∷ 0 ∷ 0 ∷ 0 ∷ drop 8 room)
-      × (memoryOver (afterOpening m listingRoster) (eventsFor (joined (writtenAll listingEvents)) room) ≡ memoryAt m listingRoster listingEvents)
+      → (answered (afterOpening m listingRoster) (concatenated (writtenAll listingEvents)) room ≡ 0 ∷ 0 ∷ 0 ∷ 0 ∷ 23 ∷ 0 ∷ 0 ∷ 0
+      ∷ drop 8 room)
+      × (memoryOver (afterOpening m listingRoster) (eventsFor (concatenated (writtenAll listingEvents)) room)
+      ≡ memoryAt m listingRoster listingEvents)
   -- event 4, buy 62 of instrument 1: accepted, and through all that follows neither position is past its limit
   pub buy-of-instrument :
       OrderAccepted m listingRoster (take 3 listingEvents) (buy 1 7 62) (order 7 1 Buy 62) (instrument 1) long (pos 100)

@@ -11,14 +11,14 @@ use Rattle.limits.specs.Questions.{firstNo}
 use Rattle.book.specs.declared.Event.the-variants.{Junk}
 use Rattle.book.specs.Decoding.{decode}
 use Rattle.book.specs.Table.{q}
-use Rattle.book.specs.Kept.{RawEvent, memoryAfter}
+use Rattle.book.specs.EventLists.{RawEvent, memoryAfter}
 use Rattle.layout.specs.View.{rosterOf}
 use Rattle.layout.specs.Rosters.{longEnough}
 use Rattle.soundness.specs.Soundness.{soundDesk}
 use Rattle.opening.specs.Questions.{openingQuestions, openingAnswer}
 use Rattle.opening.specs.Opening.{afterOpening}
 use Rattle.reading.specs.Reading.{readingQuestions, instrumentAnswer, groupAnswer, instrumentReport, groupReport, reported}
-use Rattle.desk.specs.Step.{eventQuestions, answerTo, after}
+use Rattle.desk.specs.Step.{eventQuestions, answerTo, afterEvent}
 use Rattle.desk.specs.Days.{answersOver, memoryOver}
 use Rattle.desk.specs.Demands.{gate}
 
@@ -29,7 +29,7 @@ pub record NumbersAndBytes : Type 0 where
   pub event : (m e : List ℕ) → (answerTo m e ≡ 0) ⊎ ((5 ≤ answerTo m e) × (answerTo m e ≤ 24))
   -- every byte, after any roster and any events
   pub refused-roster : (m s : List ℕ) (k : ℕ) → openingAnswer m s ≢ 0 → getD (afterOpening m s) k 0 ≡ getD m k 0
-  pub refused-event : (m e : List ℕ) (k : ℕ) → answerTo m e ≢ 0 → getD (after m e) k 0 ≡ getD m k 0
+  pub refused-event : (m e : List ℕ) (k : ℕ) → answerTo m e ≢ 0 → getD (afterEvent m e) k 0 ≡ getD m k 0
   pub behind :
       (m s : List ℕ) (events : List RawEvent) (k : ℕ)
       → 65536 ≤ k
@@ -66,8 +66,8 @@ pub record Acceptances : Type 0 where
 -- 1 of a memory that is too short, 5 of one that holds no sound desk, 6 of junk; and memory and output are as they were
 pub record Examples : Type 0 where
   pub short : (m s : List ℕ) → length m < 65536 → (openingAnswer m s ≡ 1) × (afterOpening m s ≡ m)
-  pub unsound : (m e : List ℕ) → soundDesk m ≡ false → (answerTo m e ≡ 5) × (after m e ≡ m)
-  pub junk : (m e : List ℕ) → soundDesk m ≡ true → decode e ≡ Junk → (answerTo m e ≡ 6) × (after m e ≡ m)
+  pub unsound : (m e : List ℕ) → soundDesk m ≡ false → (answerTo m e ≡ 5) × (afterEvent m e ≡ m)
+  pub junk : (m e : List ℕ) → soundDesk m ≡ true → decode e ≡ Junk → (answerTo m e ≡ 6) × (afterEvent m e ≡ m)
   pub run : (m e f : List ℕ) → soundDesk m ≡ false → (answersOver m (e ∷ f ∷ []) ≡ 5 ∷ 5 ∷ []) × (memoryOver m (e ∷ f ∷ []) ≡ m)
   pub instrument :
       (m : List ℕ) (a i : ℕ) (before : List ℤ)
@@ -81,4 +81,5 @@ pub record Examples : Type 0 where
 -- ---- demand 3: from an accepted opening every memory holds a sound desk
 abbrev pub StaysSound : Type 0
 StaysSound =
-    (m s : List ℕ) → Bytes m → openingAnswer m s ≡ 0 → (events : List RawEvent) → soundDesk (memoryAfter gate (afterOpening m s) events) ≡ true
+    (m s : List ℕ) → Bytes m → openingAnswer m s ≡ 0 → (events : List RawEvent)
+    → soundDesk (memoryAfter gate (afterOpening m s) events) ≡ true

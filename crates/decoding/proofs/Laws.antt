@@ -13,7 +13,8 @@ use Rattle.ledger.specs.Records.{sideOf}
 use Rattle.limits.specs.Asked.{isZero}
 use Rattle.book.specs.declared.Event.the-variants.{Balance, Block, New, Replace, Cancel, Fill, Junk}
 use Rattle.book.specs.declared.Blocked.the-variants.{Account, Instrument}
-use Rattle.book.specs.Decoding.{kindOf, sideField, accountField, itemField, levelField, zeroField, idField, figureField, between, named, wellFormed, eventOf, decode}
+use Rattle.book.specs.Decoding.{kindOf, sideField, accountField, itemField, levelField, zeroField, idField, figureField, between, named}
+use Rattle.book.specs.Decoding.{wellFormed, eventOf, decode}
 use Rattle.decoding.specs.Kinds.{OfKind, noneAfterTwo, noneAfterOne, noHeader, ofOrder, idAndFigure, limitAt, blockAt}
 
 -- what a test `if !f(..)` tells of the Boolean that f answers
@@ -88,29 +89,54 @@ module _ (e : List ℕ) where
       simp (← r, not-between 1 7 k (λ l h. not-to-seven k n4 n5 n6 n7 (above-three k n1 n2 n3 l) h), and-false)
 
   -- ---- LIMIT
-  pub limit-law : OfKind 1 e → decode e ≡ cond (eqb (sideField e) 0 && eqb (idField e) 0) (limitAt (levelField e) (accountField e) (itemField e) e) Junk
+  pub limit-law : OfKind 1 e → decode e ≡ cond (eqb (sideField e) 0 && eqb (idField e) 0)
+      (limitAt (levelField e) (accountField e) (itemField e) e) Junk
   unfolding decode wellFormed eventOf named noneAfterTwo limitAt
   limit-law o =
       by-level (levelField e)
       (λ l. simp (o .long, o .zero, o .kind, l, and-true))
       (λ l. simp (o .long, o .zero, o .kind, l, and-true))
       (λ l. simp (o .long, o .zero, o .kind, l, and-true, cond-and))
-      (λ n1 n2 n3. simp (o .long, o .zero, o .kind, not-between 1 3 (levelField e) (λ l h. omega arith), ne-eqb _ _ n1, ne-eqb _ _ n2, ne-eqb _ _ n3, and-false, cond-same))
+      (λ n1 n2 n3. simp (
+        o .long,
+        o .zero,
+        o .kind,
+        not-between 1 3 (levelField e) (λ l h. omega arith),
+        ne-eqb _ _ n1,
+        ne-eqb _ _ n2,
+        ne-eqb _ _ n3,
+        and-false,
+        cond-same,
+      ))
 
   -- ---- BALANCE
-  pub balance-law : OfKind 2 e → decode e ≡ cond (eqb (sideField e) 0 && eqb (levelField e) 0 && eqb (idField e) 0 && noneAfterOne e) (Balance (accountField e) (itemField e) (figureField e 0)) Junk
+  pub balance-law : OfKind 2 e → decode e ≡ cond (eqb (sideField e) 0 && eqb (levelField e) 0 && eqb (idField e) 0 && noneAfterOne e)
+      (Balance (accountField e) (itemField e) (figureField e 0)) Junk
   unfolding decode wellFormed eventOf named noneAfterOne noneAfterTwo
   balance-law o = simp (o .long, o .zero, o .kind, and-true, and-assoc)
 
   -- ---- BLOCK
-  pub block-law : OfKind 3 e → decode e ≡ cond (eqb (sideField e) 0 && eqb (idField e) 0 && noneAfterOne e) (blockAt (levelField e) (accountField e) (itemField e) (figureField e 0)) Junk
+  pub block-law : OfKind 3 e → decode e ≡ cond (eqb (sideField e) 0 && eqb (idField e) 0 && noneAfterOne e)
+      (blockAt (levelField e) (accountField e) (itemField e) (figureField e 0)) Junk
   unfolding decode wellFormed eventOf named noneAfterOne noneAfterTwo blockAt
   block-law o =
       by-level (levelField e)
-      (λ l. simp (o .long, o .zero, o .kind, l, and-true, and-assoc) (test-last side (eqb (itemField e) 0) rest (Block (Account (accountField e)) on) Junk))
-      (λ l. simp (o .long, o .zero, o .kind, l, and-true, and-assoc) (test-last side (eqb (accountField e) 0) rest (Block (Instrument (itemField e)) on) Junk))
+      (λ l. simp (o .long, o .zero, o .kind, l, and-true, and-assoc)
+      (test-last side (eqb (itemField e) 0) rest (Block (Account (accountField e)) on) Junk))
+      (λ l. simp (o .long, o .zero, o .kind, l, and-true, and-assoc)
+      (test-last side (eqb (accountField e) 0) rest (Block (Instrument (itemField e)) on) Junk))
       (λ l. simp (o .long, o .zero, o .kind, l, and-true, and-assoc))
-      (λ n1 n2 n3. simp (o .long, o .zero, o .kind, not-between 1 3 (levelField e) (λ l h. omega arith), ne-eqb _ _ n1, ne-eqb _ _ n2, ne-eqb _ _ n3, and-false, cond-same))
+      (λ n1 n2 n3. simp (
+        o .long,
+        o .zero,
+        o .kind,
+        not-between 1 3 (levelField e) (λ l h. omega arith),
+        ne-eqb _ _ n1,
+        ne-eqb _ _ n2,
+        ne-eqb _ _ n3,
+        and-false,
+        cond-same,
+      ))
     where
       side : Bool
       side = eqb (sideField e) 0
@@ -122,7 +148,8 @@ module _ (e : List ℕ) where
       on = figureField e 0
 
   -- ---- NEW
-  pub new-law : OfKind 4 e → decode e ≡ cond (between 1 2 (sideField e) && eqb (levelField e) 0 && ofOrder e) (New (sideOf (sideField e)) (accountField e) (itemField e) (idField e) (figureField e 0)) Junk
+  pub new-law : OfKind 4 e → decode e ≡ cond (between 1 2 (sideField e) && eqb (levelField e) 0 && ofOrder e)
+      (New (sideOf (sideField e)) (accountField e) (itemField e) (idField e) (figureField e 0)) Junk
   unfolding decode wellFormed eventOf named noneAfterOne noneAfterTwo ofOrder
   new-law o = simp (o .long, o .zero, o .kind, and-true, and-assoc)
 
@@ -135,7 +162,8 @@ module _ (e : List ℕ) where
   unfolding decode wellFormed eventOf named noneAfterOne noneAfterTwo noHeader idAndFigure
   cancel-law o = in-order ∙ test-last (noHeader e && not (eqb (idField e) 0)) (isZero (figureField e 0)) (noneAfterOne e) _ _
     where
-      in-order : decode e ≡ cond (noHeader e && not (eqb (idField e) 0) && (isZero (figureField e 0) && noneAfterOne e)) (Cancel (idField e)) Junk
+      in-order : decode e ≡ cond (noHeader e && not (eqb (idField e) 0) && (isZero (figureField e 0) && noneAfterOne e))
+          (Cancel (idField e)) Junk
       in-order = simp (o .long, o .zero, o .kind, and-true, and-assoc)
 
   pub fill-law : OfKind 7 e → decode e ≡ cond (idAndFigure e) (Fill (idField e) (figureField e 0)) Junk

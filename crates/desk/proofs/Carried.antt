@@ -12,9 +12,9 @@ use Rattle.limits.proofs.Answers.{both-true, and-true}
 use Rattle.book.specs.Market.{derivatives}
 use Rattle.book.specs.Decoding.{decode}
 use Rattle.book.specs.Table.{answer}
-use Rattle.book.specs.Kept.{RawEvent, Kept, keep, memoryAfter, keptAfter}
+use Rattle.book.specs.EventLists.{RawEvent, State, keep, memoryAfter, stateAfter}
 use Rattle.book.specs.Days.{answersTo, endOf, decoded, areBytes, allBytes}
-use Rattle.desk.specs.Step.{answerTo, after}
+use Rattle.desk.specs.Step.{answerTo, afterEvent}
 use Rattle.desk.specs.Days.{answersOver, memoryOver}
 use Rattle.desk.proofs.Gate.{Shown, shown-after, answers-table}
 
@@ -34,27 +34,36 @@ bytes-apart (x ∷ xs) e h =
 -- ---- the answers along a list, and the memory at its end
 module _ (r : Roster) where
   -- one event more
-  next-shown : (m : List ℕ) (k : Kept) (e : List ℕ) → Bytes e → Shown r m k → Shown r (after m e) (keep derivatives k (decode e) (answer derivatives r (k .book) (k .trading) (decode e)))
-  unfolding memoryAfter keptAfter
+  next-shown : (m : List ℕ) (k : State) (e : List ℕ) → Bytes e → Shown r m k
+      → Shown r (afterEvent m e) (keep derivatives k (decode e) (answer derivatives r (k .book) (k .trading) (decode e)))
+  unfolding memoryAfter stateAfter
   next-shown m k e are shown =
       let raw : RawEvent = record { bytes = e; are = are } in
       rw (answers-table r m k shown [] raw) at (shown-after r m k shown (raw ∷ []))
 
-  pub answer-shown : (m : List ℕ) (k : Kept) (e : List ℕ) → Bytes e → Shown r m k → answerTo m e ≡ answer derivatives r (k .book) (k .trading) (decode e)
-  unfolding memoryAfter keptAfter
+  pub answer-shown : (m : List ℕ) (k : State) (e : List ℕ) → Bytes e → Shown r m k
+      → answerTo m e ≡ answer derivatives r (k .book) (k .trading) (decode e)
+  unfolding memoryAfter stateAfter
   answer-shown m k e are shown = answers-table r m k shown [] (record { bytes = e; are = are })
 
-  pub answers-carried : (m : List ℕ) (k : Kept) (es : List (List ℕ)) → allBytes es ≡ true → Shown r m k → answersOver m es ≡ answersTo r k (decoded es)
+  pub answers-carried : (m : List ℕ) (k : State) (es : List (List ℕ)) → allBytes es ≡ true → Shown r m k
+      → answersOver m es ≡ answersTo r k (decoded es)
   unfolding answersOver
   answers-carried m k [] are shown = refl
   answers-carried m k (e ∷ es) are shown =
       let h = both-true (areBytes e) (allBytes es) are in
       let b = bytes-are e (h .0) in
-      rw (answer-shown m k e b shown, answers-carried (after m e) (keep derivatives k (decode e) (answer derivatives r (k .book) (k .trading) (decode e))) es (h .1) (next-shown m k e b shown))
+      rw (
+        answer-shown m k e b shown,
+        answers-carried (afterEvent m e)
+            (keep derivatives k (decode e) (answer derivatives r (k .book) (k .trading) (decode e))) es (h .1) (next-shown m k e b shown),
+      )
 
-  pub shown-over : (m : List ℕ) (k : Kept) (es : List (List ℕ)) → allBytes es ≡ true → Shown r m k → Shown r (memoryOver m es) (endOf r k (decoded es))
+  pub shown-over : (m : List ℕ) (k : State) (es : List (List ℕ)) → allBytes es ≡ true → Shown r m k
+      → Shown r (memoryOver m es) (endOf r k (decoded es))
   unfolding memoryOver
   shown-over m k [] are shown = shown
   shown-over m k (e ∷ es) are shown =
       let h = both-true (areBytes e) (allBytes es) are in
-      shown-over (after m e) (keep derivatives k (decode e) (answer derivatives r (k .book) (k .trading) (decode e))) es (h .1) (next-shown m k e (bytes-are e (h .0)) shown)
+      shown-over (afterEvent m e) (keep derivatives k (decode e) (answer derivatives r (k .book) (k .trading) (decode e))) es (h .1)
+      (next-shown m k e (bytes-are e (h .0)) shown)

@@ -72,6 +72,7 @@ unfolding firstNo
 answer-one-of [] ns e = inl refl
 answer-one-of (q ∷ qs) ns e = by (answer-one-of qs ns) (q .passes) (both-true (isOneOf (q .number) ns) (numbered qs ns) e)
   where
-    by : (numbered qs ns ≡ true → OneOf (firstNo qs) (0 ∷ ns)) → (t : Bool) → (isOneOf (q .number) ns ≡ true) × (numbered qs ns ≡ true) → OneOf (cond t (firstNo qs) (q .number)) (0 ∷ ns)
+    by : (numbered qs ns ≡ true → OneOf (firstNo qs) (0 ∷ ns)) → (t : Bool) → (isOneOf (q .number) ns ≡ true) × (numbered qs ns ≡ true)
+        → OneOf (cond t (firstNo qs) (q .number)) (0 ∷ ns)
     by rest true h = rest (h .1)
     by rest false h = inr (one-of (q .number) ns (h .0))

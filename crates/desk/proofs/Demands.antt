@@ -19,7 +19,7 @@ use Rattle.book.specs.Decoding.{decode}
 use Rattle.book.specs.Market.{derivatives}
 use Rattle.book.specs.Books.{work}
 use Rattle.book.specs.Table.{q, entered, questionsBefore, positionsAfter, limitQuestions, questions}
-use Rattle.book.specs.Kept.{said, begun, memoryAfter, keptAfter}
+use Rattle.book.specs.EventLists.{asEvent, begun, memoryAfter, stateAfter}
 use Rattle.book.proofs.Accepted.{never-5}
 use Rattle.layout.specs.View.{rosterOf, bookOf, tradingOf}
 use Rattle.opening.specs.Questions.{openingQuestions, openingAnswer, rosterFrom}
@@ -29,11 +29,11 @@ use Rattle.reading.specs.Reading.{readingQuestions, instrumentAnswer, groupAnsw
 use Rattle.soundness.specs.Soundness.{soundDesk}
 use Rattle.soundness.proofs.SoundDesk.{sound-out}
 use Rattle.working.proofs.Writes.{later-worked}
-use Rattle.desk.specs.Step.{eventQuestions, answerTo, after}
+use Rattle.desk.specs.Step.{eventQuestions, answerTo, afterEvent}
 use Rattle.desk.specs.Demands.{OneOf, Demand1, Answers, Demand2, gate, Demand3}
 use Rattle.desk.proofs.Readings.{instrument-read, group-read, shown-opened}
 use Rattle.desk.proofs.Checks.{numbered, answers, answer-one-of}
-use Rattle.desk.proofs.Gate.{first-passes, after-refused, after-accepted, answer-held, shown-after, answers-table, demand-3-at}
+use Rattle.desk.proofs.Gate.{first-passes, after-refused, after-accepted, answer-sound, shown-after, answers-table, demand-3-at}
 
 -- ---- the questions' numbers
 abbrev event-numbers : List ℕ
@@ -63,11 +63,14 @@ numbered-table m e (some o) = refl
 
 event-answers : (m e : List ℕ) → Answers (eventQuestions m e) (answerTo m e)
 unfolding answerTo
-event-answers m e = rw (is-table m e) (answers (table m e (entered (bookOf m) (decode e))) (counted-table m e (entered (bookOf m) (decode e))))
+event-answers m e =
+    rw (is-table m e) (answers (table m e (entered (bookOf m) (decode e))) (counted-table m e (entered (bookOf m) (decode e))))
 
 event-one-of : (m e : List ℕ) → OneOf (answerTo m e) (0 ∷ event-numbers)
 unfolding answerTo
-event-one-of m e = rw (is-table m e) (answer-one-of (table m e (entered (bookOf m) (decode e))) event-numbers (numbered-table m e (entered (bookOf m) (decode e))))
+event-one-of m e =
+    rw (is-table m e) (answer-one-of (table m e (entered (bookOf m) (decode e))) event-numbers
+    (numbered-table m e (entered (bookOf m) (decode e))))
 
 -- ---- an opening and a reading
 opening-answers : (m s : List ℕ) → Answers (openingQuestions m s) (openingAnswer m s)
@@ -95,10 +98,11 @@ unfolding reported
 report-refused n report before h = rw (ne-eqb n 0 h)
 
 -- ---- bytes behind the desk
-later-event : (m e : List ℕ) (k : ℕ) → 65536 ≤ k → getD (after m e) k 0 ≡ getD m k 0
+later-event : (m e : List ℕ) (k : ℕ) → 65536 ≤ k → getD (afterEvent m e) k 0 ≡ getD m k 0
 later-event m e k h =
     by-cases (ℕ-discrete (answerTo m e) 0)
-    (λ zero. let held = sound-out m (first-passes m e zero) in ap (λ l. getD l k 0) (after-accepted m e zero) ∙ later-worked m held (decode e) (sym (answer-held m e held) ∙ zero) k h)
+    (λ zero. let held = sound-out m (first-passes m e zero) in ap (λ l. getD l k 0) (after-accepted m e zero)
+    ∙ later-worked m held (decode e) (sym (answer-sound m e held) ∙ zero) k h)
     (λ other. ap (λ l. getD l k 0) (after-refused m e other))
 
 pub demand-1 : Demand1
@@ -135,9 +139,14 @@ demand-3 m s bytes zero =
     let later = shown-after r start begun shown in
     record {
       judged = demand-3-at r start begun shown;
-      instrument-read = λ events a i. instrument-read r (memoryAfter gate start events) (keptAfter gate derivatives start begun events) (later events) a i;
-      group-read = λ events a g. group-read r (memoryAfter gate start events) (keptAfter gate derivatives start begun events) (later events) a g;
+      instrument-read =
+          λ events a i. instrument-read r (memoryAfter gate start events) (stateAfter gate derivatives start begun events)
+          (later events) a i;
+      group-read =
+          λ events a g. group-read r (memoryAfter gate start events) (stateAfter gate derivatives start begun events) (later events) a g;
       answered = answers-table r start begun shown;
       never-5 =
-          λ events e five. never-5 derivatives r (keptAfter gate derivatives start begun events .book) (keptAfter gate derivatives start begun events .trading) (said e) (sym (answers-table r start begun shown events e) ∙ five);
+          λ events e five. never-5 derivatives r (stateAfter gate derivatives start begun events .book)
+          (stateAfter gate derivatives start begun events .trading) (asEvent e) (sym (answers-table r start begun shown events e)
+          ∙ five);
     }

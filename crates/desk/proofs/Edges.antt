@@ -4,7 +4,7 @@ use mathlib.Core.Path.{_≡_, refl, ap, _∙_}
 use mathlib.Core.List.{List, [], _∷_, _++_, map}
 use lib.ListN.{length}
 use Rattle.words.specs.Bytes.{Bytes}
-use Rattle.book.specs.Kept.{begun}
+use Rattle.book.specs.EventLists.{begun}
 use Rattle.book.specs.Rosters.{rosterIn}
 use Rattle.book.specs.Edges.{Case, edgeTables, starredEdges, outcome, expected}
 use Rattle.book.proofs.Edges.{edges}

@@ -13,7 +13,7 @@ use Rattle.book.specs.Market.{derivatives}
 use Rattle.book.specs.Decoding.{decode}
 use Rattle.book.specs.Table.{questions, answer}
 use Rattle.book.specs.Sound.{Sound}
-use Rattle.book.specs.Kept.{RawEvent, said, Kept, memoryAfter, keptAfter}
+use Rattle.book.specs.EventLists.{RawEvent, asEvent, State, memoryAfter, stateAfter}
 use Rattle.book.specs.Demand3.{Demand3At}
 use Rattle.book.specs.Contract.{withWorked, Contract}
 use Rattle.book.proofs.Accepted.{sound-answer, unsound-answer}
@@ -24,24 +24,24 @@ use Rattle.book.proofs.Demand3Proof.{demand3}
 use Rattle.layout.specs.View.{rosterOf, bookOf, tradingOf, view}
 use Rattle.layout.specs.Judged.{judged}
 use Rattle.soundness.specs.Soundness.{soundDesk}
-use Rattle.soundness.specs.Held.{Held}
+use Rattle.soundness.specs.SoundMemory.{SoundMemory}
 use Rattle.soundness.proofs.SoundDesk.{sound-in}
 use Rattle.working.specs.Working.{worked}
 use Rattle.working.proofs.Writes.{roster-worked, bytes-worked}
 use Rattle.working.proofs.Small.{decoded-sized}
 use Rattle.working.proofs.ViewWorked.{view-worked}
-use Rattle.working.proofs.HeldWorked.{held-worked}
-use Rattle.desk.specs.Step.{eventQuestions, answerTo, after}
+use Rattle.working.proofs.SoundWorked.{sound-worked}
+use Rattle.desk.specs.Step.{eventQuestions, answerTo, afterEvent}
 use Rattle.desk.specs.Demands.{gate}
 
 -- ---- one event
 module _ (m e : List ℕ) where
-  pub after-refused : answerTo m e ≢ 0 → after m e ≡ m
-  unfolding after
+  pub after-refused : answerTo m e ≢ 0 → afterEvent m e ≡ m
+  unfolding afterEvent
   after-refused h = rw (ne-eqb (answerTo m e) 0 h)
 
-  pub after-accepted : answerTo m e ≡ 0 → after m e ≡ worked m (decode e)
-  unfolding after
+  pub after-accepted : answerTo m e ≡ 0 → afterEvent m e ≡ worked m (decode e)
+  unfolding afterEvent
   after-accepted h = rw (eq-eqb (answerTo m e) 0 h)
 
   -- an acceptance tells that the desk is sound
@@ -49,60 +49,65 @@ module _ (m e : List ℕ) where
   unfolding answerTo eventQuestions
   first-passes z = by (soundDesk m) refl z
     where
-      by : (t : Bool) → soundDesk m ≡ t → firstNo (questions derivatives (rosterOf m) t (bookOf m) (tradingOf m) (decode e)) ≡ 0 → soundDesk m ≡ true
+      by : (t : Bool) → soundDesk m ≡ t → firstNo (questions derivatives (rosterOf m) t (bookOf m) (tradingOf m) (decode e)) ≡ 0
+          → soundDesk m ≡ true
       by true h z = h
       by false h z = absurd (omega (arith, unsound-answer derivatives (rosterOf m) (bookOf m) (tradingOf m) (decode e)))
 
   -- on a sound desk the answer is the judge's
-  pub answer-held : Held m → answerTo m e ≡ judged m (decode e)
+  pub answer-sound : SoundMemory m → answerTo m e ≡ judged m (decode e)
   unfolding answerTo eventQuestions judged
-  answer-held held =
+  answer-sound held =
       rw (sound-in m held) (sound-answer derivatives (rosterOf m) (bookOf m) (tradingOf m) (decode e))
 
 -- ---- a memory that holds a sound desk of roster r, and shows k
-pub record Shown (r : Roster) (m : List ℕ) (k : Kept) : Type 0 where
+pub record Shown (r : Roster) (m : List ℕ) (k : State) : Type 0 where
   pub bytes : Bytes m
-  pub held : Held m
+  pub held : SoundMemory m
   pub roster : rosterOf m ≡ r
   pub shows : view m ≡ k
 
-judged-shown : (r : Roster) (m : List ℕ) (k : Kept) (e : List ℕ) → rosterOf m ≡ r → view m ≡ k → judged m (decode e) ≡ answer derivatives r (k .book) (k .trading) (decode e)
+judged-shown : (r : Roster) (m : List ℕ) (k : State) (e : List ℕ) → rosterOf m ≡ r → view m ≡ k
+    → judged m (decode e) ≡ answer derivatives r (k .book) (k .trading) (decode e)
 unfolding judged view
 judged-shown r m k e roster shows = rw (← roster, ← shows) refl
 
-worked-shown : (r : Roster) (m : List ℕ) (k : Kept) (e : RawEvent) → Shown r m k → answerTo m (e .bytes) ≡ 0 → Shown r (after m (e .bytes)) (withWorked derivatives k e)
+worked-shown : (r : Roster) (m : List ℕ) (k : State) (e : RawEvent) → Shown r m k → answerTo m (e .bytes) ≡ 0
+    → Shown r (afterEvent m (e .bytes)) (withWorked derivatives k e)
 unfolding view
 worked-shown r m k e shown zero =
-    let passes = sym (answer-held m (e .bytes) (shown .held)) ∙ zero in
+    let passes = sym (answer-sound m (e .bytes) (shown .held)) ∙ zero in
     let word = decoded-sized (e .bytes) (e .are) in
     rw (after-accepted m (e .bytes) zero)
     (record {
-      bytes = bytes-worked m (shown .held) (said e) passes (shown .bytes);
-      held = held-worked m (shown .bytes) (shown .held) (said e) word (decoded-id (e .bytes)) passes;
-      roster = roster-worked m (shown .held) (said e) passes ∙ shown .roster;
-      shows = view-worked m (shown .bytes) (shown .held) (said e) word passes ∙ ap (λ x. withWorked derivatives x e) (shown .shows);
+      bytes = bytes-worked m (shown .held) (asEvent e) passes (shown .bytes);
+      held = sound-worked m (shown .bytes) (shown .held) (asEvent e) word (decoded-id (e .bytes)) passes;
+      roster = roster-worked m (shown .held) (asEvent e) passes ∙ shown .roster;
+      shows = view-worked m (shown .bytes) (shown .held) (asEvent e) word passes ∙ ap (λ x. withWorked derivatives x e) (shown .shows);
     })
 
 contract : (r : Roster) → Contract gate derivatives r
 contract r =
     record {
       Shows = Shown r;
-      judged = λ m k e shown sound. answer-held m (e .bytes) (shown .held) ∙ judged-shown r m k (e .bytes) (shown .roster) (shown .shows);
+      judged = λ m k e shown sound. answer-sound m (e .bytes) (shown .held) ∙ judged-shown r m k (e .bytes) (shown .roster) (shown .shows);
       worked = λ m k e shown sound zero. worked-shown r m k e shown zero;
       refused = λ m e h. after-refused m (e .bytes) h;
     }
 
 -- ---- a list of events, from any memory that shows a sound book
-module _ (r : Roster) (m : List ℕ) (k : Kept) (shown : Shown r m k) where
+module _ (r : Roster) (m : List ℕ) (k : State) (shown : Shown r m k) where
   sound : Sound derivatives r (k .book) (k .trading)
   sound = rw (shown .roster, shown .shows) at (shown .held .book)
 
-  pub shown-after : (events : List RawEvent) → Shown r (memoryAfter gate m events) (keptAfter gate derivatives m k events)
+  pub shown-after : (events : List RawEvent) → Shown r (memoryAfter gate m events) (stateAfter gate derivatives m k events)
   unfolding contract
   shown-after events =
       holds-after derivatives-unit (contract r) m k events (record { shown = shown; sound = sound }) .shown
 
-  pub answers-table : (events : List RawEvent) (n : RawEvent) → answerTo (memoryAfter gate m events) (n .bytes) ≡ answer derivatives r (keptAfter gate derivatives m k events .book) (keptAfter gate derivatives m k events .trading) (said n)
+  pub answers-table : (events : List RawEvent) (n : RawEvent)
+      → answerTo (memoryAfter gate m events) (n .bytes) ≡ answer derivatives r (stateAfter gate derivatives m k events .book)
+      (stateAfter gate derivatives m k events .trading) (asEvent n)
   unfolding contract
   answers-table events n =
       answers-after derivatives-unit (contract r) m k events (record { shown = shown; sound = sound }) n

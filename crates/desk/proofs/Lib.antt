@@ -10,6 +10,6 @@ pub mod Rosters
 pub mod Edges
 pub mod Listing
 mod Cutting
-mod Soundly
+mod SoundAfter
 mod Turns
 pub mod RunList

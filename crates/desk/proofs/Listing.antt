@@ -5,7 +5,7 @@ use mathlib.Core.Bool.{true}
 use mathlib.Core.List.{List}
 use lib.ListN.{length}
 use Rattle.book.specs.Decoding.{between}
-use Rattle.book.specs.Kept.{begun}
+use Rattle.book.specs.EventLists.{begun}
 use Rattle.book.specs.Days.{allBytes}
 use Rattle.book.specs.Rosters.{rosterIn}
 use Rattle.book.specs.Listing.{listingTables, listingEvents}

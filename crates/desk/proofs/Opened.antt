@@ -11,16 +11,17 @@ use Rattle.limits.specs.InBytes.{lineAt, groupLineAt}
 use Rattle.limits.proofs.Answers.{both-true, and-true, pass-each, zero-pass}
 use Rattle.book.specs.Market.{derivatives}
 use Rattle.book.specs.Sound.{RosterFits, LineFits, GroupLineFits}
-use Rattle.book.specs.Kept.{begun}
+use Rattle.book.specs.EventLists.{begun}
 use Rattle.book.proofs.Plain.{sound-begun}
 use Rattle.layout.specs.Layout.{ownRow, defaultRow, groupRow}
 use Rattle.layout.specs.Rosters.{sizesFit, namesFit, weightsFit}
 use Rattle.layout.specs.View.{rosterOf, view}
 use Rattle.opening.specs.Questions.{rosterFrom, rosterLength, lengthsFit, openingQuestions, openingAnswer}
 use Rattle.opening.specs.Opening.{opened, afterOpening}
-use Rattle.opening.proofs.Opened.{Accepted, accepted-out, kind-opened, blank-opened, roster-opened, sized-opened, view-opened, length-opened}
+use Rattle.opening.proofs.Opened.{Accepted, accepted-out, kind-opened, blank-opened, roster-opened, sized-opened, view-opened}
+use Rattle.opening.proofs.Opened.{length-opened}
 use Rattle.soundness.specs.Soundness.{rosterSound}
-use Rattle.soundness.specs.Held.{Figures, Held}
+use Rattle.soundness.specs.SoundMemory.{Figures, SoundMemory}
 use Rattle.soundness.proofs.RosterFacts.{roster-out}
 
 module _ (m s : List ℕ) (zero : openingAnswer m s ≡ 0) where
@@ -37,7 +38,9 @@ module _ (m s : List ℕ) (zero : openingAnswer m s ≡ 0) where
       let r = rosterFrom s in
       let yes-each = pass-each (openingQuestions m s) (zero-pass (openingQuestions m s) (omega arith) zero) in
       let sizes = both-true (sizesFit r) (eqb (length s) (rosterLength r)) (yes-each .1 .0) .0 in
-      rw (roster-opened m s ok) at (roster-out (opened m s) (rw (roster-opened m s ok) (and-true (sizesFit r && namesFit r) (weightsFit r) (and-true (sizesFit r) (namesFit r) sizes (yes-each .1 .1 .0)) (yes-each .1 .1 .1 .0))))
+      rw (roster-opened m s ok) at (roster-out (opened m s)
+      (rw (roster-opened m s ok) (and-true (sizesFit r && namesFit r) (weightsFit r)
+      (and-true (sizesFit r) (namesFit r) sizes (yes-each .1 .1 .0)) (yes-each .1 .1 .1 .0))))
 
   -- the figures of every line are 0
   line-blank : (k : ℕ) → 77 ≤ k → k + 1 < 8192 → LineFits 1000000000 (lineAt (opened m s) k)
@@ -63,8 +66,8 @@ module _ (m s : List ℕ) (zero : openingAnswer m s ≡ 0) where
         ofGroup = λ a g on-a on-g. group-line-blank (groupRow a + g) (omega arith) (omega arith);
       }
 
-  pub held-opened : Held (afterOpening m s)
-  held-opened =
+  pub sound-opened : SoundMemory (afterOpening m s)
+  sound-opened =
       rw is-opened
       (record {
         long = omega (arith, length-opened m s ok, ok .long);

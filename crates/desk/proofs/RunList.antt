@@ -5,12 +5,12 @@ use mathlib.Core.List.{List, [], _∷_, _++_, append-nil}
 use native.Mathlib.Omega.{arith}
 use lib.ListN.{length, length-append, length-map, drop-of-length-le}
 use lib.Seq.{take-at, drop-at, take-all}
-use Rattle.book.specs.Kept.{RawEvent, memoryAfter}
-use Rattle.desk.specs.Step.{answerTo, after}
+use Rattle.book.specs.EventLists.{RawEvent, memoryAfter}
+use Rattle.desk.specs.Step.{answerTo, afterEvent}
 use Rattle.desk.specs.Days.{answersOver, memoryOver}
 use Rattle.desk.specs.Demands.{gate}
 use Rattle.desk.proofs.Stepped.{unsound-event}
-use Rattle.desk.specs.Run.{cut, eventsFor, Whole, bytesOfEach, joined, RunIsTheList, UnsoundRun}
+use Rattle.desk.specs.Run.{cut, eventsFor, Whole, bytesOfEach, concatenated, RunIsTheList, UnsoundRun}
 use Rattle.desk.proofs.Cutting.{cut-none, cut-more}
 
 -- ---- the list
@@ -23,13 +23,13 @@ last : (e : List ℕ) → 1 ≤ length e → length e ≤ 48 → cut e ≡ e ∷
 last e some-bytes short =
     cut-more e some-bytes ∙ rw (take-all 48 e short, drop-of-length-le e short, cut-none)
 
-cut-joined : (es : List RawEvent) → Whole es → cut (joined es) ≡ bytesOfEach es
+cut-joined : (es : List RawEvent) → Whole es → cut (concatenated es) ≡ bytesOfEach es
 cut-joined [] h = cut-none
 cut-joined (e ∷ []) h = rw (append-nil (e .bytes)) (last (e .bytes) (h .0) (h .1))
 cut-joined (e ∷ f ∷ es) h =
-    one-more (e .bytes) (joined (f ∷ es)) (h .0) ∙ ap (λ l. e .bytes ∷ l) (cut-joined (f ∷ es) (h .1))
+    one-more (e .bytes) (concatenated (f ∷ es)) (h .0) ∙ ap (λ l. e .bytes ∷ l) (cut-joined (f ∷ es) (h .1))
 
-all-worked : (es : List RawEvent) (room : List ℕ) → Whole es → length es ≤ length room → eventsFor (joined es) room ≡ bytesOfEach es
+all-worked : (es : List RawEvent) (room : List ℕ) → Whole es → length es ≤ length room → eventsFor (concatenated es) room ≡ bytesOfEach es
 all-worked es room h space =
     rw (cut-joined es h)
     (take-all (length room) (bytesOfEach es) (omega (arith, length-map es (λ e. e .bytes))))
@@ -37,13 +37,14 @@ all-worked es room h space =
 memory-along : (m : List ℕ) (es : List RawEvent) → memoryOver m (bytesOfEach es) ≡ memoryAfter gate m es
 unfolding memoryOver memoryAfter
 memory-along m [] = refl
-memory-along m (e ∷ es) = memory-along (after m (e .bytes)) es
+memory-along m (e ∷ es) = memory-along (afterEvent m (e .bytes)) es
 
-answer-behind : (m : List ℕ) (es : List RawEvent) (n : RawEvent) → answersOver m (bytesOfEach (es ++ (n ∷ []))) ≡ answersOver m (bytesOfEach es) ++ (answerTo (memoryAfter gate m es) (n .bytes) ∷ [])
+answer-behind : (m : List ℕ) (es : List RawEvent) (n : RawEvent)
+    → answersOver m (bytesOfEach (es ++ (n ∷ []))) ≡ answersOver m (bytesOfEach es) ++ (answerTo (memoryAfter gate m es) (n .bytes) ∷ [])
 unfolding answersOver memoryAfter
 answer-behind m [] n = refl
 answer-behind m (e ∷ es) n =
-    ap (λ l. answerTo m (e .bytes) ∷ l) (answer-behind (after m (e .bytes)) es n)
+    ap (λ l. answerTo m (e .bytes) ∷ l) (answer-behind (afterEvent m (e .bytes)) es n)
 
 pub run-is-the-list : RunIsTheList
 run-is-the-list = record { events = cut-joined; worked = all-worked; memory = memory-along; next = answer-behind }

@@ -20,8 +20,8 @@ use Rattle.layout.specs.Judged.{judged}
 use Rattle.soundness.specs.Soundness.{soundDesk}
 use Rattle.soundness.proofs.SoundDesk.{sound-out}
 use Rattle.working.specs.Working.{worked, moved}
-use Rattle.desk.specs.Step.{eventQuestions, answerTo, after, stepped, movedIn}
-use Rattle.desk.proofs.Gate.{answer-held, after-refused}
+use Rattle.desk.specs.Step.{eventQuestions, answerTo, afterEvent, stepped, movedIn}
+use Rattle.desk.proofs.Gate.{answer-sound, after-refused}
 
 -- ---- a judged event, with answer a
 module _ (m : List ℕ) (e : Event) (a : Answer) (told : numberOf a ≡ judged m e) where
@@ -53,14 +53,14 @@ module _ (m : List ℕ) (e : Event) (a : Answer) (told : numberOf a ≡ judged m
 
 -- ---- the event entry point
 module _ (m e : List ℕ) where
-  pub unsound-event : soundDesk m ≡ false → (5 ≡ answerTo m e) × (m ≡ after m e)
+  pub unsound-event : soundDesk m ≡ false → (5 ≡ answerTo m e) × (m ≡ afterEvent m e)
   unfolding answerTo eventQuestions
   unsound-event h =
       let five : answerTo m e ≡ 5 = rw h (unsound-answer derivatives (rosterOf m) (bookOf m) (tradingOf m) (decode e)) in
       (sym five, sym (after-refused m e (λ z. omega (arith, five, z))))
 
-  pub sound-event : (sound : soundDesk m ≡ true) → (judged m (decode e) ≡ answerTo m e) × (stepped m (decode e) ≡ after m e)
-  unfolding stepped after
+  pub sound-event : (sound : soundDesk m ≡ true) → (judged m (decode e) ≡ answerTo m e) × (stepped m (decode e) ≡ afterEvent m e)
+  unfolding stepped afterEvent
   sound-event sound =
-      let same = answer-held m e (sound-out m sound) in
+      let same = answer-sound m e (sound-out m sound) in
       (sym same, rw (same))

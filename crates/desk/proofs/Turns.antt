@@ -6,7 +6,7 @@ use native.Mathlib.Omega.{arith}
 use native.Mathlib.Numerals.{add-one}
 use lib.ListN.{length, take, drop, set, length-take, length-drop, length-set, drop-of-length-le}
 use lib.Seq.{take-nil, sets, sets-eq}
-use Rattle.desk.specs.Step.{answerTo, after}
+use Rattle.desk.specs.Step.{answerTo, afterEvent}
 use Rattle.desk.specs.Days.{answersOver, memoryOver}
 use Rattle.desk.specs.Run.{cut, eventsFor, answered}
 use Rattle.desk.proofs.Cutting.{cut-none, cut-more, past, event-within}
@@ -14,7 +14,7 @@ use Rattle.desk.proofs.Cutting.{cut-none, cut-more, past, event-within}
 length-answers : (m : List ℕ) (es : List (List ℕ)) → length (answersOver m es) ≡ length es
 unfolding answersOver
 length-answers m [] = refl
-length-answers m (e ∷ es) = ap suc (length-answers (after m e) es)
+length-answers m (e ∷ es) = ap suc (length-answers (afterEvent m e) es)
 
 -- the events from byte `at` on, as many as there is room for behind the first `count` answers
 abbrev left : (events room : List ℕ) (at count : ℕ) → List (List ℕ)
@@ -42,17 +42,20 @@ module _ (first events room : List ℕ) where
       record { within = omega arith; few = omega arith; size = refl; counted = rw all (omega arith); memory = rw all; written = rw all }
 
   -- the event at byte `at`, and those behind it
-  next-left : (at count : ℕ) → at < length events → count < length room → left events room at count ≡ take 48 (drop at events) ∷ left events room (at + length (take 48 (drop at events))) (count + 1)
+  next-left : (at count : ℕ) → at < length events → count < length room
+      → left events room at count ≡ take 48 (drop at events) ∷ left events room (at + length (take 48 (drop at events))) (count + 1)
   next-left at count more space =
       let one : length room - count ≡ suc (length room - (count + 1)) = omega arith in
       rw (cut-more (drop at events) (omega (arith, length-drop at events)), one, past 48 at events)
 
   module _ (m answers : List ℕ) (at count : ℕ) (r : Running first events room m answers at count) where
     -- one event more
-    pub turns : (e after-e : List ℕ) (a : ℕ) → at < length events → count < length answers → e ≡ take 48 (drop at events) → a ≡ answerTo m e → after-e ≡ after m e → Running first events room after-e (set answers count a) (at + length e) (count + 1)
+    pub turns : (e after-e : List ℕ) (a : ℕ) → at < length events → count < length answers → e ≡ take 48 (drop at events) → a ≡ answerTo m e
+        → after-e ≡ afterEvent m e → Running first events room after-e (set answers count a) (at + length e) (count + 1)
     unfolding memoryOver answersOver
     turns e after-e a more space is told worked =
-        let next : left events room at count ≡ e ∷ left events room (at + length e) (count + 1) = rw is (next-left at count more (omega (arith, r .size))) in
+        let next : left events room at count ≡ e ∷ left events room (at + length e) (count + 1) =
+        rw is (next-left at count more (omega (arith, r .size))) in
         record {
           within = event-within at events e more is .1;
           few = omega (arith, r .size);
@@ -67,9 +70,12 @@ module _ (first events room : List ℕ) where
     unfolding memoryOver answersOver
     ends none-left =
         let all = answersOver first (eventsFor events room) in
-        let few : 0 + length all ≤ length room = omega (arith, length-answers first (eventsFor events room), length-take (length room) (cut events)) in
-        let size : 0 + length all ≡ length all = omega arith in
-        (omega (arith, r .counted, ap length none-left), (rw none-left at (r .memory), (rw none-left at (r .written)) ∙ sets-eq all room 0 few ∙ rw size))
+        let few : 0 + length all ≤ length room =
+        omega (arith, length-answers first (eventsFor events room), length-take (length room) (cut events)) in
+        let size : 0 + length all ≡ length all = omega arith in (
+          omega (arith, r .counted, ap length none-left),
+          (rw none-left at (r .memory), (rw none-left at (r .written)) ∙ sets-eq all room 0 few ∙ rw size),
+        )
 
     pub events-end : length events ≤ at → Ran first events room m answers count
     events-end h = ends (rw (drop-of-length-le events h, cut-none) (take-nil (length room - count)))

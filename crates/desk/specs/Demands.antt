@@ -15,13 +15,13 @@ use Rattle.limits.specs.Questions.{Question, allPass}
 use Rattle.book.specs.Decoding.{between}
 use Rattle.book.specs.Market.{derivatives}
 use Rattle.book.specs.Table.{answer}
-use Rattle.book.specs.Kept.{RawEvent, said, Desk, begun, memoryAfter, keptAfter}
+use Rattle.book.specs.EventLists.{RawEvent, asEvent, Desk, begun, memoryAfter, stateAfter}
 use Rattle.book.specs.Demand3.{Demand3At}
 use Rattle.layout.specs.View.{rosterOf, balancesOf, openOrders}
 use Rattle.opening.specs.Questions.{rosterFrom, openingQuestions, openingAnswer}
 use Rattle.opening.specs.Opening.{afterOpening}
 use Rattle.reading.specs.Reading.{readingQuestions, instrumentAnswer, groupAnswer, instrumentReport, groupReport, reported}
-use Rattle.desk.specs.Step.{eventQuestions, answerTo, after}
+use Rattle.desk.specs.Step.{eventQuestions, answerTo, afterEvent}
 use Rattle.book.specs.Positions.{instrumentIn, groupIn}
 
 -- ---- demand 1
@@ -40,10 +40,10 @@ pub record Demand1 : Type 0 where
       (m e : List ℕ)
       → OneOf (answerTo m e)
       (0 ∷ 5 ∷ 6 ∷ 7 ∷ 8 ∷ 9 ∷ 10 ∷ 11 ∷ 12 ∷ 13 ∷ 14 ∷ 15 ∷ 16 ∷ 17 ∷ 18 ∷ 19 ∷ 20 ∷ 21 ∷ 22 ∷ 23 ∷ 24 ∷ [])
-  pub event-refused : (m e : List ℕ) → answerTo m e ≢ 0 → after m e ≡ m
+  pub event-refused : (m e : List ℕ) → answerTo m e ≢ 0 → afterEvent m e ≡ m
   -- "later bytes are never touched"
   pub later-opening : (m s : List ℕ) (k : ℕ) → 65536 ≤ k → getD (afterOpening m s) k 0 ≡ getD m k 0
-  pub later-event : (m e : List ℕ) (k : ℕ) → 65536 ≤ k → getD (after m e) k 0 ≡ getD m k 0
+  pub later-event : (m e : List ℕ) (k : ℕ) → 65536 ≤ k → getD (afterEvent m e) k 0 ≡ getD m k 0
 
 -- ---- demand 2
 -- question n is answered no, and every question before it yes
@@ -89,13 +89,15 @@ pub record Demand2 : Type 0 where
       (m : List ℕ) (a g : ℕ) (before : List ℤ)
       → groupAnswer m a g ≡ 0
       → reported (groupAnswer m a g) (groupReport m a g) before ≡ groupSum m a g long ∷ groupSum m a g short ∷ []
-  pub instrument-refused : (m : List ℕ) (a i : ℕ) (before : List ℤ) → instrumentAnswer m a i ≢ 0 → reported (instrumentAnswer m a i) (instrumentReport m a i) before ≡ before
-  pub group-refused : (m : List ℕ) (a g : ℕ) (before : List ℤ) → groupAnswer m a g ≢ 0 → reported (groupAnswer m a g) (groupReport m a g) before ≡ before
+  pub instrument-refused : (m : List ℕ) (a i : ℕ) (before : List ℤ) → instrumentAnswer m a i ≢ 0
+      → reported (instrumentAnswer m a i) (instrumentReport m a i) before ≡ before
+  pub group-refused : (m : List ℕ) (a g : ℕ) (before : List ℤ) → groupAnswer m a g ≢ 0
+      → reported (groupAnswer m a g) (groupReport m a g) before ≡ before
 
 -- ---- demand 3
 -- the gate as a desk over bytes: the exported event function's answer, and the memory that it leaves
 abbrev pub gate : Desk
-gate = record { Memory = List ℕ; answerTo = λ m e. answerTo m (e .bytes); next = λ m e. after m (e .bytes) }
+gate = record { Memory = List ℕ; answerTo = λ m e. answerTo m (e .bytes); next = λ m e. afterEvent m (e .bytes) }
 
 -- from an accepted opening of memory m with roster s
 pub record Demand3From (m s : List ℕ) : Type 0 where
@@ -107,21 +109,21 @@ pub record Demand3From (m s : List ℕ) : Type 0 where
       → between 1 (rosterFrom s .accounts) a ≡ true
       → between 1 (rosterFrom s .instruments) i ≡ true
       → (let now = memoryAfter gate (afterOpening m s) events in
-      let book = keptAfter gate derivatives (afterOpening m s) begun events .book in
+      let book = stateAfter gate derivatives (afterOpening m s) begun events .book in
       (instrumentAnswer now a i ≡ 0) × (instrumentReport now a i ≡ instrumentIn (rosterFrom s) book a i))
   pub group-read :
       (events : List RawEvent) (a g : ℕ)
       → between 1 (rosterFrom s .accounts) a ≡ true
       → between 1 (rosterFrom s .groups) g ≡ true
       → (let now = memoryAfter gate (afterOpening m s) events in
-      let book = keptAfter gate derivatives (afterOpening m s) begun events .book in
+      let book = stateAfter gate derivatives (afterOpening m s) begun events .book in
       (groupAnswer now a g ≡ 0) × (groupReport now a g ≡ groupIn (rosterFrom s) book a g))
   -- "Answers are demand 2's": after the list an event is answered by the table asked of the plain book
   pub answered :
       (events : List RawEvent) (e : RawEvent)
-      → (let kept = keptAfter gate derivatives (afterOpening m s) begun events in
+      → (let kept = stateAfter gate derivatives (afterOpening m s) begun events in
       answerTo (memoryAfter gate (afterOpening m s) events) (e .bytes)
-      ≡ answer derivatives (rosterFrom s) (kept .book) (kept .trading) (said e))
+      ≡ answer derivatives (rosterFrom s) (kept .book) (kept .trading) (asEvent e))
   -- the desk stays sound: question 5 is never answered no
   pub never-5 : (events : List RawEvent) (e : RawEvent) → answerTo (memoryAfter gate (afterOpening m s) events) (e .bytes) ≢ 5
 

@@ -4,7 +4,7 @@ use mathlib.Core.Path.{_≡_}
 use mathlib.Core.Bool.{false}
 use mathlib.Core.List.{List, [], _∷_, _++_, map}
 use lib.ListN.{length, take, drop, replicate}
-use Rattle.book.specs.Kept.{RawEvent, memoryAfter}
+use Rattle.book.specs.EventLists.{RawEvent, memoryAfter}
 use Rattle.soundness.specs.Soundness.{soundDesk}
 use Rattle.desk.specs.Step.{answerTo}
 use Rattle.desk.specs.Days.{answersOver, memoryOver}
@@ -41,14 +41,14 @@ abbrev pub bytesOfEach : List RawEvent → List (List ℕ)
 bytesOfEach = map (λ e. e .bytes)
 
 -- one after the other
-abbrev pub joined : List RawEvent → List ℕ
-joined [] = []
-joined (e ∷ es) = e .bytes ++ joined es
+abbrev pub concatenated : List RawEvent → List ℕ
+concatenated [] = []
+concatenated (e ∷ es) = e .bytes ++ concatenated es
 
 pub record RunIsTheList : Type 0 where
-  pub events : (es : List RawEvent) → Whole es → cut (joined es) ≡ bytesOfEach es
+  pub events : (es : List RawEvent) → Whole es → cut (concatenated es) ≡ bytesOfEach es
   -- with room for their answers, all are worked
-  pub worked : (es : List RawEvent) (room : List ℕ) → Whole es → length es ≤ length room → eventsFor (joined es) room ≡ bytesOfEach es
+  pub worked : (es : List RawEvent) (room : List ℕ) → Whole es → length es ≤ length room → eventsFor (concatenated es) room ≡ bytesOfEach es
   pub memory : (m : List ℕ) (es : List RawEvent) → memoryOver m (bytesOfEach es) ≡ memoryAfter gate m es
   -- N's answer stands behind the list's
   pub next :

@@ -23,8 +23,8 @@ unfoldable pub answerTo : List ℕ → List ℕ → ℕ
 answerTo m e = firstNo (eventQuestions m e)
 
 -- an accepted event is worked; a refused one leaves the memory as it is
-unfoldable pub after : List ℕ → List ℕ → List ℕ
-after m e = cond (eqb (answerTo m e) 0) (worked m (decode e)) m
+unfoldable pub afterEvent : List ℕ → List ℕ → List ℕ
+afterEvent m e = cond (eqb (answerTo m e) 0) (worked m (decode e)) m
 
 -- on a sound desk
 unfoldable pub stepped : List ℕ → Event → List ℕ

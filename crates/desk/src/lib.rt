@@ -8,7 +8,7 @@ ghost use mathlib.Core.Path.{_≡_};
 ghost use Rattle.opening.specs.Questions.{openingAnswer};
 ghost use Rattle.opening.specs.Opening.{afterOpening};
 ghost use Rattle.reading.specs.Reading.{instrumentAnswer, groupAnswer, instrumentReport, groupReport, reported};
-ghost use Rattle.desk.specs.Step.{answerTo, after};
+ghost use Rattle.desk.specs.Step.{answerTo, afterEvent};
 use crate::numbers::number_of;
 use crate::numbers::opening_number;
 use crate::run::answer_next;
@@ -30,7 +30,7 @@ pub extern "C" fn desk_open(m: &mut [u8], roster: &[u8]) -> u8
 #[no_mangle]
 pub extern "C" fn desk_event(m: &mut [u8], event: &[u8]) -> u8
     ensures answer { λ r. ⌜ r ≡ answerTo (now (m .entry)) (now (event .entry)) ⌝ }
-    ensures memory { λ r. ⌜ now (m .exit) ≡ after (now (m .entry)) (now (event .entry)) ⌝ }
+    ensures memory { λ r. ⌜ now (m .exit) ≡ afterEvent (now (m .entry)) (now (event .entry)) ⌝ }
 {
     let mut cells = [0u64; 1089];
     let sound = is_sound_with_sums(m, &mut cells);
@@ -46,7 +46,8 @@ pub extern "C" fn desk_instrument_position(
     report: &mut [i64; 3],
 ) -> u8
     ensures answer { λ r. ⌜ r ≡ instrumentAnswer (now (m .entry)) account instrument ⌝ }
-    ensures report { λ r. ⌜ now (report .exit) ≡ reported (instrumentAnswer (now (m .entry)) account instrument) (instrumentReport (now (m .entry)) account instrument) (now (report .entry)) ⌝ }
+    ensures report { λ r. ⌜ now (report .exit) ≡ reported (instrumentAnswer (now (m .entry)) account instrument)
+        (instrumentReport (now (m .entry)) account instrument) (now (report .entry)) ⌝ }
 {
     number_of(read_instrument(m, account as u64, instrument as u64, report))
 }
@@ -60,7 +61,8 @@ pub extern "C" fn desk_group_position(
     report: &mut [i64; 2],
 ) -> u8
     ensures answer { λ r. ⌜ r ≡ groupAnswer (now (m .entry)) account group ⌝ }
-    ensures report { λ r. ⌜ now (report .exit) ≡ reported (groupAnswer (now (m .entry)) account group) (groupReport (now (m .entry)) account group) (now (report .entry)) ⌝ }
+    ensures report { λ r. ⌜ now (report .exit) ≡ reported (groupAnswer (now (m .entry)) account group)
+        (groupReport (now (m .entry)) account group) (now (report .entry)) ⌝ }
 {
     number_of(read_group(m, account as u64, group as u64, report))
 }

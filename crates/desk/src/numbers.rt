@@ -1,7 +1,7 @@
 // The document's number of each answer.
 ghost use mathlib.Core.Path.{_≡_};
 ghost use Rattle.book.specs.Answers.{numberOf};
-ghost use Rattle.opening.specs.Opening.{numberOf as openingNumber};
+ghost use Rattle.opening.specs.Opening.{openingNumber};
 use book::Answer;
 use opening::Opening;
 

@@ -6,7 +6,7 @@ ghost use lib.ListN.{length, take, drop};
 ghost use Rattle.layout.specs.View.{openOrders};
 ghost use Rattle.soundness.specs.Soundness.{soundDesk};
 ghost use Rattle.soundness.specs.Cells.{Sums};
-ghost use Rattle.desk.specs.Step.{answerTo, after};
+ghost use Rattle.desk.specs.Step.{answerTo, afterEvent};
 ghost use Rattle.desk.specs.Days.{memoryOver};
 ghost use Rattle.desk.specs.Run.{eventsFor, answered};
 use crate::numbers::number_of;
@@ -31,7 +31,7 @@ fn event_at<'a>(events: &'a [u8], at: usize) -> &'a [u8]
 pub fn answer_next(m: &mut [u8], cells: &mut [u64; 1089], event: &[u8], sound: bool) -> u8
     requires { ⌜ (sound ≡ soundDesk (now m)) × (sound ≡ true → Sums (now cells) (openOrders (now m))) ⌝ }
     ensures answer { λ r. ⌜ r ≡ answerTo (now (m .entry)) (now (event .entry)) ⌝ }
-    ensures memory { λ r. ⌜ now (m .exit) ≡ after (now (m .entry)) (now (event .entry)) ⌝ }
+    ensures memory { λ r. ⌜ now (m .exit) ≡ afterEvent (now (m .entry)) (now (event .entry)) ⌝ }
     ensures sound { λ r. ⌜ sound ≡ soundDesk (now (m .exit)) ⌝ }
     ensures sums { λ r. ⌜ (sound ≡ true → Sums (now (cells .exit)) (openOrders (now (m .exit)))) ⌝ }
 {

@@ -5,7 +5,7 @@ ghost use Rattle.book.specs.Answers.{numberOf};
 ghost use Rattle.layout.specs.View.{openOrders};
 ghost use Rattle.layout.specs.Judged.{judged};
 ghost use Rattle.soundness.specs.Cells.{Sums};
-ghost use Rattle.soundness.specs.Held.{Held};
+ghost use Rattle.soundness.specs.SoundMemory.{SoundMemory};
 ghost use Rattle.desk.specs.Step.{stepped, movedIn};
 use book::Answer;
 use book::Event;
@@ -23,7 +23,7 @@ pub struct Outcome {
 
 // The cells hold B and V of all accounts, before the event and after it.
 pub fn step(m: &mut [u8], cells: &mut [u64], e: Event) -> Outcome
-    requires { ⌜ Held (now m) × Sums (now cells) (openOrders (now m)) ⌝ }
+    requires { ⌜ SoundMemory (now m) × Sums (now cells) (openOrders (now m)) ⌝ }
     ensures answer { λ r. ⌜ numberOf (r .answer) ≡ judged (now (m .entry)) e ⌝ }
     ensures memory { λ r. ⌜ now (m .exit) ≡ stepped (now (m .entry)) e ⌝ }
     ensures moved { λ r. ⌜ (r .moved .bought ≡ movedIn (now (m .entry)) e Buy) × (r .moved .sold ≡ movedIn (now (m .entry)) e Sell) ⌝ }

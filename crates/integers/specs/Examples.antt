@@ -50,9 +50,14 @@ sum-fits x y h f = omega (sized, magnitude-sum x y)
 product-fits : (k x : ℤ) → natAbs k ≤ 1000000 → natAbs x ≤ 200000000000 → SFits w64 (k *ℤ x)
 product-fits k x h l = omega (sized, magnitude-product-≤ k x 1000000 200000000000 h l)
 
-products-fit : (k x : ℕ → ℤ) → ((i : ℕ) → natAbs (k i) ≤ 1000000) → ((i : ℕ) → natAbs (x i) ≤ 200000000000) → SFits w64 (sumTo (λ i. k i *ℤ x i) 32)
+products-fit : (k x : ℕ → ℤ) → ((i : ℕ) → natAbs (k i) ≤ 1000000) → ((i : ℕ) → natAbs (x i) ≤ 200000000000)
+    → SFits w64 (sumTo (λ i. k i *ℤ x i) 32)
 products-fit k x h l =
-    omega (sized, sumTo-magnitude (λ i. k i *ℤ x i) 32 200000000000000000 (λ i b. magnitude-product-≤ (k i) (x i) 1000000 200000000000 (h i) (l i)))
+    omega (
+      sized,
+      sumTo-magnitude (λ i. k i *ℤ x i) 32 200000000000000000
+          (λ i b. magnitude-product-≤ (k i) (x i) 1000000 200000000000 (h i) (l i)),
+    )
 
 -- ---- ring identities, of variables and of numbers
 square : (x y z : ℤ) → (x +ℤ y) *ℤ (x -ℤ y) +ℤ z ≡ x *ℤ x -ℤ y *ℤ y +ℤ z

@@ -1,4 +1,5 @@
--- An integer as a difference of two natural numbers, up z − down z, and the rules by which `omega signed` reads and proves linear facts over ℤ.
+-- An integer as a difference of two natural numbers, up z − down z, and the rules by which `omega signed` reads and proves linear facts
+-- over ℤ.
 use mathlib.Core.Path.{_≡_, refl, sym, ap, subst}
 use mathlib.Core.Logic.{_≢_}
 use mathlib.Core.Bool.{Bool, true, false, cond}
@@ -114,7 +115,26 @@ pub parts-fits : (w : Width) (z : ℤ) → max (suc (up z + up z)) (down z + dow
 parts-fits w (pos n) h = record { sfits = omega arith }
 parts-fits w (negsuc n) h = record { sfits = omega arith }
 
-pub ruleset signed = (arith, ≤-parts, parts-≤, <-parts, parts-<, ≡-parts, parts-≡, leZ-true-parts, parts-leZ-true, leZ-false-parts, parts-leZ-false, ltZ-true-parts, parts-ltZ-true, ltZ-false-parts, parts-ltZ-false, parts-nonNeg, fits-parts, parts-fits)
+pub ruleset signed = (
+  arith,
+  ≤-parts,
+  parts-≤,
+  <-parts,
+  parts-<,
+  ≡-parts,
+  parts-≡,
+  leZ-true-parts,
+  parts-leZ-true,
+  leZ-false-parts,
+  parts-leZ-false,
+  ltZ-true-parts,
+  parts-ltZ-true,
+  ltZ-false-parts,
+  parts-ltZ-false,
+  parts-nonNeg,
+  fits-parts,
+  parts-fits,
+)
 
 -- ---- facts to list, one for each compound term: without them its parts are two unknowns
 pub canonical : (x : ℤ) → min (up x) (down x) ≡ 0
@@ -133,7 +153,8 @@ negation-parts (negsuc n) = (refl, refl)
 subℕ-parts : (a b : ℕ) → up (subℕ a b) + b ≡ a + down (subℕ a b)
 subℕ-parts a b = by (ltb a b) (ltb-true a b) (ltb-false a b)
   where
-    by : (t : Bool) → (t ≡ true → a < b) → (t ≡ false → b ≤ a) → up (cond t (negsuc (b - suc a)) (pos (a - b))) + b ≡ a + down (cond t (negsuc (b - suc a)) (pos (a - b)))
+    by : (t : Bool) → (t ≡ true → a < b) → (t ≡ false → b ≤ a)
+        → up (cond t (negsuc (b - suc a)) (pos (a - b))) + b ≡ a + down (cond t (negsuc (b - suc a)) (pos (a - b)))
     by true h k = omega (arith, h refl)
     by false h k = omega (arith, k refl)
 

@@ -20,4 +20,11 @@ product-< (negsuc n) x y s h = absurd (omega signed)
 -- a factor below 0 turns the order round
 pub flipped-≤ : (k x y : ℤ) → k ≤ℤ pos 0 → x ≤ℤ y → (k *ℤ y) ≤ℤ (k *ℤ x)
 flipped-≤ k x y s h =
-    omega (signed, negℤ-*ℤ k x, negℤ-*ℤ k y, negation-parts (k *ℤ x), negation-parts (k *ℤ y), product-≤ (negℤ k) x y (omega (signed, negation-parts k)) h)
+    omega (
+      signed,
+      negℤ-*ℤ k x,
+      negℤ-*ℤ k y,
+      negation-parts (k *ℤ x),
+      negation-parts (k *ℤ y),
+      product-≤ (negℤ k) x y (omega (signed, negation-parts k)) h,
+    )

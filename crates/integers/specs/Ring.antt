@@ -36,7 +36,15 @@ pub ⊖-product : (a b c d : ℕ) → (a ⊖ b) *ℤ (c ⊖ d) ≡ (a * c + b * 
     let y = c ⊖ d in
     let e = ⊖-parts a b in
     let f = ⊖-parts c d in
-    omega (signed, product-parts x y, ⊖-parts (a * c + b * d) (a * d + b * c), ap (λ t. t * up y) e, ap (λ t. t * down y) e, ap (λ t. a * t) f, ap (λ t. b * t) f)
+    omega (
+      signed,
+      product-parts x y,
+      ⊖-parts (a * c + b * d) (a * d + b * c),
+      ap (λ t. t * up y) e,
+      ap (λ t. t * down y) e,
+      ap (λ t. a * t) f,
+      ap (λ t. b * t) f,
+    )
 
 pub ruleset ⊖-ring = (⊖-pos, ⊖-negsuc, ⊖-negation, ⊖-sum, ⊖-product)
 

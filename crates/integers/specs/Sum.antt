@@ -1,7 +1,8 @@
 -- Sums of integers, over the elements of a list and over the numbers below n.
 use mathlib.Core.Path.{_≡_, refl, sym, ap}
 use mathlib.Core.Logic.{_≢_, ⊎-elim}
-use mathlib.Core.List.{List, [], _∷_, _++_, List·Memᴰ, List·Memᴰ·head, List·Memᴰ·tail, List·Memᴰ·not-nil, List·Memᴰ·append-cases, List·Memᴰ·eq-of-singleton}
+use mathlib.Core.List.{List, [], _∷_, _++_, List·Memᴰ, List·Memᴰ·head, List·Memᴰ·tail, List·Memᴰ·not-nil, List·Memᴰ·append-cases}
+use mathlib.Core.List.{List·Memᴰ·eq-of-singleton}
 use Prim.Native.Nat.{ℕ, zero, suc, _+_, _*_, _≤_, _<_}
 use native.Mathlib.Decide.{ℕ-discrete}
 use native.Mathlib.Numerals.{add-one}
@@ -45,7 +46,13 @@ module _ {A : Type 0} where
   unfolding sumOver
   sumOver-mono f g [] h = omega signed
   sumOver-mono f g (x ∷ xs) h =
-      omega (signed, h x (List·Memᴰ·head refl), sumOver-mono f g xs (λ a m. h a (List·Memᴰ·tail m)), sum-parts (f x) (sumOver f xs), sum-parts (g x) (sumOver g xs))
+      omega (
+        signed,
+        h x (List·Memᴰ·head refl),
+        sumOver-mono f g xs (λ a m. h a (List·Memᴰ·tail m)),
+        sum-parts (f x) (sumOver f xs),
+        sum-parts (g x) (sumOver g xs),
+      )
 
   pub sumOver-same : (f g : A → ℤ) (xs : List A) → ((a : A) → List·Memᴰ a xs → f a ≡ g a) → sumOver f xs ≡ sumOver g xs
   unfolding sumOver
@@ -68,14 +75,24 @@ module _ {A : Type 0} where
       let s = sumOver f xs in
       let t = sumOver g xs in
       let u = sumOver (λ a. f a +ℤ g a) xs in
-      omega (signed, sumOver-additive f g xs, sum-parts (f x) (g x), sum-parts (f x +ℤ g x) u, sum-parts s t, sum-parts (f x) s, sum-parts (g x) t, sum-parts (f x +ℤ s) (g x +ℤ t))
+      omega (
+        signed,
+        sumOver-additive f g xs,
+        sum-parts (f x) (g x),
+        sum-parts (f x +ℤ g x) u,
+        sum-parts s t,
+        sum-parts (f x) s,
+        sum-parts (g x) t,
+        sum-parts (f x +ℤ s) (g x +ℤ t),
+      )
 
   pub sumOver-negated : (f : A → ℤ) (xs : List A) → sumOver (λ a. negℤ (f a)) xs ≡ negℤ (sumOver f xs)
   unfolding sumOver
   sumOver-negated f [] = refl
   sumOver-negated f (x ∷ xs) = rw (sumOver-negated f xs, negℤ-+ℤ)
 
-  pub sumOver-magnitude : (f : A → ℤ) (xs : List A) (m : ℕ) → ((a : A) → List·Memᴰ a xs → natAbs (f a) ≤ m) → natAbs (sumOver f xs) ≤ length xs * m
+  pub sumOver-magnitude : (f : A → ℤ) (xs : List A) (m : ℕ) → ((a : A) → List·Memᴰ a xs → natAbs (f a) ≤ m)
+      → natAbs (sumOver f xs) ≤ length xs * m
   unfolding sumOver
   sumOver-magnitude f [] m h = omega arith
   sumOver-magnitude f (x ∷ xs) m h =
@@ -85,7 +102,8 @@ module _ {A : Type 0} where
 pub in-below : (n : ℕ) {i : ℕ} → List·Memᴰ i (below n) → i < n
 unfolding below
 in-below zero m = absurd (List·Memᴰ·not-nil m)
-in-below (suc n) m = ⊎-elim (λ k. omega (arith, in-below n k)) (λ k. omega (arith, List·Memᴰ·eq-of-singleton k)) (List·Memᴰ·append-cases (below n) m)
+in-below (suc n) m =
+    ⊎-elim (λ k. omega (arith, in-below n k)) (λ k. omega (arith, List·Memᴰ·eq-of-singleton k)) (List·Memᴰ·append-cases (below n) m)
 
 length-below : (n : ℕ) → length (below n) ≡ n
 unfolding below
@@ -122,6 +140,27 @@ sumTo-change f g (suc n) j h same = by-place (ℕ-discrete j n) (λ k. sumTo-cha
 
     by-place : Dec (j ≡ n) → (j < n → sumTo g n ≡ sumTo f n +ℤ change) → sumTo g (suc n) ≡ sumTo f (suc n) +ℤ change
     by-place (yes e) rest =
-        omega (signed, sumTo-same f g n (λ i l. same i (omega arith) (omega arith)), ap f e, ap g e, sumTo-suc f n, sumTo-suc g n, sum-parts (sumTo f n) (f n), sum-parts (sumTo g n) (g n), difference-parts (g j) (f j), sum-parts (sumTo f (suc n)) change)
+        omega (
+          signed,
+          sumTo-same f g n (λ i l. same i (omega arith) (omega arith)),
+          ap f e,
+          ap g e,
+          sumTo-suc f n,
+          sumTo-suc g n,
+          sum-parts (sumTo f n) (f n),
+          sum-parts (sumTo g n) (g n),
+          difference-parts (g j) (f j),
+          sum-parts (sumTo f (suc n)) change,
+        )
     by-place (no apart) rest =
-        omega (signed, rest (omega arith), same n (omega arith) (λ e. apart (sym e)), sumTo-suc f n, sumTo-suc g n, sum-parts (sumTo f n) (f n), sum-parts (sumTo g n) (g n), sum-parts (sumTo f n) change, sum-parts (sumTo f (suc n)) change)
+        omega (
+          signed,
+          rest (omega arith),
+          same n (omega arith) (λ e. apart (sym e)),
+          sumTo-suc f n,
+          sumTo-suc g n,
+          sum-parts (sumTo f n) (f n),
+          sum-parts (sumTo g n) (g n),
+          sum-parts (sumTo f n) change,
+          sum-parts (sumTo f (suc n)) change,
+        )

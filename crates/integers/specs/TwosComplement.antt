@@ -77,7 +77,8 @@ signed-bits b (negsuc n) r =
 pub bits-signed : (b n : ℕ) → n < 2 ^ b → bitsOf b (signedOf b n) ≡ n
 unfolding bitsOf
 bits-signed b n h = by-half b n (λ z. bitsOf b z ≡ n) (λ k. refl)
-    (λ k. let e : pos n -ℤ pos (2 ^ b) ≡ negsuc (2 ^ b - suc n) = omega (signed, difference-parts (pos n) (pos (2 ^ b))) in rw e (omega arith))
+    (λ k. let e : pos n -ℤ pos (2 ^ b) ≡ negsuc (2 ^ b - suc n) = omega (signed, difference-parts (pos n) (pos (2 ^ b))) in
+    rw e (omega arith))
 
 pub bits-below : (b : ℕ) (z : ℤ) → InBits b z → bitsOf b z < 2 ^ b
 unfolding bitsOf

@@ -26,8 +26,8 @@ use Rattle.book.specs.Table.{questionsBefore, limitQuestions, answer}
 use Rattle.book.proofs.Cuts.{standing}
 use Rattle.layout.specs.View.{rosterOf, openOrders, bookOf, tradingOf}
 use Rattle.layout.specs.Judged.{judged}
-use Rattle.entering.specs.Questions.{admission, withinLimits}
-use Rattle.judging.specs.Rest.{newWithin, newRest, raisedRest, replaceRest}
+use Rattle.order_checks.specs.Questions.{admission, withinLimits}
+use Rattle.judging.specs.QuestionsLeft.{newFrom18, newFrom13, raisedFrom14, replaceFrom12}
 
 module _ (m : List ℕ) where
   -- the first no of an event, but for a REPLACE, of which three lemmas below tell
@@ -46,7 +46,7 @@ module _ (m : List ℕ) where
       7
   tested (New s a i id n) =
       cond (between 1 (rosterOf m .accounts) a)
-      (cond (between 1 (rosterOf m .instruments) i) (cond (isQuantity n) (firstNo (newRest m (newOrder s a i id n))) 9) 8)
+      (cond (between 1 (rosterOf m .instruments) i) (cond (isQuantity n) (firstNo (newFrom13 m (newOrder s a i id n))) 9) 8)
       7
   tested (Replace id n) = judged m (Replace id n)
   tested (Cancel id) = cond (isSet (find id (openOrders m))) 0 11
@@ -57,7 +57,7 @@ module _ (m : List ℕ) where
 
   by-kind : (e : Event) → judged m e ≡ tested e
   unfolding judged answer questionsBefore limitQuestions isEvent accountKnown itemKnown figuresFit notYetTrading idOpen
-      quantityFits entered idFree placeFree firstNo bookOf derivatives work newOrder newRest newWithin admission withinLimits
+      quantityFits entered idFree placeFree firstNo bookOf derivatives work newOrder newFrom13 newFrom18 admission withinLimits
       sizeQuestions
   by-kind (Limit a l) = refl
   by-kind (Balance a i b) = refl
@@ -97,7 +97,7 @@ module _ (m : List ℕ) where
   -- ---- NEW and REPLACE: what is left once the tests before it have passed
   pub new-answer : (s : Side) (a i id : ℕ) (n : ℤ) (x y z : Bool)
       → between 1 (rosterOf m .accounts) a ≡ x → between 1 (rosterOf m .instruments) i ≡ y → isQuantity n ≡ z
-      → judged m (New s a i id n) ≡ cond x (cond y (cond z (firstNo (newRest m (newOrder s a i id n))) 9) 8) 7
+      → judged m (New s a i id n) ≡ cond x (cond y (cond z (firstNo (newFrom13 m (newOrder s a i id n))) 9) 8) 7
   new-answer s a i id n x y z d e f = by-kind (New s a i id n) ∙ rw (d, e, f)
 
   module _ (id : ℕ) (n : ℤ) where
@@ -110,11 +110,11 @@ module _ (m : List ℕ) where
     replace-none d e = rw (d, e)
 
     pub replace-found : (o : Order) → isQuantity n ≡ true → find id (openOrders m) ≡ some o
-        → judged m (Replace id n) ≡ firstNo (replaceRest m o (natAbs n))
+        → judged m (Replace id n) ≡ firstNo (replaceFrom12 m o (natAbs n))
     unfolding judged answer questionsBefore limitQuestions isEvent accountKnown itemKnown figuresFit notYetTrading idOpen
-        quantityFits entered idFree placeFree firstNo bookOf work replaceRest raisedRest admission withinLimits sizeQuestions
+        quantityFits entered idFree placeFree firstNo bookOf work replaceFrom12 raisedFrom14 admission withinLimits sizeQuestions
     replace-found o d e = by (ltb (o .total) (natAbs n)) refl
       where
-        by : (t : Bool) → ltb (o .total) (natAbs n) ≡ t → judged m (Replace id n) ≡ firstNo (replaceRest m o (natAbs n))
+        by : (t : Bool) → ltb (o .total) (natAbs n) ≡ t → judged m (Replace id n) ≡ firstNo (replaceFrom12 m o (natAbs n))
         by true h = rw (d, e, h, ← standing id (openOrders m) o e .named)
         by false h = rw (d, e, h)

@@ -23,8 +23,8 @@ use Rattle.layout.specs.View.{recordsOf, openOrders, bookOf, view}
 use Rattle.layout.specs.Stores.{orderIn, rank, Ranked}
 use Rattle.layout.proofs.Lengths.{rank-open}
 use Rattle.layout.proofs.Ranking.{found-before, found-none}
-use Rattle.soundness.specs.Held.{Held}
-use Rattle.soundness.proofs.SoundDesk.{held-records, held-count}
+use Rattle.soundness.specs.SoundMemory.{SoundMemory}
+use Rattle.soundness.proofs.SoundDesk.{sound-records, sound-count}
 
 module _ (id : ℕ) where
   from-place : (s : List ℕ) (n q p : ℕ) → placeFrom q id (ordersFrom s q n) ≡ At p → find id (ordersFrom s q n) ≡ some (orderAt s p)
@@ -49,17 +49,17 @@ module _ (id : ℕ) where
       by false d later = later d
 
 -- ---- at a sound desk
-module _ (m : List ℕ) (held : Held m) where
-  pub held-ids : Ascending 0 (openOrders m)
+module _ (m : List ℕ) (held : SoundMemory m) where
+  pub sound-ids : Ascending 0 (openOrders m)
   unfolding view bookOf
-  held-ids = held .book .ids
+  sound-ids = held .book .ids
 
-  pub held-ranked : Ranked m
-  held-ranked = (held-records m held, held-ids)
+  pub sound-ranked : Ranked m
+  sound-ranked = (sound-records m held, sound-ids)
 
   -- the place of the first larger id
   pub rank-small : (id p : ℕ) → p ≡ rank id (openOrders m) → p ≤ 256
-  rank-small id p is = omega (arith, rank-open m id, held-count m held)
+  rank-small id p is = omega (arith, rank-open m id, sound-count m held)
 
 module _ (m : List ℕ) (id : ℕ) where
   pub found-order : (p : ℕ) → placeFrom 0 id (openOrders m) ≡ At p → find id (openOrders m) ≡ some (orderIn m p)
@@ -76,25 +76,25 @@ module _ (m : List ℕ) (id : ℕ) where
   unfolding openOrders
   place-below p e = found-place (recordsOf m) id (wordAt m countWord) p e .0
 
-  pub place-small : Held m → (p : ℕ) → placeFrom 0 id (openOrders m) ≡ At p → p < 256
-  place-small h p e = omega (arith, place-below p e, held-count m h)
+  pub place-small : SoundMemory m → (p : ℕ) → placeFrom 0 id (openOrders m) ≡ At p → p < 256
+  place-small h p e = omega (arith, place-below p e, sound-count m h)
 
   pub no-order : placeFrom 0 id (openOrders m) ≡ Nothing → find id (openOrders m) ≡ none
   no-order e = from-nowhere id 0 (openOrders m) e
 
 -- ---- at the place p of the first larger id
-module _ (m : List ℕ) (held : Held m) (id p : ℕ) (is : p ≡ rank id (openOrders m)) where
+module _ (m : List ℕ) (held : SoundMemory m) (id p : ℕ) (is : p ≡ rank id (openOrders m)) where
   -- the id x just before it says whether an order is open
   pub open-before : (x : ℕ) → x ≡ orderIn m (p - 1) .id → 1 ≤ p → eqb x id ≡ isSet (find id (openOrders m))
   open-before x read h = by (ℕ-discrete x id)
     where
       by : Dec (x ≡ id) → eqb x id ≡ isSet (find id (openOrders m))
       by (yes same) =
-          rw (eq-eqb x id same, found-order m id (p - 1) (found-before m id (held-ids m held) p x is read h same))
+          rw (eq-eqb x id same, found-order m id (p - 1) (found-before m id (sound-ids m held) p x is read h same))
       by (no other) =
-          rw (ne-eqb x id other, no-order m id (found-none m id (held-ids m held) p x is read (λ k. other)))
+          rw (ne-eqb x id other, no-order m id (found-none m id (sound-ids m held) p x is read (λ k. other)))
 
   -- and where nothing is before it, none is
   pub none-before : p ≡ 0 → isSet (find id (openOrders m)) ≡ false
   none-before h =
-      rw (no-order m id (found-none m id (held-ids m held) p _ is refl (λ k. absurd (omega arith))))
+      rw (no-order m id (found-none m id (sound-ids m held) p _ is refl (λ k. absurd (omega arith))))

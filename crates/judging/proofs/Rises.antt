@@ -11,8 +11,8 @@ use Rattle.book.specs.OpenOrders.{insert, change}
 use Rattle.book.specs.Sound.{OrderFits}
 use Rattle.book.proofs.Cuts.{insert-sums, standing, standing-member, change-sums}
 use Rattle.layout.specs.View.{rosterOf, openOrders, bookOf, view}
-use Rattle.entering.specs.Questions.{OnRoster}
-use Rattle.judging.specs.Rest.{Replaceable}
+use Rattle.order_checks.specs.Questions.{OnRoster}
+use Rattle.judging.specs.QuestionsLeft.{Replaceable}
 
 -- nothing of the order is filled: all of it is added
 pub entered-raises : (o : Order) (os : List Order) → o .filled ≡ 0 → Raised (o .total) o os (insert o os)

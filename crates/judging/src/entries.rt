@@ -10,17 +10,15 @@ ghost use Rattle.layout.specs.View.{openOrders};
 ghost use Rattle.layout.specs.Stores.{rank};
 ghost use Rattle.layout.specs.Judged.{judged, NamedAt};
 ghost use Rattle.soundness.specs.Cells.{Sums};
-ghost use Rattle.soundness.specs.Held.{Held};
-ghost use Rattle.entering.specs.Questions.{Sizable};
-ghost use Rattle.judging.specs.Rest.{newWithin, newRest, Fresh, raisedRest, replaceRest, Replaceable};
+ghost use Rattle.soundness.specs.SoundMemory.{SoundMemory};
+ghost use Rattle.order_checks.specs.Questions.{Sizable};
+ghost use Rattle.judging.specs.QuestionsLeft.{newFrom18, newFrom13, Fresh, raisedFrom14, replaceFrom12, Replaceable};
 use crate::Verdict;
 use crate::known::account_known;
 use crate::known::instrument_known;
 use crate::plain;
 use crate::ranges::is_quantity;
 use book::Answer;
-use entering::admitted;
-use entering::within_limits;
 use layout::orders::load_order;
 use layout::search::find_order;
 use layout::search::id_at;
@@ -29,12 +27,14 @@ use layout::table::COUNT;
 use ledger::find::Found;
 use ledger::order::Order;
 use ledger::order::Side;
+use order_checks::admitted;
+use order_checks::within_limits;
 use words::word;
 
 // Whether an order with that id is open, `p` being the place of the first larger id. Ids ascend, so that it stands just before `p`: one
 // comparison, and no search.
 fn is_open(m: &[u8], p: usize, id: u64) -> bool
-    requires { ⌜ Held (now m) × (p ≡ rank id (openOrders (now m))) ⌝ }
+    requires { ⌜ SoundMemory (now m) × (p ≡ rank id (openOrders (now m))) ⌝ }
     ensures { λ r. ⌜ r ≡ isSet (find id (openOrders (now (m .entry)))) ⌝ }
 {
     0 < p && id_at(m, p - 1) == id
@@ -43,7 +43,7 @@ fn is_open(m: &[u8], p: usize, id: u64) -> bool
 // 18 to 24 of a NEW.
 fn new_within(m: &[u8], cells: &[u64], o: Order) -> Answer
     requires { ⌜ Fresh (now m) o × Sizable (now m) o (o .total) × Sums (now cells) (openOrders (now m)) ⌝ }
-    ensures { λ r. ⌜ numberOf r ≡ firstNo (newWithin (now (m .entry)) o) ⌝ }
+    ensures { λ r. ⌜ numberOf r ≡ firstNo (newFrom18 (now (m .entry)) o) ⌝ }
 {
     if 256 <= word(m, COUNT) {
         return Answer::NoPlaceFree;
@@ -54,7 +54,7 @@ fn new_within(m: &[u8], cells: &[u64], o: Order) -> Answer
 // 13 to 24 of a NEW. Its order would join at place `p`.
 fn new_order(m: &[u8], cells: &[u64], o: Order, p: usize) -> Answer
     requires { ⌜ Fresh (now m) o × Sums (now cells) (openOrders (now m)) × (p ≡ rank (o .id) (openOrders (now m))) ⌝ }
-    ensures { λ r. ⌜ numberOf r ≡ firstNo (newRest (now (m .entry)) o) ⌝ }
+    ensures { λ r. ⌜ numberOf r ≡ firstNo (newFrom13 (now (m .entry)) o) ⌝ }
 {
     if is_open(m, p, o.id) {
         return Answer::DuplicateOrder;
@@ -75,7 +75,7 @@ pub fn judge_new(
     id: u64,
     quantity: i64,
 ) -> Verdict
-    requires { ⌜ Held (now m) × Sums (now cells) (openOrders (now m)) ⌝ }
+    requires { ⌜ SoundMemory (now m) × Sums (now cells) (openOrders (now m)) ⌝ }
     ensures answer { λ r. ⌜ numberOf (r .answer) ≡ judged (now (m .entry)) (New side account instrument id quantity) ⌝ }
     ensures place { λ r. ⌜ (judged (now (m .entry)) (New side account instrument id quantity) ≡ 0
         → NamedAt (New side account instrument id quantity) (openOrders (now (m .entry))) (r .place)) ⌝ }
@@ -107,7 +107,7 @@ pub fn judge_new(
 // 14 to 24 of a REPLACE that raises order `o` to `total`.
 fn raised(m: &[u8], cells: &[u64], o: Order, total: u64) -> Answer
     requires { ⌜ Replaceable (now m) o total × (o .total < total) × Sums (now cells) (openOrders (now m)) ⌝ }
-    ensures { λ r. ⌜ numberOf r ≡ firstNo (raisedRest (now (m .entry)) o total) ⌝ }
+    ensures { λ r. ⌜ numberOf r ≡ firstNo (raisedFrom14 (now (m .entry)) o total) ⌝ }
 {
     let before = o.total;
     let after = o.replaced_total(total);
@@ -120,7 +120,7 @@ fn raised(m: &[u8], cells: &[u64], o: Order, total: u64) -> Answer
 // 12 to 24 of a REPLACE of order `o`.
 fn replaced(m: &[u8], cells: &[u64], o: Order, total: u64) -> Answer
     requires { ⌜ Replaceable (now m) o total × Sums (now cells) (openOrders (now m)) ⌝ }
-    ensures { λ r. ⌜ numberOf r ≡ firstNo (replaceRest (now (m .entry)) o total) ⌝ }
+    ensures { λ r. ⌜ numberOf r ≡ firstNo (replaceFrom12 (now (m .entry)) o total) ⌝ }
 {
     if total <= o.filled {
         return Answer::QuantityOutOfRange;
@@ -133,7 +133,7 @@ fn replaced(m: &[u8], cells: &[u64], o: Order, total: u64) -> Answer
 
 // REPLACE: questions 9, 11, 12 and 14 to 24.
 pub fn judge_replace(m: &[u8], cells: &[u64], id: u64, total: i64) -> Verdict
-    requires { ⌜ Held (now m) × Sums (now cells) (openOrders (now m)) ⌝ }
+    requires { ⌜ SoundMemory (now m) × Sums (now cells) (openOrders (now m)) ⌝ }
     ensures answer { λ r. ⌜ numberOf (r .answer) ≡ judged (now (m .entry)) (Replace id total) ⌝ }
     ensures place { λ r. ⌜ (judged (now (m .entry)) (Replace id total) ≡ 0
         → NamedAt (Replace id total) (openOrders (now (m .entry))) (r .place)) ⌝ }

@@ -10,7 +10,7 @@ ghost use Rattle.book.specs.Answers.{numberOf};
 ghost use Rattle.layout.specs.View.{openOrders};
 ghost use Rattle.layout.specs.Judged.{judged, NamedAt};
 ghost use Rattle.soundness.specs.Cells.{Sums};
-ghost use Rattle.soundness.specs.Held.{Held};
+ghost use Rattle.soundness.specs.SoundMemory.{SoundMemory};
 use crate::entries::judge_new;
 use crate::entries::judge_replace;
 use crate::orders::judge_cancel;
@@ -37,7 +37,7 @@ pub fn plain(answer: Answer) -> Verdict
 
 // The answer to an event of any kind. The cells hold B and V of all accounts.
 pub fn judge(m: &[u8], cells: &[u64], e: Event) -> Verdict
-    requires { ⌜ Held (now m) × Sums (now cells) (openOrders (now m)) ⌝ }
+    requires { ⌜ SoundMemory (now m) × Sums (now cells) (openOrders (now m)) ⌝ }
     ensures answer { λ r. ⌜ numberOf (r .answer) ≡ judged (now (m .entry)) e ⌝ }
     ensures place { λ r. ⌜ (judged (now (m .entry)) e ≡ 0 → NamedAt e (openOrders (now (m .entry))) (r .place)) ⌝ }
 {

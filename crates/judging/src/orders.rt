@@ -7,7 +7,7 @@ ghost use Rattle.book.specs.declared.Event.the-variants.{Cancel, Fill};
 ghost use Rattle.book.specs.Answers.{numberOf};
 ghost use Rattle.layout.specs.View.{openOrders};
 ghost use Rattle.layout.specs.Judged.{judged, NamedAt};
-ghost use Rattle.soundness.specs.Held.{Held};
+ghost use Rattle.soundness.specs.SoundMemory.{SoundMemory};
 use crate::Verdict;
 use crate::plain;
 use crate::ranges::is_quantity;
@@ -19,7 +19,7 @@ use ledger::order::Order;
 
 // CANCEL: question 11.
 pub fn judge_cancel(m: &[u8], id: u64) -> Verdict
-    requires { ⌜ Held (now m) ⌝ }
+    requires { ⌜ SoundMemory (now m) ⌝ }
     ensures answer { λ r. ⌜ numberOf (r .answer) ≡ judged (now (m .entry)) (Cancel id) ⌝ }
     ensures place { λ r. ⌜ (judged (now (m .entry)) (Cancel id) ≡ 0 → NamedAt (Cancel id) (openOrders (now (m .entry))) (r .place)) ⌝ }
 {
@@ -45,7 +45,7 @@ fn filled(o: Order, quantity: u64) -> Answer
 
 // FILL: questions 9, 11 and 12.
 pub fn judge_fill(m: &[u8], id: u64, quantity: i64) -> Verdict
-    requires { ⌜ Held (now m) ⌝ }
+    requires { ⌜ SoundMemory (now m) ⌝ }
     ensures answer { λ r. ⌜ numberOf (r .answer) ≡ judged (now (m .entry)) (Fill id quantity) ⌝ }
     ensures place { λ r. ⌜ (judged (now (m .entry)) (Fill id quantity) ≡ 0
         → NamedAt (Fill id quantity) (openOrders (now (m .entry))) (r .place)) ⌝ }

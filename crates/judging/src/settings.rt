@@ -5,7 +5,7 @@ ghost use Rattle.book.specs.declared.Event.the-variants.{Limit, Balance, Block}
 ghost use Rattle.book.specs.Answers.{numberOf};
 ghost use Rattle.layout.specs.View.{rosterOf, tradingOf};
 ghost use Rattle.layout.specs.Judged.{judged};
-ghost use Rattle.soundness.specs.Held.{Held};
+ghost use Rattle.soundness.specs.SoundMemory.{SoundMemory};
 use crate::known::account_known;
 use crate::known::blocked_account_known;
 use crate::known::blocked_item_known;
@@ -21,7 +21,7 @@ use words::word;
 
 // LIMIT: questions 7 to 9.
 pub fn judge_limit(m: &[u8], account: u64, line: LimitLine) -> Answer
-    requires { ⌜ Held (now m) ⌝ }
+    requires { ⌜ SoundMemory (now m) ⌝ }
     ensures { λ r. ⌜ numberOf r ≡ judged (now (m .entry)) (Limit account line) ⌝ }
 {
     if !account_known(m, account) {
@@ -38,7 +38,7 @@ pub fn judge_limit(m: &[u8], account: u64, line: LimitLine) -> Answer
 
 // Is the account marked as trading?
 fn is_trading(m: &[u8], account: u64) -> bool
-    requires { ⌜ Held (now m) × Numbered (rosterOf (now m) .accounts) account ⌝ }
+    requires { ⌜ SoundMemory (now m) × Numbered (rosterOf (now m) .accounts) account ⌝ }
     ensures { λ r. ⌜ r ≡ tradingOf (now (m .entry)) account ⌝ }
 {
     word(m, MARKS + account as usize) != 0
@@ -46,7 +46,7 @@ fn is_trading(m: &[u8], account: u64) -> bool
 
 // BALANCE: questions 7 to 10.
 pub fn judge_balance(m: &[u8], account: u64, instrument: u64, balance: i64) -> Answer
-    requires { ⌜ Held (now m) ⌝ }
+    requires { ⌜ SoundMemory (now m) ⌝ }
     ensures { λ r. ⌜ numberOf r ≡ judged (now (m .entry)) (Balance account instrument balance) ⌝ }
 {
     if !account_known(m, account) {
@@ -66,7 +66,7 @@ pub fn judge_balance(m: &[u8], account: u64, instrument: u64, balance: i64) -> A
 
 // BLOCK: questions 7 to 9.
 pub fn judge_block(m: &[u8], what: Blocked, on: i64) -> Answer
-    requires { ⌜ Held (now m) ⌝ }
+    requires { ⌜ SoundMemory (now m) ⌝ }
     ensures { λ r. ⌜ numberOf r ≡ judged (now (m .entry)) (Block what on) ⌝ }
 {
     if !blocked_account_known(m, what) {

@@ -12,7 +12,8 @@ unfolding putOrder fields
 past-order m p q x y h =
     past-words (λ l. putOrder l p x) (fields y) (recordWord q) (λ i low high. words-pass i (fields x) (recordWord p) (λ a b. omega arith)) m
 
-pub past-orders : (os : List Order) (m : List ℕ) (p q : ℕ) (x : Order) → p < q → putOrder (putOrders m q os) p x ≡ putOrders (putOrder m p x) q os
+pub past-orders : (os : List Order) (m : List ℕ) (p q : ℕ) (x : Order) → p < q
+    → putOrder (putOrders m q os) p x ≡ putOrders (putOrder m p x) q os
 unfolding putOrders
 past-orders [] m p q x h = refl
 past-orders (o ∷ os) m p q x h =

@@ -14,9 +14,10 @@ use Rattle.ledger.specs.Records.{ordersFrom}
 use Rattle.limits.specs.InBytes.{lineAt, groupLineAt}
 use Rattle.book.specs.Decoding.{between}
 use Rattle.book.specs.Books.{emptyBook}
-use Rattle.book.specs.Kept.{begun}
+use Rattle.book.specs.EventLists.{begun}
 use Rattle.book.proofs.Tables.{between-numbered}
-use Rattle.layout.specs.Layout.{countWord, markWord, accountBlockWord, instrumentBlockWord, groupBlockRow, balanceRow, ownSetRow, defaultSetRow, groupSetRow, ownRow, defaultRow, groupRow}
+use Rattle.layout.specs.Layout.{countWord, markWord, accountBlockWord, instrumentBlockWord, groupBlockRow, balanceRow, ownSetRow}
+use Rattle.layout.specs.Layout.{defaultSetRow, groupSetRow, ownRow, defaultRow, groupRow}
 use Rattle.layout.specs.View.{rosterOf, flag, onRoster, linesOf, balancesOf, blocksOf, openOrders, bookOf, tradingOf, view}
 use Rattle.layout.proofs.RosterLaws.{Sized}
 use Rattle.layout.proofs.GuardedTables.{on-each, same-lines, same-blocks, same-view}
@@ -30,7 +31,8 @@ module _ (m : List ℕ) (sized : Sized (rosterOf m)) (zero : (k : ℕ) → 112 �
   flag-off k low high = ap not (eq-eqb (wordAt m k) 0 (zero k low high))
 
   -- no line where its word is 0
-  unset : {A : Type 0} (numbers a n k : ℕ) (x : A) → (Numbered (rosterOf m .accounts) a → Numbered numbers n → (112 ≤ k) × (k < 4224)) → onRoster (rosterOf m .accounts) numbers a n (cond (flag m k) (some x) none) none ≡ none
+  unset : {A : Type 0} (numbers a n k : ℕ) (x : A) → (Numbered (rosterOf m .accounts) a → Numbered numbers n → (112 ≤ k) × (k < 4224))
+      → onRoster (rosterOf m .accounts) numbers a n (cond (flag m k) (some x) none) none ≡ none
   unset numbers a n k x inside =
       on-each (rosterOf m .accounts) numbers a n (cond (flag m k) (some x) none) none (λ l. l ≡ none)
       (λ on-a on-n. ap (λ t. cond t (some x) none) (flag-off k (inside on-a on-n .0) (inside on-a on-n .1))) refl
@@ -39,7 +41,8 @@ module _ (m : List ℕ) (sized : Sized (rosterOf m)) (zero : (k : ℕ) → 112 �
   unfolding balancesOf signedAt
   balances-blank =
       fun-ext
-      (λ a. fun-ext (λ i. on-each (rosterOf m .accounts) (rosterOf m .instruments) a i (signedAt m (balanceRow a + i)) (pos 0) (λ z. z ≡ pos 0)
+      (λ a. fun-ext (λ i. on-each (rosterOf m .accounts) (rosterOf m .instruments) a i (signedAt m (balanceRow a + i)) (pos 0)
+      (λ z. z ≡ pos 0)
       (λ on-a on-i. ap (signedOf 64) (zero (balanceRow a + i) (omega arith) (omega arith)) ∙ signed-small 64 0 (omega arith)) refl))
 
   lines-blank : linesOf m ≡ emptyBook .linesOf
@@ -59,7 +62,8 @@ module _ (m : List ℕ) (sized : Sized (rosterOf m)) (zero : (k : ℕ) → 112 �
       (λ e. let on-a = between-numbered (rosterOf m .accounts) a e in flag-off (accountBlockWord a) (omega arith) (omega arith))))
       (fun-ext (λ i. and-off (between 1 (rosterOf m .instruments) i) (flag m (instrumentBlockWord i))
       (λ e. let on-i = between-numbered (rosterOf m .instruments) i e in flag-off (instrumentBlockWord i) (omega arith) (omega arith))))
-      (fun-ext (λ a. fun-ext (λ g. on-each (rosterOf m .accounts) (rosterOf m .groups) a g (flag m (groupBlockRow a + g)) false (λ t. t ≡ false)
+      (fun-ext (λ a. fun-ext (λ g. on-each (rosterOf m .accounts) (rosterOf m .groups) a g (flag m (groupBlockRow a + g)) false
+      (λ t. t ≡ false)
       (λ on-a on-g. flag-off (groupBlockRow a + g) (omega arith) (omega arith)) refl)))
 
   marks-blank : tradingOf m ≡ (λ a. false)

@@ -34,7 +34,8 @@ module _ (m : List ℕ) (p : ℕ) (few : firstOf m ≤ 256) where
   pub joined-small : joinedFirst m p ≤ 256
   unfolding joinedFirst
   joined-small =
-      side-small (firstOf m - 1) (cond (eqb (firstOf m) 256) 0 (firstOf m)) (p * 2) (wordAt m countWord) (ltb 0 (firstOf m)) 256 (λ e. omega arith)
+      side-small (firstOf m - 1) (cond (eqb (firstOf m) 256) 0 (firstOf m)) (p * 2) (wordAt m countWord) (ltb 0 (firstOf m)) 256
+      (λ e. omega arith)
       (by (eqb (firstOf m) 256))
     where
       by : (t : Bool) → cond t 0 (firstOf m) ≤ 256

@@ -34,23 +34,30 @@ by-word v w l l′ d e = rw (d, e)
 
 abbrev pub rowsOf : List ℕ → ℕ → Lines
 rowsOf m a =
-    linesIn (partOf m (ownRow a) 66) (partOf m (ownSetRow a) 33) (partOf m (defaultRow a) 18) (partOf m (defaultSetRow a) 9) (partOf m (groupRow a) 5) (partOf m (groupSetRow a) 5)
+    linesIn (partOf m (ownRow a) 66) (partOf m (ownSetRow a) 33) (partOf m (defaultRow a) 18) (partOf m (defaultSetRow a) 9)
+    (partOf m (groupRow a) 5) (partOf m (groupSetRow a) 5)
 
 module _ (m : List ℕ) (sized : Sized (rosterOf m)) (a : ℕ) (on : Numbered (rosterOf m .accounts) a) where
   pub own-in-row : (i : ℕ) → Numbered (rosterOf m .instruments) i → linesOf m a .ownOf i ≡ rowsOf m a .ownOf i
   unfolding linesOf linesIn
   own-in-row i l =
       on-here (rosterOf m .accounts) (rosterOf m .instruments) a i _ none on l
-      ∙ by-word (wordAt m (ownSetRow a + i)) (wordAt (partOf m (ownSetRow a) 33) i) (lineAt m (ownRow a + i * 2)) (lineAt (partOf m (ownRow a) 66) (i * 2)) (sym (word-part m (ownSetRow a) 33 i (omega (arith, sized .instruments)))) (sym (line-in-row m (ownRow a) 66 (i * 2) (omega (arith, sized .instruments))))
+      ∙ by-word (wordAt m (ownSetRow a + i)) (wordAt (partOf m (ownSetRow a) 33) i) (lineAt m (ownRow a + i * 2))
+      (lineAt (partOf m (ownRow a) 66) (i * 2)) (sym (word-part m (ownSetRow a) 33 i (omega (arith, sized .instruments))))
+      (sym (line-in-row m (ownRow a) 66 (i * 2) (omega (arith, sized .instruments))))
 
   pub default-in-row : (c : ℕ) → Numbered (rosterOf m .contracts) c → linesOf m a .defaultOf c ≡ rowsOf m a .defaultOf c
   unfolding linesOf linesIn
   default-in-row c l =
       on-here (rosterOf m .accounts) (rosterOf m .contracts) a c _ none on l
-      ∙ by-word (wordAt m (defaultSetRow a + c)) (wordAt (partOf m (defaultSetRow a) 9) c) (lineAt m (defaultRow a + c * 2)) (lineAt (partOf m (defaultRow a) 18) (c * 2)) (sym (word-part m (defaultSetRow a) 9 c (omega (arith, sized .contracts)))) (sym (line-in-row m (defaultRow a) 18 (c * 2) (omega (arith, sized .contracts))))
+      ∙ by-word (wordAt m (defaultSetRow a + c)) (wordAt (partOf m (defaultSetRow a) 9) c) (lineAt m (defaultRow a + c * 2))
+      (lineAt (partOf m (defaultRow a) 18) (c * 2)) (sym (word-part m (defaultSetRow a) 9 c (omega (arith, sized .contracts))))
+      (sym (line-in-row m (defaultRow a) 18 (c * 2) (omega (arith, sized .contracts))))
 
   pub group-in-row : (g : ℕ) → Numbered (rosterOf m .groups) g → linesOf m a .lineOfGroup g ≡ rowsOf m a .lineOfGroup g
   unfolding linesOf linesIn
   group-in-row g l =
       on-here (rosterOf m .accounts) (rosterOf m .groups) a g _ none on l
-      ∙ by-word (wordAt m (groupSetRow a + g)) (wordAt (partOf m (groupSetRow a) 5) g) (groupLineAt m (groupRow a + g)) (groupLineAt (partOf m (groupRow a) 5) g) (sym (word-part m (groupSetRow a) 5 g (omega (arith, sized .groups)))) (sym (group-line-in-row m (groupRow a) 5 g (omega (arith, sized .groups))))
+      ∙ by-word (wordAt m (groupSetRow a + g)) (wordAt (partOf m (groupSetRow a) 5) g) (groupLineAt m (groupRow a + g))
+      (groupLineAt (partOf m (groupRow a) 5) g) (sym (word-part m (groupSetRow a) 5 g (omega (arith, sized .groups))))
+      (sym (group-line-in-row m (groupRow a) 5 g (omega (arith, sized .groups))))

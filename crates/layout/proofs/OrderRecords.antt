@@ -1,5 +1,5 @@
--- A record of the order region: what it says, what a store there changes, and what it leaves. The open orders are those in the records from the
--- first in use on.
+-- A record of the order region: what it says, what a store there changes, and what it leaves. The open orders are those in the records from
+-- the first in use on.
 use Prim.Native.Nat.{ℕ, zero, suc, _+_, _*_, _≤_, _<_}
 use mathlib.Core.Path.{_≡_, refl, _∙_, sym, ap}
 use mathlib.Core.List.{List}
@@ -29,13 +29,15 @@ pub order-words : (m : List ℕ) (p : ℕ) → p < 512 → recordIn m p ≡ orde
 order-words m p h = part-words m ordersWord 1024 p (omega arith)
 
 -- records of the same words are the same
-pub same-record : (l m : List ℕ) (p : ℕ) → p < 512 → ((j : ℕ) → recordWord p ≤ j → j < recordWord p + 2 → wordAt l j ≡ wordAt m j) → recordIn l p ≡ recordIn m p
+pub same-record : (l m : List ℕ) (p : ℕ) → p < 512 → ((j : ℕ) → recordWord p ≤ j → j < recordWord p + 2 → wordAt l j ≡ wordAt m j)
+    → recordIn l p ≡ recordIn m p
 same-record l m p h same =
     let k : ℕ = recordWord p in
     order-words l p h
     ∙ rw (same k (omega arith) (omega arith), same (k + 1) (omega arith) (omega arith)) (sym (order-words m p h))
 
-pub same-records : (l m : List ℕ) (n p : ℕ) → p + n ≤ 512 → ((j : ℕ) → recordWord p ≤ j → j < recordWord (p + n) → wordAt l j ≡ wordAt m j) → recordsIn l p n ≡ recordsIn m p n
+pub same-records : (l m : List ℕ) (n p : ℕ) → p + n ≤ 512 → ((j : ℕ) → recordWord p ≤ j → j < recordWord (p + n) → wordAt l j ≡ wordAt m j)
+    → recordsIn l p n ≡ recordsIn m p n
 unfolding ordersFrom
 same-records l m zero p h same = refl
 same-records l m (suc n) p h same =
@@ -93,7 +95,11 @@ pub small-record : (m : List ℕ) (p : ℕ) → p < 512 → Bytes m → SmallOrd
 small-record m p h bytes =
     let k : ℕ = recordWord p in
     rw (order-words m p h)
-    (record { id = rw (id-of (wordAt m k) (wordAt m (k + 1))) (word-below m k bytes); detail = word-storable (wordAt m k) (wordAt m (k + 1)) (word-below m (k + 1) bytes) })
+    (record {
+      id = rw (id-of (wordAt m k) (wordAt m (k + 1))) (word-below m k bytes);
+      detail =
+          word-storable (wordAt m k) (wordAt m (k + 1)) (word-below m (k + 1) bytes);
+    })
 
 -- ---- the open orders
 pub records-long : (m : List ℕ) → Records m → length (recordsOf m) ≡ 4096

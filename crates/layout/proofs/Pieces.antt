@@ -16,12 +16,16 @@ module _ (s : List ℕ) (o : Order) where
   abbrev with-at : ℕ → ℕ → ℕ → List Order
   with-at r p q = ordersFrom s r p ++ (o ∷ ordersFrom s (r + p) q)
 
-  pub cut-insert : (n r : ℕ) → insert o (ordersFrom s r n) ≡ with-at r (rank (o .id) (ordersFrom s r n)) (n - rank (o .id) (ordersFrom s r n))
+  pub cut-insert : (n r : ℕ) → insert o (ordersFrom s r n) ≡ with-at r (rank (o .id) (ordersFrom s r n))
+      (n - rank (o .id) (ordersFrom s r n))
   unfolding insert rank ordersFrom
   cut-insert zero r = refl
   cut-insert (suc n) r = by (ltb (o .id) (orderAt s r .id)) (cut-insert n (r + 1))
     where
-      by : (t : Bool) → insert o (ordersFrom s (r + 1) n) ≡ with-at (r + 1) (rank (o .id) (ordersFrom s (r + 1) n)) (n - rank (o .id) (ordersFrom s (r + 1) n)) → cond t (o ∷ orderAt s r ∷ ordersFrom s (r + 1) n) (orderAt s r ∷ insert o (ordersFrom s (r + 1) n)) ≡ with-at r (cond t 0 (suc (rank (o .id) (ordersFrom s (r + 1) n)))) (suc n - cond t 0 (suc (rank (o .id) (ordersFrom s (r + 1) n))))
+      by : (t : Bool) → insert o (ordersFrom s (r + 1) n) ≡ with-at (r + 1) (rank (o .id) (ordersFrom s (r + 1) n))
+          (n - rank (o .id) (ordersFrom s (r + 1) n))
+          → cond t (o ∷ orderAt s r ∷ ordersFrom s (r + 1) n) (orderAt s r ∷ insert o (ordersFrom s (r + 1) n)) ≡ with-at r
+          (cond t 0 (suc (rank (o .id) (ordersFrom s (r + 1) n)))) (suc n - cond t 0 (suc (rank (o .id) (ordersFrom s (r + 1) n))))
       by true later =
           let e : r + 0 ≡ r = omega arith in
           let f : suc n - 0 ≡ suc n = omega arith in
@@ -44,7 +48,8 @@ module _ (s : List ℕ) (o : Order) where
       let f : suc n - (suc p + 1) ≡ n - (p + 1) = omega arith in
       rw (e, f, cut-set p n (r + 1) (omega arith))
 
-pub cut-without : (s : List ℕ) (p n r : ℕ) → p < n → without p (ordersFrom s r n) ≡ ordersFrom s r p ++ ordersFrom s (r + p + 1) (n - (p + 1))
+pub cut-without : (s : List ℕ) (p n r : ℕ) → p < n
+    → without p (ordersFrom s r n) ≡ ordersFrom s r p ++ ordersFrom s (r + p + 1) (n - (p + 1))
 unfolding without ordersFrom
 cut-without s p zero r h = absurd (omega arith)
 cut-without s zero (suc n) r h =

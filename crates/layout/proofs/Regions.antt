@@ -5,7 +5,9 @@ use mathlib.Core.Path.{_≡_}
 use mathlib.Core.Logic.{_≢_}
 use native.Mathlib.Omega.{arith}
 use Rattle.ledger.specs.Roster.{Numbered}
-use Rattle.layout.specs.Layout.{memoryBytes, memoryWords, kindWord, rosterWord, countWord, firstWord, markWord, accountBlockWord, instrumentBlockWord, groupBlockRow, balanceRow, ownSetRow, defaultSetRow, groupSetRow, ownRow, defaultRow, groupRow}
+use Rattle.layout.specs.Layout.{memoryBytes, memoryWords, kindWord, rosterWord, countWord, firstWord, markWord, accountBlockWord}
+use Rattle.layout.specs.Layout.{instrumentBlockWord, groupBlockRow, balanceRow, ownSetRow, defaultSetRow, groupSetRow, ownRow}
+use Rattle.layout.specs.Layout.{defaultRow, groupRow}
 use Rattle.layout.specs.Stores.{recordWord}
 
 -- word k is one of the words from low to high − 1

@@ -14,7 +14,8 @@ use Rattle.ledger.specs.Roster.{Numbered}
 use Rattle.limits.specs.Lines.{Line, GroupLine, Lines}
 use Rattle.limits.specs.InBytes.{lineAt, groupLineAt}
 use Rattle.book.specs.Books.{Blocks}
-use Rattle.layout.specs.Layout.{countWord, firstWord, markWord, accountBlockWord, instrumentBlockWord, groupBlockRow, balanceRow, ownSetRow, defaultSetRow, groupSetRow, ownRow, defaultRow, groupRow}
+use Rattle.layout.specs.Layout.{countWord, firstWord, markWord, accountBlockWord, instrumentBlockWord, groupBlockRow, balanceRow}
+use Rattle.layout.specs.Layout.{ownSetRow, defaultSetRow, groupSetRow, ownRow, defaultRow, groupRow}
 use Rattle.layout.specs.View.{rosterOf, flag, linesOf, balancesOf, blocksOf, firstOf, openOrders, tradingOf}
 use Rattle.layout.specs.Stores.{ordersIn, recordsIn}
 use Rattle.layout.proofs.RosterLaws.{Sized}
@@ -25,8 +26,9 @@ use Rattle.layout.proofs.OrderRecords.{same-records, open-records}
 abbrev pub Same : ℕ → ℕ → List ℕ → List ℕ → Type 0
 Same low high l m = (k : ℕ) → low ≤ k → k < high → wordAt l k ≡ wordAt m k
 
--- a memory that is long enough and holds a roster of sizes within their limits and at most 256 orders, whose records stand inside their region
-pub record Held (m : List ℕ) : Type 0 where
+-- a memory that is long enough and holds a roster of sizes within their limits and at most 256 orders, whose records stand inside their
+-- region
+pub record InBounds (m : List ℕ) : Type 0 where
   pub long : 65536 ≤ length m
   pub sized : Sized (rosterOf m)
   pub count : wordAt m countWord ≤ 256
@@ -59,17 +61,19 @@ pub same-flag : (l m : List ℕ) (k : ℕ) → wordAt l k ≡ wordAt m k → fla
 same-flag l m k e = ap (λ n. not (eqb n 0)) e
 
 -- a line, set or not
-pub same-own : (l m : List ℕ) (s k : ℕ) → wordAt l s ≡ wordAt m s → Same k (k + 2) l m → _≡_ {A = Option Line} (cond (flag l s) (some (lineAt l k)) none) (cond (flag m s) (some (lineAt m k)) none)
+pub same-own : (l m : List ℕ) (s k : ℕ) → wordAt l s ≡ wordAt m s → Same k (k + 2) l m
+    → _≡_ {A = Option Line} (cond (flag l s) (some (lineAt l k)) none) (cond (flag m s) (some (lineAt m k)) none)
 unfolding lineAt
 same-own l m s k e same =
     rw (same-flag l m s e, same k (omega arith) (omega arith), same (k + 1) (omega arith) (omega arith))
 
-pub same-of-group : (l m : List ℕ) (s k : ℕ) → wordAt l s ≡ wordAt m s → wordAt l k ≡ wordAt m k → _≡_ {A = Option GroupLine} (cond (flag l s) (some (groupLineAt l k)) none) (cond (flag m s) (some (groupLineAt m k)) none)
+pub same-of-group : (l m : List ℕ) (s k : ℕ) → wordAt l s ≡ wordAt m s → wordAt l k ≡ wordAt m k
+    → _≡_ {A = Option GroupLine} (cond (flag l s) (some (groupLineAt l k)) none) (cond (flag m s) (some (groupLineAt m k)) none)
 unfolding groupLineAt
 same-of-group l m s k e same = rw (same-flag l m s e, same)
 
 -- ---- the fields
-module _ (l m : List ℕ) (held : Held m) (roster : rosterOf l ≡ rosterOf m) where
+module _ (l m : List ℕ) (held : InBounds m) (roster : rosterOf l ≡ rosterOf m) where
   pub balances-same : Same 256 768 l m → balancesOf l ≡ balancesOf m
   unfolding balancesOf signedAt
   balances-same same =
@@ -78,58 +82,81 @@ module _ (l m : List ℕ) (held : Held m) (roster : rosterOf l ≡ rosterOf m) w
       ∙ table-same (rosterOf m .accounts) (rosterOf m .instruments) (pos 0) (balanceAt m) (balanceAt l)
       (λ a i on-a on-i. ap (signedOf 64) (same (balanceRow a + i) (omega arith) (omega arith)))
 
-  pub own-same : Same 768 1280 l m → ((a i : ℕ) → Numbered (rosterOf m .accounts) a → Numbered (rosterOf m .instruments) i → Same (ownRow a + i * 2) (ownRow a + i * 2 + 2) l m) → tableOf (rosterOf m .accounts) (rosterOf m .instruments) none (ownAt l) ≡ tableOf (rosterOf m .accounts) (rosterOf m .instruments) none (ownAt m)
+  pub own-same : Same 768 1280 l m → ((a i : ℕ) → Numbered (rosterOf m .accounts) a → Numbered (rosterOf m .instruments) i
+      → Same (ownRow a + i * 2) (ownRow a + i * 2 + 2) l m)
+      → tableOf (rosterOf m .accounts) (rosterOf m .instruments) none (ownAt l) ≡ tableOf (rosterOf m .accounts)
+      (rosterOf m .instruments) none (ownAt m)
   own-same sets figures =
       let sized = held .sized in
       table-same (rosterOf m .accounts) (rosterOf m .instruments) none (ownAt m) (ownAt l)
-      (λ a i on-a on-i. same-own l m (ownSetRow a + i) (ownRow a + i * 2) (sets (ownSetRow a + i) (omega arith) (omega arith)) (figures a i on-a on-i))
+      (λ a i on-a on-i. same-own l m (ownSetRow a + i) (ownRow a + i * 2) (sets (ownSetRow a + i) (omega arith) (omega arith))
+      (figures a i on-a on-i))
 
-  pub default-same : Same 1280 1408 l m → ((a c : ℕ) → Numbered (rosterOf m .accounts) a → Numbered (rosterOf m .contracts) c → Same (defaultRow a + c * 2) (defaultRow a + c * 2 + 2) l m) → tableOf (rosterOf m .accounts) (rosterOf m .contracts) none (defaultAt l) ≡ tableOf (rosterOf m .accounts) (rosterOf m .contracts) none (defaultAt m)
+  pub default-same : Same 1280 1408 l m → ((a c : ℕ) → Numbered (rosterOf m .accounts) a → Numbered (rosterOf m .contracts) c
+      → Same (defaultRow a + c * 2) (defaultRow a + c * 2 + 2) l m)
+      → tableOf (rosterOf m .accounts) (rosterOf m .contracts) none (defaultAt l) ≡ tableOf (rosterOf m .accounts)
+      (rosterOf m .contracts) none (defaultAt m)
   default-same sets figures =
       let sized = held .sized in
       table-same (rosterOf m .accounts) (rosterOf m .contracts) none (defaultAt m) (defaultAt l)
-      (λ a c on-a on-c. same-own l m (defaultSetRow a + c) (defaultRow a + c * 2) (sets (defaultSetRow a + c) (omega arith) (omega arith)) (figures a c on-a on-c))
+      (λ a c on-a on-c. same-own l m (defaultSetRow a + c) (defaultRow a + c * 2) (sets (defaultSetRow a + c) (omega arith) (omega arith))
+      (figures a c on-a on-c))
 
-  pub of-group-same : Same 1408 1472 l m → ((a g : ℕ) → Numbered (rosterOf m .accounts) a → Numbered (rosterOf m .groups) g → wordAt l (groupRow a + g) ≡ wordAt m (groupRow a + g)) → tableOf (rosterOf m .accounts) (rosterOf m .groups) none (ofGroupAt l) ≡ tableOf (rosterOf m .accounts) (rosterOf m .groups) none (ofGroupAt m)
+  pub of-group-same : Same 1408 1472 l m → ((a g : ℕ) → Numbered (rosterOf m .accounts) a → Numbered (rosterOf m .groups) g
+      → wordAt l (groupRow a + g) ≡ wordAt m (groupRow a + g))
+      → tableOf (rosterOf m .accounts) (rosterOf m .groups) none (ofGroupAt l) ≡ tableOf (rosterOf m .accounts) (rosterOf m .groups) none
+      (ofGroupAt m)
   of-group-same sets figures =
       let sized = held .sized in
       table-same (rosterOf m .accounts) (rosterOf m .groups) none (ofGroupAt m) (ofGroupAt l)
-      (λ a g on-a on-g. same-of-group l m (groupSetRow a + g) (groupRow a + g) (sets (groupSetRow a + g) (omega arith) (omega arith)) (figures a g on-a on-g))
+      (λ a g on-a on-g. same-of-group l m (groupSetRow a + g) (groupRow a + g) (sets (groupSetRow a + g) (omega arith) (omega arith))
+      (figures a g on-a on-g))
 
   -- the lines, from their three tables
-  pub lines-are : linesOf l ≡ (λ a. linesBy (tableOf (rosterOf m .accounts) (rosterOf m .instruments) none (ownAt l)) (tableOf (rosterOf m .accounts) (rosterOf m .contracts) none (defaultAt l)) (tableOf (rosterOf m .accounts) (rosterOf m .groups) none (ofGroupAt l)) a)
+  pub lines-are : linesOf l ≡ (λ a. linesBy (tableOf (rosterOf m .accounts) (rosterOf m .instruments) none (ownAt l))
+      (tableOf (rosterOf m .accounts) (rosterOf m .contracts) none (defaultAt l))
+      (tableOf (rosterOf m .accounts) (rosterOf m .groups) none (ofGroupAt l)) a)
   unfolding linesOf
   lines-are =
-      ap (λ r a. linesBy (tableOf (r .accounts) (r .instruments) none (ownAt l)) (tableOf (r .accounts) (r .contracts) none (defaultAt l)) (tableOf (r .accounts) (r .groups) none (ofGroupAt l)) a) roster
+      ap (λ r a. linesBy (tableOf (r .accounts) (r .instruments) none (ownAt l)) (tableOf (r .accounts) (r .contracts) none (defaultAt l))
+      (tableOf (r .accounts) (r .groups) none (ofGroupAt l)) a) roster
 
-  pub account-blocks-same : Same 144 160 l m → rowOf (rosterOf m .accounts) (λ a. flag l (accountBlockWord a)) ≡ rowOf (rosterOf m .accounts) (λ a. flag m (accountBlockWord a))
+  pub account-blocks-same : Same 144 160 l m
+      → rowOf (rosterOf m .accounts) (λ a. flag l (accountBlockWord a)) ≡ rowOf (rosterOf m .accounts) (λ a. flag m (accountBlockWord a))
   account-blocks-same same =
       let sized = held .sized in
       row-same (rosterOf m .accounts) (λ a. flag m (accountBlockWord a)) (λ a. flag l (accountBlockWord a))
       (λ a on-a. same-flag l m (accountBlockWord a) (same (accountBlockWord a) (omega arith) (omega arith)))
 
-  pub instrument-blocks-same : Same 160 192 l m → rowOf (rosterOf m .instruments) (λ i. flag l (instrumentBlockWord i)) ≡ rowOf (rosterOf m .instruments) (λ i. flag m (instrumentBlockWord i))
+  pub instrument-blocks-same : Same 160 192 l m
+      → rowOf (rosterOf m .instruments) (λ i. flag l (instrumentBlockWord i)) ≡ rowOf (rosterOf m .instruments)
+      (λ i. flag m (instrumentBlockWord i))
   instrument-blocks-same same =
       let sized = held .sized in
       row-same (rosterOf m .instruments) (λ i. flag m (instrumentBlockWord i)) (λ i. flag l (instrumentBlockWord i))
       (λ i on-i. same-flag l m (instrumentBlockWord i) (same (instrumentBlockWord i) (omega arith) (omega arith)))
 
-  pub group-blocks-same : Same 192 256 l m → tableOf (rosterOf m .accounts) (rosterOf m .groups) false (groupBlockAt l) ≡ tableOf (rosterOf m .accounts) (rosterOf m .groups) false (groupBlockAt m)
+  pub group-blocks-same : Same 192 256 l m → tableOf (rosterOf m .accounts) (rosterOf m .groups) false (groupBlockAt l) ≡ tableOf
+      (rosterOf m .accounts) (rosterOf m .groups) false (groupBlockAt m)
   group-blocks-same same =
       let sized = held .sized in
       table-same (rosterOf m .accounts) (rosterOf m .groups) false (groupBlockAt m) (groupBlockAt l)
       (λ a g on-a on-g. same-flag l m (groupBlockRow a + g) (same (groupBlockRow a + g) (omega arith) (omega arith)))
 
-  pub blocks-are : blocksOf l ≡ blocksBy (rowOf (rosterOf m .accounts) (λ a. flag l (accountBlockWord a))) (rowOf (rosterOf m .instruments) (λ i. flag l (instrumentBlockWord i))) (tableOf (rosterOf m .accounts) (rosterOf m .groups) false (groupBlockAt l))
+  pub blocks-are : blocksOf l ≡ blocksBy (rowOf (rosterOf m .accounts) (λ a. flag l (accountBlockWord a)))
+      (rowOf (rosterOf m .instruments) (λ i. flag l (instrumentBlockWord i)))
+      (tableOf (rosterOf m .accounts) (rosterOf m .groups) false (groupBlockAt l))
   unfolding blocksOf
   blocks-are =
-      ap (λ r. blocksBy (rowOf (r .accounts) (λ a. flag l (accountBlockWord a))) (rowOf (r .instruments) (λ i. flag l (instrumentBlockWord i))) (tableOf (r .accounts) (r .groups) false (groupBlockAt l))) roster
+      ap (λ r. blocksBy (rowOf (r .accounts) (λ a. flag l (accountBlockWord a)))
+      (rowOf (r .instruments) (λ i. flag l (instrumentBlockWord i))) (tableOf (r .accounts) (r .groups) false (groupBlockAt l))) roster
 
   pub marks-are : tradingOf l ≡ rowOf (rosterOf m .accounts) (λ a. flag l (markWord a))
   unfolding tradingOf
   marks-are = ap (λ r. rowOf (r .accounts) (λ a. flag l (markWord a))) roster
 
-  pub orders-same : wordAt l countWord ≡ wordAt m countWord → wordAt l firstWord ≡ wordAt m firstWord → Same 4224 5248 l m → openOrders l ≡ openOrders m
+  pub orders-same : wordAt l countWord ≡ wordAt m countWord → wordAt l firstWord ≡ wordAt m firstWord → Same 4224 5248 l m
+      → openOrders l ≡ openOrders m
   unfolding openOrders
   orders-same count first same =
       let n : ℕ = wordAt m countWord in
@@ -142,15 +169,18 @@ module _ (l m : List ℕ) (held : Held m) (roster : rosterOf l ≡ rosterOf m) w
       ∙ sym (open-records m inside n 0 (omega arith))
 
 -- ---- what memories that have the other words in common have in common
-module _ (l m : List ℕ) (held : Held m) (roster : rosterOf l ≡ rosterOf m) where
+module _ (l m : List ℕ) (held : InBounds m) (roster : rosterOf l ≡ rosterOf m) where
   pub lines-same : Same 768 1472 l m → Same 1536 2880 l m → linesOf l ≡ linesOf m
   lines-same sets figures =
       let sized = held .sized in
       lines-are l m held roster
       ∙ rw (
-        own-same l m held roster (λ k low high. sets k (omega arith) (omega arith)) (λ a i on-a on-i k low high. figures k (omega arith) (omega arith)),
-        default-same l m held roster (λ k low high. sets k (omega arith) (omega arith)) (λ a c on-a on-c k low high. figures k (omega arith) (omega arith)),
-        of-group-same l m held roster (λ k low high. sets k (omega arith) (omega arith)) (λ a g on-a on-g. figures (groupRow a + g) (omega arith) (omega arith)),
+        own-same l m held roster (λ k low high. sets k (omega arith) (omega arith))
+            (λ a i on-a on-i k low high. figures k (omega arith) (omega arith)),
+        default-same l m held roster (λ k low high. sets k (omega arith) (omega arith))
+            (λ a c on-a on-c k low high. figures k (omega arith) (omega arith)),
+        of-group-same l m held roster (λ k low high. sets k (omega arith) (omega arith))
+            (λ a g on-a on-g. figures (groupRow a + g) (omega arith) (omega arith)),
       )
       (sym (lines-are m m held refl))
 

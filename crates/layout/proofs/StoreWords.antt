@@ -68,12 +68,14 @@ module _ (m : List ℕ) (s k : ℕ) where
   line-elsewhere none j other outside = word-put-other m s 0 j other
   line-elsewhere (some l) j other outside = elsewhere (lineWords l) j other outside
 
-  pub group-line-elsewhere : (x : Option GroupLine) (j : ℕ) → j ≢ s → (k ≤ j → j < k + 1 → ⊥) → wordAt (storeGroupLine m s k x) j ≡ wordAt m j
+  pub group-line-elsewhere : (x : Option GroupLine) (j : ℕ) → j ≢ s → (k ≤ j → j < k + 1 → ⊥)
+      → wordAt (storeGroupLine m s k x) j ≡ wordAt m j
   group-line-elsewhere none j other outside = word-put-other m s 0 j other
   group-line-elsewhere (some l) j other outside = elsewhere (groupLineWords l) j other outside
 
   -- what was stored is read back
-  module _ (vs : List ℕ) (words : AreWords vs) (fits : s * 8 + 8 ≤ length m) (room : (k + length vs) * 8 ≤ length m) (apart : k ≤ s → s < k + length vs → ⊥) where
+  module _ (vs : List ℕ) (words : AreWords vs) (fits : s * 8 + 8 ≤ length m) (room : (k + length vs) * 8 ≤ length m)
+      (apart : k ≤ s → s < k + length vs → ⊥) where
     set-back : flag (putWord (putWords m k vs) s 1) s ≡ true
     set-back = flag-bit (putWords m k vs) s true (omega (arith, length-puts m k vs))
 
@@ -86,18 +88,34 @@ module _ (m : List ℕ) (s k : ℕ) where
     first-back h = ap (wordAt (putWord (putWords m k vs) s 1)) (omega arith) ∙ word-back 0 h
 
   -- the line is read back
-  pub line-back : (x : Option Line) → SmallLine x → s * 8 + 8 ≤ length m → (k + 2) * 8 ≤ length m → (k ≤ s → s < k + 2 → ⊥) → _≡_ {A = Option Line} (cond (flag (storeLine m s k x) s) (some (lineAt (storeLine m s k x) k)) none) x
+  pub line-back : (x : Option Line) → SmallLine x → s * 8 + 8 ≤ length m → (k + 2) * 8 ≤ length m → (k ≤ s → s < k + 2 → ⊥)
+      → _≡_ {A = Option Line} (cond (flag (storeLine m s k x) s) (some (lineAt (storeLine m s k x) k)) none) x
   unfolding SmallLine lineAt
   line-back none small fits room apart =
       ap (λ t. cond t (some (lineAt (putWord m s 0) k)) none) (flag-bit m s false fits)
   line-back (some l) small fits room apart =
-      let words : AreWords (lineWords l) = two-words _ _ (halves-below (l .tci) (l .tvi) (small .0) (small .1)) (halves-below (l .lci) (l .lvi) (small .2) (small .3)) in
-      rw (set-back (lineWords l) words fits room apart, first-back (lineWords l) words fits room apart (omega arith), word-back (lineWords l) words fits room apart 1 (omega arith), lower-halves (l .tci) (l .tvi) (small .0), upper-halves (l .tci) (l .tvi) (small .0), lower-halves (l .lci) (l .lvi) (small .2), upper-halves (l .lci) (l .lvi) (small .2))
+      let words : AreWords (lineWords l) = two-words _ _ (halves-below (l .tci) (l .tvi) (small .0) (small .1))
+      (halves-below (l .lci) (l .lvi) (small .2) (small .3)) in
+      rw (
+        set-back (lineWords l) words fits room apart,
+        first-back (lineWords l) words fits room apart (omega arith),
+        word-back (lineWords l) words fits room apart 1 (omega arith),
+        lower-halves (l .tci) (l .tvi) (small .0),
+        upper-halves (l .tci) (l .tvi) (small .0),
+        lower-halves (l .lci) (l .lvi) (small .2),
+        upper-halves (l .lci) (l .lvi) (small .2),
+      )
 
-  pub group-line-back : (x : Option GroupLine) → SmallGroupLine x → s * 8 + 8 ≤ length m → (k + 1) * 8 ≤ length m → (k ≤ s → s < k + 1 → ⊥) → _≡_ {A = Option GroupLine} (cond (flag (storeGroupLine m s k x) s) (some (groupLineAt (storeGroupLine m s k x) k)) none) x
+  pub group-line-back : (x : Option GroupLine) → SmallGroupLine x → s * 8 + 8 ≤ length m → (k + 1) * 8 ≤ length m → (k ≤ s → s < k + 1 → ⊥)
+      → _≡_ {A = Option GroupLine} (cond (flag (storeGroupLine m s k x) s) (some (groupLineAt (storeGroupLine m s k x) k)) none) x
   unfolding SmallGroupLine groupLineAt
   group-line-back none small fits room apart =
       ap (λ t. cond t (some (groupLineAt (putWord m s 0) k)) none) (flag-bit m s false fits)
   group-line-back (some l) small fits room apart =
       let words : AreWords (groupLineWords l) = one-word _ (halves-below (l .lcc) (l .lvc) (small .0) (small .1)) in
-      rw (set-back (groupLineWords l) words fits room apart, first-back (groupLineWords l) words fits room apart (omega arith), lower-halves (l .lcc) (l .lvc) (small .0), upper-halves (l .lcc) (l .lvc) (small .0))
+      rw (
+        set-back (groupLineWords l) words fits room apart,
+        first-back (groupLineWords l) words fits room apart (omega arith),
+        lower-halves (l .lcc) (l .lvc) (small .0),
+        upper-halves (l .lcc) (l .lvc) (small .0),
+      )

@@ -1,4 +1,5 @@
--- Laws of `storeFrom`: the view's list is the stored one, and the words outside the count, the first place and the records are as they were.
+-- Laws of `storeFrom`: the view's list is the stored one, and the words outside the count, the first place and the records are as they
+-- were.
 use Prim.Native.Nat.{ℕ, zero, suc, _+_, _≤_, _<_}
 use mathlib.Core.Path.{_≡_, refl, _∙_, ap}
 use mathlib.Core.Logic.{_≢_}
@@ -13,7 +14,8 @@ use Rattle.ledger.specs.Records.{ordersFrom}
 use Rattle.layout.specs.Layout.{countWord, firstWord}
 use Rattle.layout.specs.View.{firstOf, openOrders}
 use Rattle.layout.specs.Stores.{ordersIn, recordWord, recordIn, recordsIn, putOrder, putOrders, storeFrom, SmallOrders}
-use Rattle.layout.proofs.OrderRecords.{same-record, same-records, length-order, bytes-order, word-order-other, order-back, open-records}
+use Rattle.layout.proofs.OrderRecords.{same-record, same-records, length-order, bytes-order, word-order-other, order-back}
+use Rattle.layout.proofs.OrderRecords.{open-records}
 
 pub length-orders-from : (s : List ℕ) (n p : ℕ) → length (ordersFrom s p n) ≡ n
 unfolding ordersFrom
@@ -31,7 +33,8 @@ unfolding putOrders
 bytes-orders [] m r bytes = bytes
 bytes-orders (o ∷ os) m r bytes = bytes-orders os (putOrder m r o) (r + 1) (bytes-order m r o bytes)
 
-pub word-orders-other : (os : List Order) (m : List ℕ) (r j : ℕ) → (recordWord r ≤ j → j < recordWord (r + length os) → ⊥) → wordAt (putOrders m r os) j ≡ wordAt m j
+pub word-orders-other : (os : List Order) (m : List ℕ) (r j : ℕ) → (recordWord r ≤ j → j < recordWord (r + length os) → ⊥)
+    → wordAt (putOrders m r os) j ≡ wordAt m j
 unfolding putOrders
 word-orders-other [] m r j outside = refl
 word-orders-other (o ∷ os) m r j outside =
@@ -39,7 +42,8 @@ word-orders-other (o ∷ os) m r j outside =
     ∙ word-order-other m r o j (λ low high. outside low (omega arith))
 
 -- they are read back
-pub orders-back : (os : List Order) (m : List ℕ) (r : ℕ) → r + length os ≤ 512 → 65536 ≤ length m → SmallOrders os → recordsIn (putOrders m r os) r (length os) ≡ os
+pub orders-back : (os : List Order) (m : List ℕ) (r : ℕ) → r + length os ≤ 512 → 65536 ≤ length m → SmallOrders os
+    → recordsIn (putOrders m r os) r (length os) ≡ os
 unfolding putOrders ordersFrom
 orders-back [] m r h long small = refl
 orders-back (o ∷ os) m r h long small =
@@ -69,7 +73,8 @@ module _ (m : List ℕ) (f : ℕ) (os : List Order) where
 
   module _ (low : f ≤ 256) (few : length os ≤ 256) where
     -- a word outside the count, the first place and the records is as it was
-    pub word-store : (j : ℕ) → j ≢ countWord → j ≢ firstWord → (recordWord 0 ≤ j → j < recordWord 512 → ⊥) → wordAt (storeFrom m f os) j ≡ wordAt m j
+    pub word-store : (j : ℕ) → j ≢ countWord → j ≢ firstWord → (recordWord 0 ≤ j → j < recordWord 512 → ⊥)
+        → wordAt (storeFrom m f os) j ≡ wordAt m j
     word-store j other apart outside =
         word-records j other apart ∙ word-orders-other os m f j (λ a b. outside (omega arith) (omega arith))
 

@@ -17,14 +17,14 @@ use Rattle.layout.specs.Layout.{accountBlockWord, instrumentBlockWord, g
 use Rattle.layout.specs.View.{rosterOf, flag, blocksOf, bookOf, tradingOf, view}
 use Rattle.layout.specs.FieldStores.{bit, blockAccount, blockInstrument, blockGroup}
 use Rattle.layout.proofs.GuardedTables.{tableOf, table-at, rowOf, row-at, same-blocks, same-view}
-use Rattle.layout.proofs.SameFields.{Held, groupBlockAt, blocksBy, same-flag}
+use Rattle.layout.proofs.SameFields.{InBounds, groupBlockAt, blocksBy, same-flag}
 use Rattle.layout.proofs.SameFields.{balances-same, marks-same}
 use Rattle.layout.proofs.SameFields.{account-blocks-same, instrument-blocks-same, group-blocks-same, blocks-are}
 use Rattle.layout.proofs.StoreWords.{Except, except-put, except-same, flag-bit}
 use Rattle.layout.proofs.ViewStores.{one-roster, one-lines, one-orders}
 
 -- ---- a memory that differs in one word of the blocks
-module _ (m : List ℕ) (held : Held m) (j v : ℕ) (from : 144 ≤ j) (below : j < 256) where
+module _ (m : List ℕ) (held : InBounds m) (j v : ℕ) (from : 144 ≤ j) (below : j < 256) where
   abbrev put : List ℕ
   put = putWord m j v
 
@@ -65,7 +65,7 @@ module _ (m : List ℕ) (held : Held m) (j v : ℕ) (from : 144 ≤ j) (below : 
       (marks-same put m held block-roster (except-same put m j 128 144 others (λ low high. omega arith)))
 
 -- ---- the three levels
-module _ (m : List ℕ) (held : Held m) (z : ℤ) (unit : Order → ℕ) where
+module _ (m : List ℕ) (held : InBounds m) (z : ℤ) (unit : Order → ℕ) where
   abbrev on : Bool
   on = not (isZero z)
 

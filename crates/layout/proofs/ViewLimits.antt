@@ -17,7 +17,7 @@ use Rattle.layout.specs.Layout.{ownSetRow, defaultSetRow, groupSetRow, o
 use Rattle.layout.specs.View.{rosterOf, linesOf, bookOf, tradingOf, view}
 use Rattle.layout.specs.FieldStores.{storeOwn, storeDefault, storeOfGroup}
 use Rattle.layout.proofs.GuardedTables.{table-at}
-use Rattle.layout.proofs.SameFields.{Same, Held, ownAt, defaultAt, ofGroupAt}
+use Rattle.layout.proofs.SameFields.{Same, InBounds, ownAt, defaultAt, ofGroupAt}
 use Rattle.layout.proofs.SameFields.{same-own, same-of-group, own-same, default-same, of-group-same}
 use Rattle.layout.proofs.StoreWords.{SmallLine, SmallGroupLine, line-elsewhere, line-back, group-line-elsewhere, group-line-back}
 use Rattle.layout.proofs.ViewLines.{lines-roster, lines-view, unchanged, owns, defaults, ofGroups, lines-at}
@@ -30,7 +30,7 @@ record OneLine (l m : List ℕ) (a s k w : ℕ) : Type 0 where
   row : (ownRow a + 2 ≤ k) × (k + w ≤ ownRow a + 86)
   account : Numbered 16 a
 
-module _ (l m : List ℕ) (held : Held m) {a s k w : ℕ} (line : OneLine l m a s k w) where
+module _ (l m : List ℕ) (held : InBounds m) {a s k w : ℕ} (line : OneLine l m a s k w) where
   before : Same 1 768 l m
   before j low high = line .elsewhere j (λ e. omega arith) (λ b c. omega arith)
 
@@ -65,7 +65,7 @@ module _ (l m : List ℕ) (held : Held m) {a s k w : ℕ} (line : OneLine l m a 
       (λ b g on-b on-g. line .elsewhere (groupRow b + g) (λ e. omega arith) (λ d e. omega arith)))
 
 -- ---- an instrument's own line
-module _ (m : List ℕ) (held : Held m) (a i : ℕ) (f : Figures) (small : SmallLine (lineOf f))
+module _ (m : List ℕ) (held : InBounds m) (a i : ℕ) (f : Figures) (small : SmallLine (lineOf f))
     (on-a : Numbered (rosterOf m .accounts) a) (on-i : Numbered (rosterOf m .instruments) i) where
   abbrev own : List ℕ
   own = storeOwn m a i (lineOf f)
@@ -97,7 +97,7 @@ module _ (m : List ℕ) (held : Held m) (a i : ℕ) (f : Figures) (small : Small
       (of-group-kept own m held own-line (omega arith) (omega arith)))
 
 -- ---- a contract's default line
-module _ (m : List ℕ) (held : Held m) (a c : ℕ) (f : Figures) (small : SmallLine (lineOf f))
+module _ (m : List ℕ) (held : InBounds m) (a c : ℕ) (f : Figures) (small : SmallLine (lineOf f))
     (on-a : Numbered (rosterOf m .accounts) a) (on-c : Numbered (rosterOf m .contracts) c) where
   abbrev default : List ℕ
   default = storeDefault m a c (lineOf f)
@@ -130,7 +130,7 @@ module _ (m : List ℕ) (held : Held m) (a c : ℕ) (f : Figures) (small : Small
       (of-group-kept default m held default-line (omega arith) (omega arith)))
 
 -- ---- a group's line
-module _ (m : List ℕ) (held : Held m) (a g : ℕ) (x y : ℤ) (small : SmallGroupLine (groupLineOf x y))
+module _ (m : List ℕ) (held : InBounds m) (a g : ℕ) (x y : ℤ) (small : SmallGroupLine (groupLineOf x y))
     (on-a : Numbered (rosterOf m .accounts) a) (on-g : Numbered (rosterOf m .groups) g) where
   abbrev of-group : List ℕ
   of-group = storeOfGroup m a g (groupLineOf x y)

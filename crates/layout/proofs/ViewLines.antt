@@ -20,11 +20,11 @@ use Rattle.layout.specs.Layout.{countWord, firstWord}
 use Rattle.layout.specs.View.{rosterOf, linesOf, bookOf, tradingOf, view}
 use Rattle.layout.proofs.RosterLaws.{roster-same}
 use Rattle.layout.proofs.GuardedTables.{tableOf, same-lines, same-view}
-use Rattle.layout.proofs.SameFields.{Same, Held, ownAt, defaultAt, ofGroupAt, linesBy}
+use Rattle.layout.proofs.SameFields.{Same, InBounds, ownAt, defaultAt, ofGroupAt, linesBy}
 use Rattle.layout.proofs.SameFields.{balances-same, blocks-same, marks-same, orders-same, lines-are}
 
 -- ---- a memory that differs in words of the lines only
-module _ (l m : List ℕ) (held : Held m) (before : Same 1 768 l m) (after : Same 4224 5248 l m) where
+module _ (l m : List ℕ) (held : InBounds m) (before : Same 1 768 l m) (after : Same 4224 5248 l m) where
   pub lines-roster : rosterOf l ≡ rosterOf m
   lines-roster = roster-same l m (held .sized) (λ k low high. before k low (omega arith))
 
@@ -47,7 +47,7 @@ unchanged a old new same =
     fun-ext
     (λ b. by-number b a (λ t. new b ≡ cond t (old a) (old b)) (λ here. ap (λ t. t b) same ∙ ap old here) (λ other. ap (λ t. t b) same))
 
-module _ (m : List ℕ) (held : Held m) (a : ℕ) where
+module _ (m : List ℕ) (held : InBounds m) (a : ℕ) where
   abbrev pub owns : List ℕ → ℕ → ℕ → Option Line
   owns l = tableOf (rosterOf m .accounts) (rosterOf m .instruments) none (ownAt l)
 

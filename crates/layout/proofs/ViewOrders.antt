@@ -15,12 +15,12 @@ use Rattle.layout.specs.View.{rosterOf, openOrders, bookOf, tradingOf, v
 use Rattle.layout.specs.Stores.{orderIn, recordWord, storeFrom, SmallOrders, without}
 use Rattle.layout.proofs.RosterLaws.{roster-same}
 use Rattle.layout.proofs.GuardedTables.{same-view}
-use Rattle.layout.proofs.SameFields.{Same, Held, balances-same, lines-same, blocks-same, marks-same}
+use Rattle.layout.proofs.SameFields.{Same, InBounds, balances-same, lines-same, blocks-same, marks-same}
 use Rattle.layout.proofs.Stored.{length-store, word-store, count-store, first-store, orders-store}
 use Rattle.layout.proofs.BookLists.{leaving, becoming}
 
 -- ---- the view of stored orders
-module _ (m : List ℕ) (f : ℕ) (os : List Order) (held : Held m) (low : f ≤ 256) (few : length os ≤ 256) where
+module _ (m : List ℕ) (f : ℕ) (os : List Order) (held : InBounds m) (low : f ≤ 256) (few : length os ≤ 256) where
   elsewhere : (from to : ℕ) → (from < 114 → 112 < to → ⊥) → to ≤ recordWord 0 → Same from to (storeFrom m f os) m
   elsewhere from to apart below k above under =
       word-store m f os low few k (λ e. apart (omega arith) (omega arith)) (λ e. apart (omega arith) (omega arith)) (λ a b. omega arith)
@@ -29,8 +29,8 @@ module _ (m : List ℕ) (f : ℕ) (os : List Order) (held : Held m) (low : f ≤
   roster-orders =
       roster-same (storeFrom m f os) m (held .sized) (elsewhere 1 77 (λ a b. omega arith) (omega arith))
 
-  pub held-orders : Held (storeFrom m f os)
-  held-orders =
+  pub bounds-orders : InBounds (storeFrom m f os)
+  bounds-orders =
       record {
         long = omega (arith, length-store m f os, held .long);
         sized = rw roster-orders (held .sized);
@@ -44,7 +44,8 @@ module _ (m : List ℕ) (f : ℕ) (os : List Order) (held : Held m) (low : f ≤
       let l : List ℕ = storeFrom m f os in
       same-view _ _ _ _ _ _ _ _ _ _
       (balances-same l m held roster-orders (elsewhere 256 768 (λ a b. omega arith) (omega arith)))
-      (lines-same l m held roster-orders (elsewhere 768 1472 (λ a b. omega arith) (omega arith)) (elsewhere 1536 2880 (λ a b. omega arith) (omega arith)))
+      (lines-same l m held roster-orders (elsewhere 768 1472 (λ a b. omega arith) (omega arith))
+      (elsewhere 1536 2880 (λ a b. omega arith) (omega arith)))
       (blocks-same l m held roster-orders (elsewhere 144 256 (λ a b. omega arith) (omega arith)))
       (orders-store m f os low few (held .long) small)
       (marks-same l m held roster-orders (elsewhere 128 144 (λ a b. omega arith) (omega arith)))

@@ -17,24 +17,28 @@ use Rattle.layout.specs.View.{rosterOf, flag, linesOf, balancesOf, openO
 use Rattle.layout.specs.FieldStores.{storeBalance, storeMark}
 use Rattle.layout.proofs.RosterLaws.{roster-same}
 use Rattle.layout.proofs.GuardedTables.{tableOf, table-at, row-at, same-view}
-use Rattle.layout.proofs.SameFields.{Held, balanceAt, same-flag, balances-same, lines-same, blocks-same, marks-same, orders-same, marks-are}
+use Rattle.layout.proofs.SameFields.{InBounds, balanceAt, same-flag, balances-same, lines-same, blocks-same, marks-same, orders-same}
+use Rattle.layout.proofs.SameFields.{marks-are}
 use Rattle.layout.proofs.StoreWords.{Except, except-put, except-signed, except-same, flag-bit}
 
 -- ---- a memory that differs in one word, at 128 or later and before the lines
-module _ (l m : List ℕ) (held : Held m) (j : ℕ) (others : Except j l m) (from : 128 ≤ j) (below : j < 768) where
+module _ (l m : List ℕ) (held : InBounds m) (j : ℕ) (others : Except j l m) (from : 128 ≤ j) (below : j < 768) where
   pub one-roster : rosterOf l ≡ rosterOf m
   one-roster = roster-same l m (held .sized) (except-same l m j 1 77 others (λ low high. omega arith))
 
   pub one-lines : linesOf l ≡ linesOf m
   one-lines =
-      lines-same l m held one-roster (except-same l m j 768 1472 others (λ low high. omega arith)) (except-same l m j 1536 2880 others (λ low high. omega arith))
+      lines-same l m held one-roster (except-same l m j 768 1472 others (λ low high. omega arith))
+      (except-same l m j 1536 2880 others (λ low high. omega arith))
 
   pub one-orders : openOrders l ≡ openOrders m
   one-orders =
-      orders-same l m held one-roster (others countWord (λ e. omega arith)) (others firstWord (λ e. omega arith)) (except-same l m j 4224 5248 others (λ low high. omega arith))
+      orders-same l m held one-roster (others countWord (λ e. omega arith)) (others firstWord (λ e. omega arith))
+      (except-same l m j 4224 5248 others (λ low high. omega arith))
 
 -- ---- a balance
-module _ (m : List ℕ) (held : Held m) (a i : ℕ) (z : ℤ) (on-a : Numbered (rosterOf m .accounts) a) (on-i : Numbered (rosterOf m .instruments) i) (fits : SFits w64 z) where
+module _ (m : List ℕ) (held : InBounds m) (a i : ℕ) (z : ℤ) (on-a : Numbered (rosterOf m .accounts) a)
+    (on-i : Numbered (rosterOf m .instruments) i) (fits : SFits w64 z) where
   abbrev balanced : List ℕ
   balanced = storeBalance m a i z
 
@@ -66,7 +70,7 @@ module _ (m : List ℕ) (held : Held m) (a i : ℕ) (z : ℤ) (on-a : Numbered (
       (marks-same balanced m held roster-balance (except-same balanced m j 128 144 others (λ low high. omega arith)))
 
 -- ---- a mark
-module _ (m : List ℕ) (held : Held m) (a : ℕ) (on-a : Numbered (rosterOf m .accounts) a) where
+module _ (m : List ℕ) (held : InBounds m) (a : ℕ) (on-a : Numbered (rosterOf m .accounts) a) where
   abbrev marked : List ℕ
   marked = storeMark m a
 

@@ -6,7 +6,8 @@ use mathlib.Core.Option.{Option, none, some}
 use lib.IntN.{ℤ}
 use Rattle.words.specs.Words.{putWord, putSigned, halves, putWords}
 use Rattle.limits.specs.Lines.{Line, GroupLine}
-use Rattle.layout.specs.Layout.{markWord, accountBlockWord, instrumentBlockWord, groupBlockRow, balanceRow, ownSetRow, defaultSetRow, groupSetRow, ownRow, defaultRow, groupRow}
+use Rattle.layout.specs.Layout.{markWord, accountBlockWord, instrumentBlockWord, groupBlockRow, balanceRow, ownSetRow, defaultSetRow}
+use Rattle.layout.specs.Layout.{groupSetRow, ownRow, defaultRow, groupRow}
 
 -- the word of a yes or no
 abbrev pub bit : Bool → ℕ

@@ -13,8 +13,9 @@ use Rattle.limits.specs.Lines.{Lines}
 use Rattle.limits.specs.InBytes.{lineAt, groupLineAt}
 use Rattle.book.specs.Decoding.{between}
 use Rattle.book.specs.Books.{Blocks, Book}
-use Rattle.book.specs.Kept.{Kept}
-use Rattle.layout.specs.Layout.{rosterWord, countWord, firstWord, ordersWord, markWord, accountBlockWord, instrumentBlockWord, groupBlockRow, balanceRow, ownSetRow, defaultSetRow, groupSetRow, ownRow, defaultRow, groupRow}
+use Rattle.book.specs.EventLists.{State}
+use Rattle.layout.specs.Layout.{rosterWord, countWord, firstWord, ordersWord, markWord, accountBlockWord, instrumentBlockWord}
+use Rattle.layout.specs.Layout.{groupBlockRow, balanceRow, ownSetRow, defaultSetRow, groupSetRow, ownRow, defaultRow, groupRow}
 use Rattle.layout.specs.Rosters.{listed}
 
 -- the roster
@@ -38,7 +39,8 @@ linesOf m a =
       ownOf =
           λ i. onRoster (r .accounts) (r .instruments) a i (cond (flag m (ownSetRow a + i)) (some (lineAt m (ownRow a + i * 2))) none) none;
       defaultOf =
-          λ c. onRoster (r .accounts) (r .contracts) a c (cond (flag m (defaultSetRow a + c)) (some (lineAt m (defaultRow a + c * 2))) none) none;
+          λ c. onRoster (r .accounts) (r .contracts) a c (cond (flag m (defaultSetRow a + c)) (some (lineAt m (defaultRow a + c * 2))) none)
+          none;
       lineOfGroup =
           λ g. onRoster (r .accounts) (r .groups) a g (cond (flag m (groupSetRow a + g)) (some (groupLineAt m (groupRow a + g))) none) none;
     }
@@ -78,5 +80,5 @@ unfoldable pub tradingOf : List ℕ → ℕ → Bool
 tradingOf m a = between 1 (rosterOf m .accounts) a && flag m (markWord a)
 
 -- the whole view
-unfoldable pub view : List ℕ → Kept
+unfoldable pub view : List ℕ → State
 view m = record { book = bookOf m; trading = tradingOf m }

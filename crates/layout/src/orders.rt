@@ -1,5 +1,5 @@
-// The order records of a desk: two words each, ascending by id, and their count. They stand in a region of twice their number, so that an order
-// that joins or leaves moves the records on the shorter side of it, where the region has room there.
+// The order records of a desk: two words each, ascending by id, and their count. They stand in a region of twice their number, so that an
+// order that joins or leaves moves the records on the shorter side of it, where the region has room there.
 ghost use mathlib.Core.Path.{_≡_};
 ghost use Prim.Native.Nat.{_+_, _≤_, _<_};
 ghost use lib.ListN.{length, set};
@@ -8,7 +8,8 @@ ghost use Rattle.ledger.specs.Records.{Storable};
 ghost use Rattle.book.specs.OpenOrders.{insert};
 ghost use Rattle.layout.specs.Layout.{memoryBytes, countWord};
 ghost use Rattle.layout.specs.View.{firstOf, recordsOf, openOrders};
-ghost use Rattle.layout.specs.Stores.{orderIn, recordsIn, putOrder, putOrders, storeFrom, joinedFirst, leftFirst, RoomFor, Records, rank, without};
+ghost use Rattle.layout.specs.Stores.{orderIn, recordsIn, putOrder, putOrders, storeFrom, joinedFirst, leftFirst, RoomFor, Records};
+ghost use Rattle.layout.specs.Stores.{rank, without};
 use crate::table::COUNT;
 use crate::table::FIRST;
 use crate::table::ORDERS;
@@ -118,7 +119,8 @@ fn close_gap(m: &mut [u8], p: usize, n: usize) -> usize
 // The order `o` joins at place `p`, before the first larger id.
 pub fn insert_order(m: &mut [u8], p: usize, o: Order)
     requires { ⌜ Records (now m) × (wordAt (now m) countWord < 256) × (p ≡ rank (o .id) (openOrders (now m))) × Storable o ⌝ }
-    ensures { λ r. ⌜ now (m .exit) ≡ storeFrom (now (m .entry)) (joinedFirst (now (m .entry)) p) (insert o (openOrders (now (m .entry)))) ⌝ }
+    ensures { λ r. ⌜ now (m .exit) ≡ storeFrom (now (m .entry)) (joinedFirst (now (m .entry)) p)
+        (insert o (openOrders (now (m .entry)))) ⌝ }
 {
     let n = word(m, COUNT) as usize;
     let first = make_room(m, p, n);

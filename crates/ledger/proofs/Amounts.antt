@@ -24,14 +24,16 @@ abbrev pub Stands : Side → ℕ → ℕ → Order → Type 0
 Stands s a i o = (o .side ≡ s) × (o .account ≡ a) × (o .instrument ≡ i)
 
 -- ---- where the order stands, and elsewhere
-by-place : (a i : ℕ) (o : Order) (P : Bool → Type 0) → (o .account ≡ a → o .instrument ≡ i → P true) → (¬ ((o .account ≡ a) × (o .instrument ≡ i)) → P false) → P (standsIn a i o)
+by-place : (a i : ℕ) (o : Order) (P : Bool → Type 0) → (o .account ≡ a → o .instrument ≡ i → P true)
+    → (¬ ((o .account ≡ a) × (o .instrument ≡ i)) → P false) → P (standsIn a i o)
 unfolding standsIn
 by-place a i o P here apart =
     by-number (o .account) a (λ t. P (t && eqb (o .instrument) i))
     (λ d. by-number (o .instrument) i P (here d) (λ n. apart (λ h. n (h .1))))
     (λ n. apart (λ h. n (h .0)))
 
-by-standing : (s : Side) (a i : ℕ) (o : Order) (P : Bool → Type 0) → (Stands s a i o → P true) → (¬ Stands s a i o → P false) → P (sameSide (o .side) s && standsIn a i o)
+by-standing : (s : Side) (a i : ℕ) (o : Order) (P : Bool → Type 0) → (Stands s a i o → P true) → (¬ Stands s a i o → P false)
+    → P (sameSide (o .side) s && standsIn a i o)
 by-standing s a i o P here apart =
     by-side (o .side) s (λ t. P (t && standsIn a i o))
     (λ d. by-place a i o P (λ e f. here (d, e, f)) (λ n. apart (λ h. n (h .1, h .2))))
@@ -41,7 +43,8 @@ pub stands? : (s : Side) (a i : ℕ) (o : Order) → Dec (Stands s a i o)
 stands? s a i o = by-standing s a i o (λ _. Dec (Stands s a i o)) yes no
 
 module _ (unit : Order → ℕ) (s : Side) (a i : ℕ) (o : Order) where
-  by-amount : (n : ℕ) (P : ℤ → Type 0) → (Stands s a i o → P (pos (unit o * n))) → (¬ Stands s a i o → P (pos 0)) → P (amount unit s a i o n)
+  by-amount : (n : ℕ) (P : ℤ → Type 0) → (Stands s a i o → P (pos (unit o * n))) → (¬ Stands s a i o → P (pos 0))
+      → P (amount unit s a i o n)
   unfolding amount
   by-amount n P = by-standing s a i o (λ t. P (cond t (pos (unit o * n)) (pos 0)))
 
@@ -74,7 +77,8 @@ pub record Alike (unit : Order → ℕ) (o o′ : Order) : Type 0 where
   pub same-side : o′ .side ≡ o .side
   pub same-unit : unit o′ ≡ unit o
 
-pub amount-alike : {unit : Order → ℕ} {o o′ : Order} → Alike unit o o′ → (s : Side) (a i n : ℕ) → amount unit s a i o′ n ≡ amount unit s a i o n
+pub amount-alike : {unit : Order → ℕ} {o o′ : Order} → Alike unit o o′ → (s : Side) (a i n : ℕ)
+    → amount unit s a i o′ n ≡ amount unit s a i o n
 unfolding amount standsIn
 amount-alike e s a i n = rw (e .same-unit, e .same-account, e .same-instrument, e .same-side)
 
@@ -82,18 +86,23 @@ amount-alike e s a i n = rw (e .same-unit, e .same-account, e .same-instrument, 
 module _ (unit : Order → ℕ) (a i : ℕ) (o : Order) (n : ℕ) where
   pub fill-here : o .account ≡ a → o .instrument ≡ i → fillMoves unit a i o n ≡ toward (wayOf (o .side)) (pos (unit o * n))
   unfolding fillMoves
-  fill-here d e = by-place a i o (λ t. cond t (toward (wayOf (o .side)) (pos (unit o * n))) (pos 0) ≡ toward (wayOf (o .side)) (pos (unit o * n))) (λ _ _. refl) (λ out. absurd (out (d, e)))
+  fill-here d e =
+      by-place a i o (λ t. cond t (toward (wayOf (o .side)) (pos (unit o * n))) (pos 0) ≡ toward (wayOf (o .side)) (pos (unit o * n)))
+      (λ _ _. refl) (λ out. absurd (out (d, e)))
 
   pub fill-apart : ¬ ((o .account ≡ a) × (o .instrument ≡ i)) → fillMoves unit a i o n ≡ pos 0
   unfolding fillMoves
-  fill-apart out = by-place a i o (λ t. cond t (toward (wayOf (o .side)) (pos (unit o * n))) (pos 0) ≡ pos 0) (λ d e. absurd (out (d, e))) (λ _. refl)
+  fill-apart out =
+      by-place a i o (λ t. cond t (toward (wayOf (o .side)) (pos (unit o * n))) (pos 0) ≡ pos 0) (λ d e. absurd (out (d, e))) (λ _. refl)
 
 -- on a side it moves it by what it buys or sells there, less what it does on the other
-pub fill-amounts : (unit : Order → ℕ) (a i : ℕ) (o : Order) (n : ℕ) (w : Way) → toward w (fillMoves unit a i o n) ≡ amount unit (sideTo w) a i o n -ℤ amount unit (sideTo (opposite w)) a i o n
+pub fill-amounts : (unit : Order → ℕ) (a i : ℕ) (o : Order) (n : ℕ) (w : Way)
+    → toward w (fillMoves unit a i o n) ≡ amount unit (sideTo w) a i o n -ℤ amount unit (sideTo (opposite w)) a i o n
 unfolding fillMoves amount
 fill-amounts unit a i o n w = go (standsIn a i o) (o .side) w (unit o * n)
   where
-    go : (t : Bool) (s : Side) (v : Way) (x : ℕ) → toward v (cond t (toward (wayOf s) (pos x)) (pos 0)) ≡ cond (sameSide s (sideTo v) && t) (pos x) (pos 0) -ℤ cond (sameSide s (sideTo (opposite v)) && t) (pos x) (pos 0)
+    go : (t : Bool) (s : Side) (v : Way) (x : ℕ) → toward v (cond t (toward (wayOf s) (pos x)) (pos 0)) ≡ cond (sameSide s (sideTo v) && t)
+        (pos x) (pos 0) -ℤ cond (sameSide s (sideTo (opposite v)) && t) (pos x) (pos 0)
     go true Buy long x = omega (signed, difference-parts (pos x) (pos 0))
     go true Buy short x = omega (signed, negation-parts (pos x), difference-parts (pos 0) (pos x))
     go true Sell long x = omega (signed, negation-parts (pos x), difference-parts (pos 0) (pos x))

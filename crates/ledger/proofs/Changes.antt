@@ -12,34 +12,44 @@ use Rattle.ledger.specs.declared.order.Order.{Order}
 use Rattle.ledger.specs.declared.order.Side.{Side}
 use Rattle.ledger.specs.Orders.{remaining, filledBy, replacedTotal}
 use Rattle.ledger.specs.Roster.{Roster}
-use Rattle.ledger.specs.Positions.{Way, Place, opposite, toward, wayOf, sideTo, openOn, ofInstrument, potential, position}
+use Rattle.ledger.specs.Positions.{Way, Scope, opposite, toward, wayOf, sideTo, openOn, ofInstrument, potential, position}
 use Rattle.ledger.specs.Fillings.{fillMoves}
 use Rattle.ledger.specs.Moves.{Moves}
 use Rattle.ledger.proofs.Ways.{side-back, other-side}
-use Rattle.ledger.proofs.Amounts.{amount, Stands, Alike, amount-alike, amount-here, amount-apart, amount-none, amount-nonneg, amount-sum, amount-≤}
+use Rattle.ledger.proofs.Amounts.{amount, Stands, Alike, amount-alike, amount-here, amount-apart, amount-none, amount-nonneg}
+use Rattle.ledger.proofs.Amounts.{amount-sum, amount-≤}
 use Rattle.ledger.proofs.Sums.{Joined, Changed, Permuted, open-joined, open-changed, open-permuted, open-nowhere}
-use Rattle.ledger.proofs.Places.{wayTo, potential-≤, potential-same, potential-figure, position-figure, figure-same}
+use Rattle.ledger.proofs.Scopes.{wayTo, potential-≤, potential-same, potential-weighted, position-weighted, weighted-same}
 use Rattle.ledger.proofs.Movement.{fill-moves, unmoved-amount}
 
 -- what counts of order o goes from m contracts to m′
-pub record Shifted (unit : Order → ℕ) (o : Order) (m m′ : ℕ) (orders orders′ : List Order) : Type 0 where
+pub record CountChanged (unit : Order → ℕ) (o : Order) (m m′ : ℕ) (orders orders′ : List Order) : Type 0 where
   pub sums : (s : Side) (a i : ℕ) → openOn unit orders′ s a i +ℤ amount unit s a i o m ≡ openOn unit orders s a i +ℤ amount unit s a i o m′
 
-pub shifted-back : {unit : Order → ℕ} {o : Order} {m m′ : ℕ} {orders orders′ : List Order} → Shifted unit o m m′ orders orders′ → Shifted unit o m′ m orders′ orders
+pub shifted-back : {unit : Order → ℕ} {o : Order} {m m′ : ℕ} {orders orders′ : List Order} → CountChanged unit o m m′ orders orders′
+    → CountChanged unit o m′ m orders′ orders
 shifted-back shift = record { sums = λ s a i. sym (shift .sums s a i) }
 
 -- ---- the changes that are shifts
 module _ (unit : Order → ℕ) (o : Order) (orders orders′ : List Order) where
-  pub entered : Joined o orders orders′ → Shifted unit o 0 (remaining o) orders orders′
+  pub entered : Joined o orders orders′ → CountChanged unit o 0 (remaining o) orders orders′
   entered joined =
       record {
         sums = λ s a i.
             let x = openOn unit orders s a i in
             let y = amount unit s a i o (remaining o) in
-            omega (signed, open-joined unit s a i o orders orders′ joined, amount-none unit s a i o, sum-parts y x, sum-parts x y, sum-parts (openOn unit orders′ s a i) (amount unit s a i o 0));
+            omega (
+              signed,
+              open-joined unit s a i o orders orders′ joined,
+              amount-none unit s a i o,
+              sum-parts y x,
+              sum-parts x y,
+              sum-parts (openOn unit orders′ s a i) (amount unit s a i o 0),
+            );
       }
 
-  pub changed : {o′ : Order} → Alike unit o o′ → Changed o o′ orders orders′ → Shifted unit o (remaining o) (remaining o′) orders orders′
+  pub changed : {o′ : Order} → Alike unit o o′ → Changed o o′ orders orders′
+      → CountChanged unit o (remaining o) (remaining o′) orders orders′
   changed {o′} alike change =
       record {
         sums = λ s a i.
@@ -48,25 +58,34 @@ module _ (unit : Order → ℕ) (o : Order) (orders orders′ : List Order) wher
             ∙ ap (λ x. openOn unit orders s a i +ℤ x) (amount-alike alike s a i (remaining o′));
       }
 
-  pub replaced : (n : ℕ) → unit (replacedTotal o n) ≡ unit o → Changed o (replacedTotal o n) orders orders′ → Shifted unit o (o .total - o .filled) (n - o .filled) orders orders′
+  pub replaced : (n : ℕ) → unit (replacedTotal o n) ≡ unit o → Changed o (replacedTotal o n) orders orders′
+      → CountChanged unit o (o .total - o .filled) (n - o .filled) orders orders′
   unfolding replacedTotal remaining
   replaced n same = changed (record { same-account = refl; same-instrument = refl; same-side = refl; same-unit = same })
 
-  pub filled : (n : ℕ) → unit (filledBy o n) ≡ unit o → Changed o (filledBy o n) orders orders′ → Shifted unit o (remaining o) (remaining o - n) orders orders′
+  pub filled : (n : ℕ) → unit (filledBy o n) ≡ unit o → Changed o (filledBy o n) orders orders′
+      → CountChanged unit o (remaining o) (remaining o - n) orders orders′
   unfolding filledBy remaining
   filled n same change =
       let rest : o .total - (o .filled + n) ≡ o .total - o .filled - n = omega arith in
-      rw rest at (changed {o′ = filledBy o n} (record { same-account = refl; same-instrument = refl; same-side = refl; same-unit = same }) change)
+      rw rest at (changed {o′ = filledBy o n} (record { same-account = refl; same-instrument = refl; same-side = refl; same-unit = same })
+      change)
 
-pub left : (unit : Order → ℕ) (o : Order) (orders orders′ : List Order) → Joined o orders′ orders → Shifted unit o (remaining o) 0 orders orders′
+pub left : (unit : Order → ℕ) (o : Order) (orders orders′ : List Order) → Joined o orders′ orders
+    → CountChanged unit o (remaining o) 0 orders orders′
 left unit o orders orders′ joined = shifted-back (entered unit o orders′ orders joined)
 
 -- ---- what a shift does, at any account, place and side
-module _ {unit : Order → ℕ} {o : Order} {m m′ : ℕ} {orders orders′ : List Order} (shift : Shifted unit o m m′ orders orders′) (a : ℕ) (S : ℕ → ℤ) where
-  pub shift-instrument : (i : ℕ) (v : Way) → ofInstrument unit orders′ a S i v +ℤ amount unit (sideTo v) a i o m ≡ ofInstrument unit orders a S i v +ℤ amount unit (sideTo v) a i o m′
+module _ {unit : Order → ℕ} {o : Order} {m m′ : ℕ} {orders orders′ : List Order} (shift : CountChanged unit o m m′ orders orders′) (a : ℕ)
+    (S : ℕ → ℤ) where
+  pub shift-instrument : (i : ℕ) (v : Way) → ofInstrument unit orders′ a S i v +ℤ amount unit (sideTo v) a i o m
+      ≡ ofInstrument unit orders a S i v +ℤ amount unit (sideTo v) a i o m′
   unfolding ofInstrument
   shift-instrument i v =
-      rw (+ℤ-assoc (toward v (S i)) (openOn unit orders′ (sideTo v) a i) (amount unit (sideTo v) a i o m), +ℤ-assoc (toward v (S i)) (openOn unit orders (sideTo v) a i) (amount unit (sideTo v) a i o m′))
+      rw (
+        +ℤ-assoc (toward v (S i)) (openOn unit orders′ (sideTo v) a i) (amount unit (sideTo v) a i o m),
+        +ℤ-assoc (toward v (S i)) (openOn unit orders (sideTo v) a i) (amount unit (sideTo v) a i o m′),
+      )
       (ap (λ x. toward v (S i) +ℤ x) (shift .sums (sideTo v) a i))
 
   -- where the order does not stand nothing changes
@@ -74,21 +93,39 @@ module _ {unit : Order → ℕ} {o : Order} {m m′ : ℕ} {orders orders′ : L
   shift-apart i v out =
       let x = ofInstrument unit orders′ a S i v in
       let y = ofInstrument unit orders a S i v in
-      omega (signed, shift-instrument i v, amount-apart unit (sideTo v) a i o m out, amount-apart unit (sideTo v) a i o m′ out, sum-parts x (amount unit (sideTo v) a i o m), sum-parts y (amount unit (sideTo v) a i o m′))
+      omega (
+        signed,
+        shift-instrument i v,
+        amount-apart unit (sideTo v) a i o m out,
+        amount-apart unit (sideTo v) a i o m′ out,
+        sum-parts x (amount unit (sideTo v) a i o m),
+        sum-parts y (amount unit (sideTo v) a i o m′),
+      )
 
   -- and where it stands
-  pub shift-own : o .account ≡ a → (v : Way) → wayOf (o .side) ≡ v → ofInstrument unit orders′ a S (o .instrument) v +ℤ pos (unit o * m) ≡ ofInstrument unit orders a S (o .instrument) v +ℤ pos (unit o * m′)
+  pub shift-own : o .account ≡ a → (v : Way) → wayOf (o .side) ≡ v
+      → ofInstrument unit orders′ a S (o .instrument) v +ℤ pos (unit o * m) ≡ ofInstrument unit orders a S (o .instrument) v +ℤ pos
+      (unit o * m′)
   shift-own own v way =
       let stands : Stands (sideTo v) a (o .instrument) o = (cc (side-back (o .side)), own, refl) in
-      rw (amount-here unit (sideTo v) a (o .instrument) o m stands, amount-here unit (sideTo v) a (o .instrument) o m′ stands) at (shift-instrument (o .instrument) v)
+      rw (
+        amount-here unit (sideTo v) a (o .instrument) o m stands,
+        amount-here unit (sideTo v) a (o .instrument) o m′ stands,
+      ) at (shift-instrument (o .instrument) v)
 
-  module _ (r : Roster) (p : Place) (w : Way) where
+  module _ (r : Roster) (p : Scope) (w : Way) where
     pub shift-up : m ≤ m′ → potential unit r orders a S p w ≤ℤ potential unit r orders′ a S p w
     shift-up l =
         potential-≤ unit r a orders orders′ S S p w
         (λ i _.
         let v = wayTo r p w i in
-        omega (signed, shift-instrument i v, amount-≤ unit (sideTo v) a i o m m′ l, sum-parts (ofInstrument unit orders′ a S i v) (amount unit (sideTo v) a i o m), sum-parts (ofInstrument unit orders a S i v) (amount unit (sideTo v) a i o m′)))
+        omega (
+          signed,
+          shift-instrument i v,
+          amount-≤ unit (sideTo v) a i o m m′ l,
+          sum-parts (ofInstrument unit orders′ a S i v) (amount unit (sideTo v) a i o m),
+          sum-parts (ofInstrument unit orders a S i v) (amount unit (sideTo v) a i o m′),
+        ))
 
     pub shift-unmoved : ¬ Moves r o p w → potential unit r orders′ a S p w ≡ potential unit r orders a S p w
     shift-unmoved out =
@@ -97,19 +134,29 @@ module _ {unit : Order → ℕ} {o : Order} {m m′ : ℕ} {orders orders′ : L
         let v = wayTo r p w i in
         let x = ofInstrument unit orders′ a S i v in
         let y = ofInstrument unit orders a S i v in
-        omega (signed, shift-instrument i v, unmoved-amount r o w p unit a m i out b, unmoved-amount r o w p unit a m′ i out b, sum-parts x (amount unit (sideTo v) a i o m), sum-parts y (amount unit (sideTo v) a i o m′)))
+        omega (
+          signed,
+          shift-instrument i v,
+          unmoved-amount r o w p unit a m i out b,
+          unmoved-amount r o w p unit a m′ i out b,
+          sum-parts x (amount unit (sideTo v) a i o m),
+          sum-parts y (amount unit (sideTo v) a i o m′),
+        ))
 
     pub shift-of-another : o .account ≢ a → potential unit r orders′ a S p w ≡ potential unit r orders a S p w
     shift-of-another other = potential-same unit r a orders′ orders S S p w (λ i _. shift-apart i (wayTo r p w i) (λ h. other (h .1)))
 
 -- a shift to fewer is a shift to more, read backwards
-pub shift-down : {unit : Order → ℕ} {o : Order} {m m′ : ℕ} {orders orders′ : List Order} → Shifted unit o m m′ orders orders′ → (a : ℕ) (S : ℕ → ℤ) (r : Roster) (p : Place) (w : Way) → m′ ≤ m → potential unit r orders′ a S p w ≤ℤ potential unit r orders a S p w
+pub shift-down : {unit : Order → ℕ} {o : Order} {m m′ : ℕ} {orders orders′ : List Order} → CountChanged unit o m m′ orders orders′
+    → (a : ℕ) (S : ℕ → ℤ) (r : Roster) (p : Scope) (w : Way) → m′ ≤ m → potential unit r orders′ a S p w ≤ℤ potential unit r orders a S p w
 shift-down shift = shift-up (shifted-back shift)
 
 -- ---- a fill by n: the order counts for n less, and the balances move
-module _ {unit : Order → ℕ} {o : Order} {m m′ : ℕ} {orders orders′ : List Order} (shift : Shifted unit o m m′ orders orders′) (n : ℕ) (by-n : m ≡ m′ + n) (a : ℕ) (S S′ : ℕ → ℤ) (moved : (i : ℕ) → S′ i ≡ S i +ℤ fillMoves unit a i o n) where
+module _ {unit : Order → ℕ} {o : Order} {m m′ : ℕ} {orders orders′ : List Order} (shift : CountChanged unit o m m′ orders orders′) (n : ℕ)
+    (by-n : m ≡ m′ + n) (a : ℕ) (S S′ : ℕ → ℤ) (moved : (i : ℕ) → S′ i ≡ S i +ℤ fillMoves unit a i o n) where
   -- a side falls by what is filled on the other, so the side that the order moves stays as it was
-  pub fill-instrument : (i : ℕ) (v : Way) → ofInstrument unit orders′ a S′ i v ≡ ofInstrument unit orders a S i v -ℤ amount unit (sideTo (opposite v)) a i o n
+  pub fill-instrument : (i : ℕ) (v : Way) → ofInstrument unit orders′ a S′ i v ≡ ofInstrument unit orders a S i v -ℤ amount unit
+      (sideTo (opposite v)) a i o n
   unfolding ofInstrument
   fill-instrument i v =
       let s = toward v (S i) in
@@ -120,9 +167,25 @@ module _ {unit : Order → ℕ} {o : Order} {m m′ : ℕ} {orders orders′ : L
       let there = amount unit (sideTo (opposite v)) a i o n in
       let whole = amount unit (sideTo v) a i o m in
       let rest = amount unit (sideTo v) a i o m′ in
-      omega (signed, ap (toward v) (moved i), fill-moves unit a S o n i v, shift .sums (sideTo v) a i, ap (amount unit (sideTo v) a i o) by-n, amount-sum unit (sideTo v) a i o m′ n, difference-parts here there, sum-parts s (here -ℤ there), sum-parts next whole, sum-parts before rest, sum-parts rest here, sum-parts s′ next, sum-parts s before, difference-parts (s +ℤ before) there)
+      omega (
+        signed,
+        ap (toward v) (moved i),
+        fill-moves unit a S o n i v,
+        shift .sums (sideTo v) a i,
+        ap (amount unit (sideTo v) a i o) by-n,
+        amount-sum unit (sideTo v) a i o m′ n,
+        difference-parts here there,
+        sum-parts s (here -ℤ there),
+        sum-parts next whole,
+        sum-parts before rest,
+        sum-parts rest here,
+        sum-parts s′ next,
+        sum-parts s before,
+        difference-parts (s +ℤ before) there,
+      )
 
-  pub fill-level : (i : ℕ) (v : Way) → ¬ Stands (sideTo (opposite v)) a i o → ofInstrument unit orders′ a S′ i v ≡ ofInstrument unit orders a S i v
+  pub fill-level : (i : ℕ) (v : Way) → ¬ Stands (sideTo (opposite v)) a i o
+      → ofInstrument unit orders′ a S′ i v ≡ ofInstrument unit orders a S i v
   fill-level i v out =
       let x = ofInstrument unit orders a S i v in
       let y = amount unit (sideTo (opposite v)) a i o n in
@@ -131,12 +194,14 @@ module _ {unit : Order → ℕ} {o : Order} {m m′ : ℕ} {orders orders′ : L
   pub fill-kept : (i : ℕ) (v : Way) → wayOf (o .side) ≡ v → ofInstrument unit orders′ a S′ i v ≡ ofInstrument unit orders a S i v
   fill-kept i v along = fill-level i v (λ h. other-side v (cc (side-back (o .side), h .0)))
 
-  pub fill-opposite : o .account ≡ a → (v : Way) → wayOf (o .side) ≡ opposite v → ofInstrument unit orders′ a S′ (o .instrument) v ≡ ofInstrument unit orders a S (o .instrument) v -ℤ pos (unit o * n)
+  pub fill-opposite : o .account ≡ a → (v : Way) → wayOf (o .side) ≡ opposite v
+      → ofInstrument unit orders′ a S′ (o .instrument) v ≡ ofInstrument unit orders a S (o .instrument) v -ℤ pos (unit o * n)
   fill-opposite own v against =
       fill-instrument (o .instrument) v
-      ∙ ap (λ x. ofInstrument unit orders a S (o .instrument) v -ℤ x) (amount-here unit (sideTo (opposite v)) a (o .instrument) o n (cc (side-back (o .side)), own, refl))
+      ∙ ap (λ x. ofInstrument unit orders a S (o .instrument) v -ℤ x)
+      (amount-here unit (sideTo (opposite v)) a (o .instrument) o n (cc (side-back (o .side)), own, refl))
 
-  module _ (r : Roster) (p : Place) (w : Way) where
+  module _ (r : Roster) (p : Scope) (w : Way) where
     pub fill-lowers : potential unit r orders′ a S′ p w ≤ℤ potential unit r orders a S p w
     fill-lowers =
         potential-≤ unit r a orders′ orders S′ S p w
@@ -147,21 +212,25 @@ module _ {unit : Order → ℕ} {o : Order} {m m′ : ℕ} {orders orders′ : L
         omega (signed, fill-instrument i v, amount-nonneg unit (sideTo (opposite v)) a i o n, difference-parts x y))
 
 -- ---- other changes
-module _ (unit : Order → ℕ) (r : Roster) (a : ℕ) (orders : List Order) (S : ℕ → ℤ) (p : Place) (w : Way) where
+module _ (unit : Order → ℕ) (r : Roster) (a : ℕ) (orders : List Order) (S : ℕ → ℤ) (p : Scope) (w : Way) where
   -- where no instrument's potential position changes none changes
-  pub level : (orders′ : List Order) (S′ : ℕ → ℤ) → ((i : ℕ) (v : Way) → ofInstrument unit orders′ a S′ i v ≡ ofInstrument unit orders a S i v) → potential unit r orders′ a S′ p w ≡ potential unit r orders a S p w
+  pub level : (orders′ : List Order) (S′ : ℕ → ℤ)
+      → ((i : ℕ) (v : Way) → ofInstrument unit orders′ a S′ i v ≡ ofInstrument unit orders a S i v)
+      → potential unit r orders′ a S′ p w ≡ potential unit r orders a S p w
   level orders′ S′ same = potential-same unit r a orders′ orders S′ S p w (λ i _. same i (wayTo r p w i))
 
-  pub potential-permuted : {orders′ : List Order} → Permuted orders orders′ → potential unit r orders′ a S p w ≡ potential unit r orders a S p w
+  pub potential-permuted : {orders′ : List Order} → Permuted orders orders′
+      → potential unit r orders′ a S p w ≡ potential unit r orders a S p w
   unfolding ofInstrument
-  potential-permuted {orders′} permuted = level orders′ S (λ i v. ap (λ x. toward v (S i) +ℤ x) (open-permuted unit (sideTo v) a i permuted))
+  potential-permuted {orders′} permuted =
+      level orders′ S (λ i v. ap (λ x. toward v (S i) +ℤ x) (open-permuted unit (sideTo v) a i permuted))
 
   -- with no open order of the account the potential position is the position
   pub idle : ((o : Order) → List·Memᴰ o orders → o .account ≢ a) → potential unit r orders a S p w ≡ position r S p w
   unfolding ofInstrument
   idle others =
-      rw (potential-figure unit r orders a S p w, position-figure r S p w)
-      (figure-same r (λ i. ofInstrument unit orders a S i (wayTo r p w i)) (λ i. toward (wayTo r p w i) (S i)) p
+      rw (potential-weighted unit r orders a S p w, position-weighted r S p w)
+      (weighted-same r (λ i. ofInstrument unit orders a S i (wayTo r p w i)) (λ i. toward (wayTo r p w i) (S i)) p
       (λ i _.
       let v = wayTo r p w i in
       let none = open-nowhere unit (sideTo v) a i orders (λ o m h. others o m (h .1)) in

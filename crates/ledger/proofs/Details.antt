@@ -7,7 +7,8 @@ use lib.Bits.{bitOr, or-comm, or-shr, or-mod}
 use Rattle.words.proofs.Bits.{or-left}
 use Rattle.ledger.specs.declared.order.Order.{Order}
 use Rattle.ledger.specs.Orders.{remaining}
-use Rattle.ledger.specs.Records.{packed, packedAccount, packedInstrument, Packable, detailPacked, detailFilled, detailRemaining, Within, orderOf, idAt, detailAt, orderAt}
+use Rattle.ledger.specs.Records.{packed, packedAccount, packedInstrument, Packable, detailPacked, detailFilled, detailRemaining}
+use Rattle.ledger.specs.Records.{Within, orderOf, idAt, detailAt, orderAt}
 use Rattle.ledger.proofs.Packing.{packed-again}
 
 -- ---- the order of an id and a detail

@@ -12,8 +12,9 @@ use Rattle.ledger.specs.declared.order.Side.{Side}
 use Rattle.ledger.specs.declared.order.Side.the-variants.{Buy, Sell}
 use Rattle.ledger.specs.Orders.{remaining}
 use Rattle.ledger.specs.Roster.{Roster, groupOfInstrument}
-use Rattle.ledger.specs.Positions.{long, short, instrument, group, standsIn, openOn, ofInstrument, groupPart, sumGroup, potential, position}
-use Rattle.ledger.specs.Fillings.{Filling, after}
+use Rattle.ledger.specs.Positions.{long, short, instrument, group, standsIn, openOn, ofInstrument, groupPart, sumGroup, potential}
+use Rattle.ledger.specs.Positions.{position}
+use Rattle.ledger.specs.Fillings.{Filling, balanceAfter}
 use Rattle.ledger.specs.Moves.{Moves}
 use Rattle.ledger.proofs.Reached.{past-iff}
 use Rattle.ledger.proofs.Movement.{afterFill, moves-raises, raises-moves}
@@ -48,7 +49,8 @@ one o = 1
 -- PCI, PVI, PCC and PVC with an order on instrument i
 abbrev Figures : Roster → List Order → (ℕ → ℤ) → ℕ → ℤ → ℤ → ℤ → ℤ → Type 0
 Figures r orders S i pci pvi pcc pvc =
-    (potential one r orders 1 S (instrument i) long ≡ pci) × (potential one r orders 1 S (instrument i) short ≡ pvi) × (potential one r orders 1 S (group 1) long ≡ pcc) × (potential one r orders 1 S (group 1) short ≡ pvc)
+    (potential one r orders 1 S (instrument i) long ≡ pci) × (potential one r orders 1 S (instrument i) short ≡ pvi)
+    × (potential one r orders 1 S (group 1) long ≡ pcc) × (potential one r orders 1 S (group 1) short ≡ pvc)
 
 -- all that a table computes with, as one name
 unfoldable computes : Unit {0}
@@ -107,7 +109,7 @@ moves-not-long m = let e = m .2 in let z : _≡_ {A = ℕ} 0 1 = cc in omega ari
 stays : potential one rB (put ∷ startB) 1 SB (group 1) long ≡ potential one rB startB 1 SB (group 1) long
 stays = shift-unmoved (entered one put startB (put ∷ startB) (joined-between put [] startB)) 1 SB rB (group 1) long moves-not-long
 
-past : (f : Filling (put ∷ startB)) × (pos 50000000 <ℤ position rB (after one 1 SB f) (group 1) short)
+past : (f : Filling (put ∷ startB)) × (pos 50000000 <ℤ position rB (balanceAfter one 1 SB f) (group 1) short)
 past = past-iff one rB (put ∷ startB) 1 SB (group 1) short (pos 50000000) .0 (rw (tables-B .1 .3) (ltZ-yes tt))
 
 -- a fill of one contract raises the short side, and the long side does not rise

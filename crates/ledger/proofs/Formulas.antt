@@ -46,18 +46,22 @@ module _ (unit : Order → ℕ) (r : Roster) (orders : List Order) (a : ℕ) (S 
   unfolding groupPart ofInstrument
   PVC-negative i k = refl
 
-  pub PCC : (g : ℕ) → potential unit r orders a S (group g) long ≡ sumGroup r g (λ i. cond (nonNeg (K i)) (K i *ℤ (S i +ℤ buys i)) (negℤ (K i) *ℤ (sells i -ℤ S i)))
+  pub PCC : (g : ℕ) → potential unit r orders a S (group g) long ≡ sumGroup r g
+      (λ i. cond (nonNeg (K i)) (K i *ℤ (S i +ℤ buys i)) (negℤ (K i) *ℤ (sells i -ℤ S i)))
   unfolding potential
   PCC g = group-same r g _ _ (λ i _. part i (K i))
     where
-      part : (i : ℕ) (k : ℤ) → groupPart long k (ofInstrument unit orders a S i) ≡ cond (nonNeg k) (k *ℤ (S i +ℤ buys i)) (negℤ k *ℤ (sells i -ℤ S i))
+      part : (i : ℕ) (k : ℤ) → groupPart long k (ofInstrument unit orders a S i) ≡ cond (nonNeg k) (k *ℤ (S i +ℤ buys i))
+          (negℤ k *ℤ (sells i -ℤ S i))
       part i (pos k) = PCC-positive i k
       part i (negsuc k) = PCC-negative i k
 
-  pub PVC : (g : ℕ) → potential unit r orders a S (group g) short ≡ sumGroup r g (λ i. cond (nonNeg (K i)) (K i *ℤ (sells i -ℤ S i)) (negℤ (K i) *ℤ (S i +ℤ buys i)))
+  pub PVC : (g : ℕ) → potential unit r orders a S (group g) short ≡ sumGroup r g
+      (λ i. cond (nonNeg (K i)) (K i *ℤ (sells i -ℤ S i)) (negℤ (K i) *ℤ (S i +ℤ buys i)))
   unfolding potential
   PVC g = group-same r g _ _ (λ i _. part i (K i))
     where
-      part : (i : ℕ) (k : ℤ) → groupPart short k (ofInstrument unit orders a S i) ≡ cond (nonNeg k) (k *ℤ (sells i -ℤ S i)) (negℤ k *ℤ (S i +ℤ buys i))
+      part : (i : ℕ) (k : ℤ) → groupPart short k (ofInstrument unit orders a S i) ≡ cond (nonNeg k) (k *ℤ (sells i -ℤ S i))
+          (negℤ k *ℤ (S i +ℤ buys i))
       part i (pos k) = PVC-positive i k
       part i (negsuc k) = PVC-negative i k

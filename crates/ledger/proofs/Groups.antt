@@ -18,7 +18,15 @@ sumTo-strict : (f g : ℕ → ℤ) (n j : ℕ) → j < n → ((i : ℕ) → i < 
 sumTo-strict f g n j b mono grows =
     let s = sumTo f n in
     let x = raised j in
-    omega (signed, sumTo-mono raised g n at-most, sumTo-change f raised n j b (λ i _. elsewhere i), here, sum-parts (f j) (pos 1), difference-parts x (f j), sum-parts s (x -ℤ f j))
+    omega (
+      signed,
+      sumTo-mono raised g n at-most,
+      sumTo-change f raised n j b (λ i _. elsewhere i),
+      here,
+      sum-parts (f j) (pos 1),
+      difference-parts x (f j),
+      sum-parts s (x -ℤ f j),
+    )
   where
     raised : ℕ → ℤ
     raised i = cond (eqb i j) (f i +ℤ pos 1) (f i)
@@ -30,7 +38,9 @@ sumTo-strict f g n j b mono grows =
     elsewhere i apart = by-number i j (λ t. f i ≡ cond t (f i +ℤ pos 1) (f i)) (λ e. absurd (apart e)) (λ h. refl)
 
     at-most : (i : ℕ) → i < n → raised i ≤ℤ g i
-    at-most i l = by-number i j (λ t. cond t (f i +ℤ pos 1) (f i) ≤ℤ g i) (λ e. let k : f i <ℤ g i = rw e grows in omega (signed, sum-parts (f i) (pos 1))) (λ h. mono i l)
+    at-most i l =
+        by-number i j (λ t. cond t (f i +ℤ pos 1) (f i) ≤ℤ g i) (λ e. let k : f i <ℤ g i = rw e grows in
+        omega (signed, sum-parts (f i) (pos 1))) (λ h. mono i l)
 
 -- the term of instrument j + 1 in the sum over group g
 abbrev pub groupTerm : Roster → ℕ → (ℕ → ℤ) → ℕ → ℤ
@@ -47,7 +57,8 @@ module _ (r : Roster) (g : ℕ) where
 
   term-mono : (f h : ℕ → ℤ) → ((i : ℕ) → Of i → f i ≤ℤ h i) → (j : ℕ) → j < r .instruments → groupTerm r g f j ≤ℤ groupTerm r g h j
   term-mono f h le j l =
-      by-number (groupOfInstrument r (suc j)) g (λ t. cond t (f (suc j)) (pos 0) ≤ℤ cond t (h (suc j)) (pos 0)) (λ e. le (suc j) (omega arith, e)) (λ _. omega signed)
+      by-number (groupOfInstrument r (suc j)) g (λ t. cond t (f (suc j)) (pos 0) ≤ℤ cond t (h (suc j)) (pos 0))
+      (λ e. le (suc j) (omega arith, e)) (λ _. omega signed)
 
   pub group-mono : (f h : ℕ → ℤ) → ((i : ℕ) → Of i → f i ≤ℤ h i) → sumGroup r g f ≤ℤ sumGroup r g h
   unfolding sumGroup
@@ -64,7 +75,8 @@ module _ (r : Roster) (g : ℕ) where
   group-strict f h zero b le lt = absurd (omega arith)
   group-strict f h (suc k) b le lt =
       sumTo-strict (groupTerm r g f) (groupTerm r g h) (r .instruments) k (omega arith) (term-mono f h le)
-      (by-number (groupOfInstrument r (suc k)) g (λ t. cond t (f (suc k)) (pos 0) <ℤ cond t (h (suc k)) (pos 0)) (λ _. lt) (λ apart. absurd (apart (b .1))))
+      (by-number (groupOfInstrument r (suc k)) g (λ t. cond t (f (suc k)) (pos 0) <ℤ cond t (h (suc k)) (pos 0)) (λ _. lt)
+      (λ apart. absurd (apart (b .1))))
 
   -- the short side of a sum is the sum of the short sides
   pub group-toward : (w : Way) (f : ℕ → ℤ) → toward w (sumGroup r g f) ≡ sumGroup r g (λ i. toward w (f i))
@@ -73,4 +85,5 @@ module _ (r : Roster) (g : ℕ) where
   group-toward short f =
       sym (sumOver-negated (groupTerm r g f) (below (r .instruments)))
       ∙ sumTo-same (λ j. negℤ (groupTerm r g f j)) (groupTerm r g (λ i. negℤ (f i))) (r .instruments)
-      (λ j l. by-number (groupOfInstrument r (suc j)) g (λ t. negℤ (cond t (f (suc j)) (pos 0)) ≡ cond t (negℤ (f (suc j))) (pos 0)) (λ _. refl) (λ _. refl))
+      (λ j l. by-number (groupOfInstrument r (suc j)) g (λ t. negℤ (cond t (f (suc j)) (pos 0)) ≡ cond t (negℤ (f (suc j))) (pos 0))
+      (λ _. refl) (λ _. refl))

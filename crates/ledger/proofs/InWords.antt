@@ -11,24 +11,26 @@ use Rattle.ledger.specs.declared.order.Side.{Side}
 use Rattle.ledger.specs.declared.order.Side.the-variants.{Buy, Sell}
 use Rattle.ledger.specs.Orders.{remaining}
 use Rattle.ledger.specs.Roster.{Roster, groupOfInstrument}
-use Rattle.ledger.specs.Positions.{Way, long, short, Place, instrument, group, opposite, wayOf, wayBy, sumGroup, position}
-use Rattle.ledger.specs.Fillings.{Filling, none, fill, fillMoves, after}
+use Rattle.ledger.specs.Positions.{Way, long, short, Scope, instrument, group, opposite, wayOf, wayBy, sumGroup, position}
+use Rattle.ledger.specs.Fillings.{Filling, none, fill, fillMoves, balanceAfter}
 use Rattle.ledger.specs.Moves.{Moves}
 
 -- ---- "A filling fills each open order by any whole number from 0 to its remaining, and balances move as under FILL."
 -- one order more, filled by any such number, beside any filling of the others
-pub any-number : {orders : List Order} (o : Order) (n : ℕ) → n ≤ remaining o → (f : Filling orders) → (g : Filling (o ∷ orders)) × ((unit : Order → ℕ) (a : ℕ) (S : ℕ → ℤ) (i : ℕ) → after unit a S g i ≡ after unit a S f i +ℤ fillMoves unit a i o n)
-unfolding after
+pub any-number : {orders : List Order} (o : Order) (n : ℕ) → n ≤ remaining o → (f : Filling orders) → (g : Filling (o ∷ orders))
+    × ((unit : Order → ℕ) (a : ℕ) (S : ℕ → ℤ) (i : ℕ) → balanceAfter unit a S g i ≡ balanceAfter unit a S f i +ℤ fillMoves unit a i o n)
+unfolding balanceAfter
 any-number o n most f = (fill {o = o} n most f, λ unit a S i. refl)
 
 -- every filling of one order more is such a one
-pub no-other-number : {o : Order} {orders : List Order} (g : Filling (o ∷ orders)) → (n : ℕ) × (n ≤ remaining o) × (f : Filling orders) × ((unit : Order → ℕ) (a : ℕ) (S : ℕ → ℤ) (i : ℕ) → after unit a S g i ≡ after unit a S f i +ℤ fillMoves unit a i o n)
-unfolding after
+pub no-other-number : {o : Order} {orders : List Order} (g : Filling (o ∷ orders)) → (n : ℕ) × (n ≤ remaining o) × (f : Filling orders)
+    × ((unit : Order → ℕ) (a : ℕ) (S : ℕ → ℤ) (i : ℕ) → balanceAfter unit a S g i ≡ balanceAfter unit a S f i +ℤ fillMoves unit a i o n)
+unfolding balanceAfter
 no-other-number (fill n most f) = (n, most, f, λ unit a S i. refl)
 
 -- where no order is open, the balances stay
-pub nothing-to-fill : (f : Filling []) (unit : Order → ℕ) (a : ℕ) (S : ℕ → ℤ) (i : ℕ) → after unit a S f i ≡ S i
-unfolding after
+pub nothing-to-fill : (f : Filling []) (unit : Order → ℕ) (a : ℕ) (S : ℕ → ℤ) (i : ℕ) → balanceAfter unit a S f i ≡ S i
+unfolding balanceAfter
 nothing-to-fill none unit a S i = refl
 
 pub nothing-filled : Filling []
@@ -53,11 +55,13 @@ turned s w = (there s, ⊎-elim (λ h. rw (h .0, h .1)) (λ h. rw (h .0, h .1)))
     there Buy e = inl (refl, sym e)
     there Sell e = inr (refl, sym e)
 
-pub moves-instrument : (r : Roster) (o : Order) (i : ℕ) (w : Way) → Moves r o (instrument i) w ↔ ((o .instrument ≡ i) × BuyOrSell (o .side) w long short)
+pub moves-instrument : (r : Roster) (o : Order) (i : ℕ) (w : Way) → Moves r o (instrument i) w
+    ↔ ((o .instrument ≡ i) × BuyOrSell (o .side) w long short)
 moves-instrument r o i w = (λ m. (m .0, bought-or-sold (o .side) w .0 (m .1)), λ h. (h .0, bought-or-sold (o .side) w .1 (h .1)))
 
 pub moves-group : (r : Roster) (o : Order) (g : ℕ) (w : Way) → Moves r o (group g) w ↔ ((groupOfInstrument r (o .instrument) ≡ g)
-    × (((pos 0 <ℤ r .weight (o .instrument)) × BuyOrSell (o .side) w long short) ⊎ ((r .weight (o .instrument) <ℤ pos 0) × BuyOrSell (o .side) w short long)))
+    × (((pos 0 <ℤ r .weight (o .instrument)) × BuyOrSell (o .side) w long short) ⊎ ((r .weight (o .instrument) <ℤ pos 0)
+    × BuyOrSell (o .side) w short long)))
 moves-group r o g w = (
   λ m. (m .0, there (r .weight (o .instrument)) (m .1) (m .2)),
   λ h. let b = back (r .weight (o .instrument)) (h .1) in (h .0, b .0, b .1),
@@ -86,7 +90,7 @@ pub position-group : (r : Roster) (S : ℕ → ℤ) (g : ℕ) → position r S (
 unfolding position
 position-group r S g = refl
 
-pub position-short : (r : Roster) (S : ℕ → ℤ) (p : Place) → position r S p short ≡ negℤ (position r S p long)
+pub position-short : (r : Roster) (S : ℕ → ℤ) (p : Scope) → position r S p short ≡ negℤ (position r S p long)
 unfolding position
 position-short r S (instrument i) = refl
 position-short r S (group g) = refl

@@ -7,7 +7,7 @@ pub mod Ways
 pub mod Amounts
 pub mod Sums
 pub mod Groups
-pub mod Places
+pub mod Scopes
 pub mod Upper
 pub mod Reached
 pub mod Movement

@@ -9,7 +9,8 @@ use Rattle.ledger.specs.declared.order.Order.{Order}
 use Rattle.ledger.specs.declared.order.Side.{Side}
 use Rattle.ledger.specs.declared.order.Side.the-variants.{Buy, Sell}
 use Rattle.ledger.specs.Orders.{remaining}
-use Rattle.ledger.specs.Records.{packed, Packable, packedSide, packedAccount, packedInstrument, detail, detailFilled, detailRemaining, Storable, orderOf}
+use Rattle.ledger.specs.Records.{packed, Packable, packedSide, packedAccount, packedInstrument, detail, detailFilled, detailRemaining}
+use Rattle.ledger.specs.Records.{Storable, orderOf}
 
 -- ---- side, account and instrument
 pub packed-again : (w : ℕ) → packed (packedSide w) (packedAccount w) (packedInstrument w) ≡ w % 1024
@@ -91,4 +92,11 @@ module _ (o : Order) (fits : Storable o) where
   detail-back =
       let a = o .account in
       let i = o .instrument in
-      rw (total-back, filled-back, parted, account-back a i (fits .packable) above (o .side), instrument-back a i (fits .packable) above (o .side), side-back a i (fits .packable) above (o .side))
+      rw (
+        total-back,
+        filled-back,
+        parted,
+        account-back a i (fits .packable) above (o .side),
+        instrument-back a i (fits .packable) above (o .side),
+        side-back a i (fits .packable) above (o .side),
+      )

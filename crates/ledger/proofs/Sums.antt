@@ -48,7 +48,15 @@ changed-between o o′ xs ys h =
     let x = sumOver h (xs ++ (o ∷ ys)) in
     let y = sumOver h (xs ++ (o′ ∷ ys)) in
     let z = sumOver h (xs ++ ys) in
-    omega (signed, joined-between o xs ys h, joined-between o′ xs ys h, sum-parts (h o) z, sum-parts (h o′) z, sum-parts y (h o), sum-parts (h o′) x)
+    omega (
+      signed,
+      joined-between o xs ys h,
+      joined-between o′ xs ys h,
+      sum-parts (h o) z,
+      sum-parts (h o′) z,
+      sum-parts y (h o),
+      sum-parts (h o′) x,
+    )
 
 -- ---- the sums
 module _ (unit : Order → ℕ) (s : Side) (a i : ℕ) where
@@ -73,10 +81,12 @@ module _ (unit : Order → ℕ) (s : Side) (a i : ℕ) where
   pub open-nowhere : (orders : List Order) → ((o : Order) → List·Memᴰ o orders → ¬ Stands s a i o) → openOn unit orders s a i ≡ pos 0
   open-nowhere orders h = rw open-sum (sumOver-zero adds orders (λ o m. amount-apart unit s a i o (remaining o) (h o m)))
 
-  pub open-joined : (o : Order) (orders orders′ : List Order) → Joined o orders orders′ → openOn unit orders′ s a i ≡ adds o +ℤ openOn unit orders s a i
+  pub open-joined : (o : Order) (orders orders′ : List Order) → Joined o orders orders′
+      → openOn unit orders′ s a i ≡ adds o +ℤ openOn unit orders s a i
   open-joined o orders orders′ j = simp open-sum (j adds)
 
-  pub open-changed : (o o′ : Order) (orders orders′ : List Order) → Changed o o′ orders orders′ → openOn unit orders′ s a i +ℤ adds o ≡ adds o′ +ℤ openOn unit orders s a i
+  pub open-changed : (o o′ : Order) (orders orders′ : List Order) → Changed o o′ orders orders′
+      → openOn unit orders′ s a i +ℤ adds o ≡ adds o′ +ℤ openOn unit orders s a i
   open-changed o o′ orders orders′ c = simp open-sum (c adds)
 
   pub open-permuted : {orders orders′ : List Order} → Permuted orders orders′ → openOn unit orders′ s a i ≡ openOn unit orders s a i

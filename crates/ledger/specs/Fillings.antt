@@ -17,6 +17,6 @@ pub data Filling : List Order → Type 0 where
   fill : {o : Order} {orders : List Order} (n : ℕ) → n ≤ remaining o → Filling orders → Filling (o ∷ orders)
 
 -- the balances of account a after a filling
-unfoldable pub after : (Order → ℕ) → ℕ → (ℕ → ℤ) → {orders : List Order} → Filling orders → ℕ → ℤ
-after unit a S none i = S i
-after unit a S (fill {o} n most f) i = after unit a S f i +ℤ fillMoves unit a i o n
+unfoldable pub balanceAfter : (Order → ℕ) → ℕ → (ℕ → ℤ) → {orders : List Order} → Filling orders → ℕ → ℤ
+balanceAfter unit a S none i = S i
+balanceAfter unit a S (fill {o} n most f) i = balanceAfter unit a S f i +ℤ fillMoves unit a i o n

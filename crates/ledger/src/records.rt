@@ -2,7 +2,8 @@
 ghost use mathlib.Core.Path.{_≡_};
 ghost use Prim.Native.Nat.{ℕ, _+_, _*_, _≤_};
 ghost use lib.ListN.{length};
-ghost use Rattle.ledger.specs.Records.{sideOf, packed, Packable, packedSide, packedAccount, packedInstrument, detail, detailPacked, detailFilled, detailRemaining, Storable, Within, orderOf, idAt, detailAt, orderAt};
+ghost use Rattle.ledger.specs.Records.{sideOf, packed, Packable, packedSide, packedAccount, packedInstrument, detail, detailPacked};
+ghost use Rattle.ledger.specs.Records.{detailFilled, detailRemaining, Storable, Within, orderOf, idAt, detailAt, orderAt};
 use crate::order::Order;
 use crate::order::Side;
 use words::word;
@@ -77,7 +78,7 @@ pub fn remaining_of(w: u64) -> u64
 }
 
 // A detail with the bits of `all` and of `w`: each figure is at least that of either.
-pub fn joined(all: u64, w: u64) -> u64
+pub fn bits_of_both(all: u64, w: u64) -> u64
     ensures { λ r. ⌜ ((o : Order) → Within all o → Within r o) × ((id : ℕ) → Within r (orderOf id w)) ⌝ }
 {
     all | w

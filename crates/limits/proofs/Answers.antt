@@ -63,7 +63,8 @@ unfolding firstNo allPass
 append-first [] ys = refl
 append-first (q ∷ xs) ys = by (q .passes) (append-first xs ys)
   where
-    by : (t : Bool) → firstNo (xs ++ ys) ≡ cond (allPass xs) (firstNo ys) (firstNo xs) → cond t (firstNo (xs ++ ys)) (q .number) ≡ cond (t && allPass xs) (firstNo ys) (cond t (firstNo xs) (q .number))
+    by : (t : Bool) → firstNo (xs ++ ys) ≡ cond (allPass xs) (firstNo ys) (firstNo xs)
+        → cond t (firstNo (xs ++ ys)) (q .number) ≡ cond (t && allPass xs) (firstNo ys) (cond t (firstNo xs) (q .number))
     by true e = e
     by false e = refl
 

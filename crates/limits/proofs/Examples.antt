@@ -20,7 +20,16 @@ use Rattle.limits.specs.Asked.{limitsSet, sizeFits, movesInstrument, mov
 -- one contract and group; instruments 1, 2 and 3 of weight 10000, −5000 and 0
 abbrev roster : Roster
 roster =
-    record { accounts = 1; groups = 1; contracts = 1; instruments = 3; groupOf = λ c. 1; contractOf = λ i. 1; weight = λ i. cond (eqb i 1) (pos 10000) (cond (eqb i 2) (negsuc 4999) (pos 0)) }
+    record {
+      accounts = 1;
+      groups = 1;
+      contracts = 1;
+      instruments = 3;
+      groupOf = λ c. 1;
+      contractOf = λ i. 1;
+      weight =
+          λ i. cond (eqb i 1) (pos 10000) (cond (eqb i 2) (negsuc 4999) (pos 0));
+    }
 
 abbrev lineOf : ℕ → ℕ → ℕ → ℕ → Line
 lineOf a b c d = record { tci = a; tvi = b; lci = c; lvi = d }
@@ -83,47 +92,57 @@ unfolding sizeFits lineInForce
 other-side = refl
 
 -- all of the total counts, also what is filled
-total-counts : sizeFits (λ o. 1) roster (linesOf none (some (lineOf 5 0 0 0)) 0 0) (record { id = 1; account = 1; instrument = 1; side = Buy; total = 6; filled = 4 }) Buy ≡ false
+total-counts : sizeFits (λ o. 1) roster (linesOf none (some (lineOf 5 0 0 0)) 0 0)
+    (record { id = 1; account = 1; instrument = 1; side = Buy; total = 6; filled = 4 }) Buy ≡ false
 unfolding sizeFits lineInForce
 total-counts = refl
 
 -- ---- reaching a limit passes, and one past it does not
 limit-0-reached : judged (linesOf none (some (lineOf 9 9 0 0)) 99 99) (negsuc 1) (order Buy 1 2) ≡ 0
-unfolding sumOver below remaining groupOfInstrument standsIn openOn ofInstrument groupPart sumGroup potential lineInForce limit firstNo movesInstrument movesGroup within positionQuestions
+unfolding sumOver below remaining groupOfInstrument standsIn openOn ofInstrument groupPart sumGroup potential lineInForce limit firstNo
+    movesInstrument movesGroup within positionQuestions
 limit-0-reached = refl
 
 limit-0-passed : judged (linesOf none (some (lineOf 9 9 0 0)) 99 99) (negsuc 1) (order Buy 1 3) ≡ 21
-unfolding sumOver below remaining groupOfInstrument standsIn openOn ofInstrument groupPart sumGroup potential lineInForce limit firstNo movesInstrument movesGroup within positionQuestions
+unfolding sumOver below remaining groupOfInstrument standsIn openOn ofInstrument groupPart sumGroup potential lineInForce limit firstNo
+    movesInstrument movesGroup within positionQuestions
 limit-0-passed = refl
 
 short-reached : judged (linesOf none (some (lineOf 9 9 0 4)) 99 99) (pos 2) (order Sell 1 6) ≡ 0
-unfolding sumOver below remaining groupOfInstrument standsIn openOn ofInstrument groupPart sumGroup potential lineInForce limit firstNo movesInstrument movesGroup within positionQuestions
+unfolding sumOver below remaining groupOfInstrument standsIn openOn ofInstrument groupPart sumGroup potential lineInForce limit firstNo
+    movesInstrument movesGroup within positionQuestions
 short-reached = refl
 
 short-passed : judged (linesOf none (some (lineOf 9 9 0 4)) 99 99) (pos 2) (order Sell 1 7) ≡ 22
-unfolding sumOver below remaining groupOfInstrument standsIn openOn ofInstrument groupPart sumGroup potential lineInForce limit firstNo movesInstrument movesGroup within positionQuestions
+unfolding sumOver below remaining groupOfInstrument standsIn openOn ofInstrument groupPart sumGroup potential lineInForce limit firstNo
+    movesInstrument movesGroup within positionQuestions
 short-passed = refl
 
 -- weight −5000: a sell moves the group long. Half a group contract passes a limit of 0
 sell-of-a-put : judged (linesOf none (some (lineOf 9 9 9 9)) 0 0) (pos 0) (order Sell 2 1) ≡ 23
-unfolding sumOver below remaining groupOfInstrument standsIn openOn ofInstrument groupPart sumGroup potential lineInForce limit firstNo movesInstrument movesGroup within positionQuestions
+unfolding sumOver below remaining groupOfInstrument standsIn openOn ofInstrument groupPart sumGroup potential lineInForce limit firstNo
+    movesInstrument movesGroup within positionQuestions
 sell-of-a-put = refl
 
 buy-of-a-put : judged (linesOf none (some (lineOf 9 9 9 9)) 0 0) (pos 0) (order Buy 2 1) ≡ 24
-unfolding sumOver below remaining groupOfInstrument standsIn openOn ofInstrument groupPart sumGroup potential lineInForce limit firstNo movesInstrument movesGroup within positionQuestions
+unfolding sumOver below remaining groupOfInstrument standsIn openOn ofInstrument groupPart sumGroup potential lineInForce limit firstNo
+    movesInstrument movesGroup within positionQuestions
 buy-of-a-put = refl
 
 -- weight 0: no group check
 no-group : judged (linesOf none (some (lineOf 9 9 9 9)) 0 0) (pos 0) (order Sell 3 1) ≡ 0
-unfolding sumOver below remaining groupOfInstrument standsIn openOn ofInstrument groupPart sumGroup potential lineInForce limit firstNo movesInstrument movesGroup within positionQuestions
+unfolding sumOver below remaining groupOfInstrument standsIn openOn ofInstrument groupPart sumGroup potential lineInForce limit firstNo
+    movesInstrument movesGroup within positionQuestions
 no-group = refl
 
 -- also where the group is past its limit already
 no-group-past : judged (linesOf none (some (lineOf 9 9 9 9)) 0 0) (pos 1) (order Buy 3 1) ≡ 0
-unfolding sumOver below remaining groupOfInstrument standsIn openOn ofInstrument groupPart sumGroup potential lineInForce limit firstNo movesInstrument movesGroup within positionQuestions
+unfolding sumOver below remaining groupOfInstrument standsIn openOn ofInstrument groupPart sumGroup potential lineInForce limit firstNo
+    movesInstrument movesGroup within positionQuestions
 no-group-past = refl
 
 -- a limit that was lowered below the position on one side does not bear on the other
 lowered : judged (linesOf none (some (lineOf 9 9 0 9)) 99 99) (pos 50) (order Sell 1 5) ≡ 0
-unfolding sumOver below remaining groupOfInstrument standsIn openOn ofInstrument groupPart sumGroup potential lineInForce limit firstNo movesInstrument movesGroup within positionQuestions
+unfolding sumOver below remaining groupOfInstrument standsIn openOn ofInstrument groupPart sumGroup potential lineInForce limit firstNo
+    movesInstrument movesGroup within positionQuestions
 lowered = refl

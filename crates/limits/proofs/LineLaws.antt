@@ -20,11 +20,13 @@ module _ (r : Roster) (ls : Lines) where
   default-in-force i e = rw e
 
   -- the limit that a line sets, in the place's unit
-  pub limit-of-instrument : (i : ℕ) (w : Way) (l : Line) → lineInForce r ls i ≡ some l → limit r ls (instrument i) w ≡ pos (largestPosition w l)
+  pub limit-of-instrument : (i : ℕ) (w : Way) (l : Line) → lineInForce r ls i ≡ some l
+      → limit r ls (instrument i) w ≡ pos (largestPosition w l)
   unfolding limit
   limit-of-instrument i w l e = rw e
 
-  pub limit-of-group : (g : ℕ) (w : Way) (l : GroupLine) → ls .lineOfGroup g ≡ some l → limit r ls (group g) w ≡ pos (10000 * largestOfGroup w l)
+  pub limit-of-group : (g : ℕ) (w : Way) (l : GroupLine) → ls .lineOfGroup g ≡ some l
+      → limit r ls (group g) w ≡ pos (10000 * largestOfGroup w l)
   unfolding limit
   limit-of-group g w l e = rw e
 

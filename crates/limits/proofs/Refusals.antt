@@ -11,8 +11,8 @@ use lib.Signed.{_≤ℤ_, _<ℤ_}
 use Rattle.integers.specs.Parts.{signed}
 use Rattle.ledger.specs.declared.order.Order.{Order}
 use Rattle.ledger.specs.Roster.{Roster, groupOfInstrument}
-use Rattle.ledger.specs.Positions.{Way, long, short, Place, instrument, group, potential, position}
-use Rattle.ledger.specs.Fillings.{Filling, after}
+use Rattle.ledger.specs.Positions.{Way, long, short, Scope, instrument, group, potential, position}
+use Rattle.ledger.specs.Fillings.{Filling, balanceAfter}
 use Rattle.ledger.specs.Moves.{Moves}
 use Rattle.ledger.proofs.Reached.{past-iff}
 use Rattle.limits.specs.Lines.{Lines, limit}
@@ -38,7 +38,8 @@ one-fails false y z t h = inl refl
 one-fails true false z t h = inr (inl refl)
 one-fails true true false t h = inr (inr (inl refl))
 one-fails true true true false h = inr (inr (inr refl))
-one-fails true true true true h = absurd (⊎-elim (λ e. omega arith) (⊎-elim (λ e. omega arith) (⊎-elim (λ e. omega arith) (λ e. omega arith))) h)
+one-fails true true true true h =
+    absurd (⊎-elim (λ e. omega arith) (⊎-elim (λ e. omega arith) (⊎-elim (λ e. omega arith) (λ e. omega arith))) h)
 
 fails-one : (x y z t : Bool) → (x ≡ true → y ≡ true → z ≡ true → t ≡ true → ⊥) → PositionNumber (four x y z t)
 unfolding four
@@ -50,33 +51,34 @@ fails-one true true true true h = absurd (h refl refl refl refl)
 
 module _ (unit : Order → ℕ) (r : Roster) (ls : Lines) (orders : List Order) (S : ℕ → ℤ) (o : Order) where
   -- a limit is passed, on a side to which the order moves the position
-  abbrev Past : Place → Way → Type 0
+  abbrev Past : Scope → Way → Type 0
   Past p w = limit r ls p w <ℤ potential unit r orders (o .account) S p w
 
   -- some filling of the orders passes a limit on a side to which the order's own fills move the position
   abbrev pub SomePasses : Type 0
   SomePasses =
-      (p : Place) × (w : Way) × Moves r o p w × ((f : Filling orders) × (limit r ls p w <ℤ position r (after unit (o .account) S f) p w))
+      (p : Scope) × (w : Way) × Moves r o p w × ((f : Filling orders)
+      × (limit r ls p w <ℤ position r (balanceAfter unit (o .account) S f) p w))
 
   -- the test of one question, of a place that the order moves where `moves`
-  abbrev passes : Bool → Place → Way → Bool
+  abbrev passes : Bool → Scope → Way → Bool
   passes moves p w = not moves || within unit r ls orders S o p w
 
-  abbrev ownPlace : Place
+  abbrev ownPlace : Scope
   ownPlace = instrument (o .instrument)
 
-  abbrev ownGroup : Place
+  abbrev ownGroup : Scope
   ownGroup = group (groupOfInstrument r (o .instrument))
 
-  within-le : (p : Place) (w : Way) → within unit r ls orders S o p w ≡ true → potential unit r orders (o .account) S p w ≤ℤ limit r ls p w
+  within-le : (p : Scope) (w : Way) → within unit r ls orders S o p w ≡ true → potential unit r orders (o .account) S p w ≤ℤ limit r ls p w
   unfolding within
   within-le p w e = omega signed
 
-  not-within : (p : Place) (w : Way) → within unit r ls orders S o p w ≡ false → Past p w
+  not-within : (p : Scope) (w : Way) → within unit r ls orders S o p w ≡ false → Past p w
   unfolding within
   not-within p w e = omega signed
 
-  no-past : (moves : Bool) (p : Place) (w : Way) → (moves ≡ true → Moves r o p w) → passes moves p w ≡ false → Moves r o p w × Past p w
+  no-past : (moves : Bool) (p : Scope) (w : Way) → (moves ≡ true → Moves r o p w) → passes moves p w ≡ false → Moves r o p w × Past p w
   no-past moves p w m e =
       let h = asked-false moves (within unit r ls orders S o p w) e in
       (m (h .0), not-within p w (h .1))
@@ -88,18 +90,23 @@ module _ (unit : Order → ℕ) (r : Roster) (ls : Lines) (orders : List Order) 
   abbrev groupPasses : Way → Bool
   groupPasses w = passes (movesGroup r o w) ownGroup w
 
-  questions-four : firstNo (positionQuestions unit r ls orders S o) ≡ four (instrumentPasses long) (instrumentPasses short) (groupPasses long) (groupPasses short)
+  questions-four : firstNo (positionQuestions unit r ls orders S o) ≡ four (instrumentPasses long) (instrumentPasses short)
+      (groupPasses long) (groupPasses short)
   unfolding firstNo positionQuestions four
   questions-four = refl
 
   -- where all four pass, every position that the order moves is within its limit
-  all-within : ((w : Way) → instrumentPasses w ≡ true) → ((w : Way) → groupPasses w ≡ true) → (p : Place) (w : Way) → Moves r o p w → potential unit r orders (o .account) S p w ≤ℤ limit r ls p w
+  all-within : ((w : Way) → instrumentPasses w ≡ true) → ((w : Way) → groupPasses w ≡ true) → (p : Scope) (w : Way) → Moves r o p w
+      → potential unit r orders (o .account) S p w ≤ℤ limit r ls p w
   all-within yi yg (instrument i) w m =
-      rw (← m .0) (within-le ownPlace w (asked-true (movesInstrument o w) (within unit r ls orders S o ownPlace w) (yi w) (moves-instrument r o w .1 (refl, m .1))))
+      rw (← m .0) (within-le ownPlace w (asked-true (movesInstrument o w) (within unit r ls orders S o ownPlace w) (yi w)
+      (moves-instrument r o w .1 (refl, m .1))))
   all-within yi yg (group g) w m =
-      rw (← m .0) (within-le ownGroup w (asked-true (movesGroup r o w) (within unit r ls orders S o ownGroup w) (yg w) (moves-group r o w .1 (refl, m .1, m .2))))
+      rw (← m .0) (within-le ownGroup w (asked-true (movesGroup r o w) (within unit r ls orders S o ownGroup w) (yg w)
+      (moves-group r o w .1 (refl, m .1, m .2))))
 
-  pub accepted-within : firstNo (positionQuestions unit r ls orders S o) ≡ 0 → (p : Place) (w : Way) → Moves r o p w → potential unit r orders (o .account) S p w ≤ℤ limit r ls p w
+  pub accepted-within : firstNo (positionQuestions unit r ls orders S o) ≡ 0 → (p : Scope) (w : Way) → Moves r o p w
+      → potential unit r orders (o .account) S p w ≤ℤ limit r ls p w
   unfolding positionQuestions
   accepted-within e =
       let qs = positionQuestions unit r ls orders S o in
@@ -109,7 +116,7 @@ module _ (unit : Order → ℕ) (r : Roster) (ls : Lines) (orders : List Order) 
   pub refused-iff : PositionNumber (firstNo (positionQuestions unit r ls orders S o)) ↔ SomePasses
   refused-iff = (there, back)
     where
-      some-past : (p : Place) (w : Way) → Moves r o p w × Past p w → SomePasses
+      some-past : (p : Scope) (w : Way) → Moves r o p w × Past p w → SomePasses
       some-past p w h = (p, w, h .0, past-iff unit r orders (o .account) S p w (limit r ls p w) .0 (h .1))
 
       instrument-no : (w : Way) → instrumentPasses w ≡ false → SomePasses

@@ -8,7 +8,7 @@ use lib.Signed.{leZ}
 use Rattle.ledger.specs.declared.order.Order.{Order}
 use Rattle.ledger.specs.declared.order.Side.{Side}
 use Rattle.ledger.specs.Roster.{Roster, groupOfInstrument}
-use Rattle.ledger.specs.Positions.{Way, long, short, Place, instrument, group, sameSide, wayOf, wayBy, potential}
+use Rattle.ledger.specs.Positions.{Way, long, short, Scope, instrument, group, sameSide, wayOf, wayBy, potential}
 use Rattle.limits.specs.Lines.{Lines, largestOrder, lineInForce, figure, isSet, limit}
 use Rattle.limits.specs.Questions.{Question}
 
@@ -41,7 +41,7 @@ movesGroup r o w =
     not (isZero (r .weight (o .instrument))) && sameWay (wayBy (r .weight (o .instrument)) (wayOf (o .side))) w
 
 -- is the potential position of a place of the order's account, with the event applied, at most its limit on that side
-unfoldable pub within : (Order → ℕ) → Roster → Lines → List Order → (ℕ → ℤ) → Order → Place → Way → Bool
+unfoldable pub within : (Order → ℕ) → Roster → Lines → List Order → (ℕ → ℤ) → Order → Scope → Way → Bool
 within unit r ls orders S o p w = leZ (potential unit r orders (o .account) S p w) (limit r ls p w)
 
 -- 21 to 24: of the sides that the order moves, is each position within its limit? `orders` and S are with the event applied

@@ -6,7 +6,7 @@ use lib.IntN.{ℤ, pos, negsuc, _*ℤ_}
 use Rattle.ledger.specs.declared.order.Side.{Side}
 use Rattle.ledger.specs.declared.order.Side.the-variants.{Buy, Sell}
 use Rattle.ledger.specs.Roster.{Roster}
-use Rattle.ledger.specs.Positions.{Way, long, short, Place, instrument, group}
+use Rattle.ledger.specs.Positions.{Way, long, short, Scope, instrument, group}
 
 -- an instrument's line, or a contract's default line
 pub record Line : Type 0 where
@@ -58,6 +58,6 @@ isSet (some l) = true
 isSet none = false
 
 -- the limit of a place on a side, in the place's unit: a group limit is multiplied by 10,000
-unfoldable pub limit : Roster → Lines → Place → Way → ℤ
+unfoldable pub limit : Roster → Lines → Scope → Way → ℤ
 limit r ls (instrument i) w = figure (largestPosition w) (lineInForce r ls i)
 limit r ls (group g) w = pos 10000 *ℤ figure (largestOfGroup w) (ls .lineOfGroup g)

@@ -20,7 +20,8 @@ use Rattle.opening.proofs.Written.{written-same}
 
 -- ---- the roster, as it is written
 module _ (m s : List ℕ) where
-  pub roster-is : withRoster m (rosterFrom s) ≡ weightsWritten s 44 (4 + u16At s 4 + u16At s 6) (bytesWritten s 12 (7 + u16At s 4) (bytesWritten s 4 7 (withSizes m (rosterFrom s)) (u16At s 4)) (u16At s 6)) (u16At s 6)
+  pub roster-is : withRoster m (rosterFrom s) ≡ weightsWritten s 44 (4 + u16At s 4 + u16At s 6)
+      (bytesWritten s 12 (7 + u16At s 4) (bytesWritten s 4 7 (withSizes m (rosterFrom s)) (u16At s 4)) (u16At s 6)) (u16At s 6)
   unfolding withRoster rosterFrom listed
   roster-is =
       let c : ℕ = u16At s 4 in
@@ -38,7 +39,9 @@ module _ (m s : List ℕ) where
       (λ l k. putWord l (4 + k) (u8At s (7 + k))) sized c
       (λ l k low high. rw (numbered-between c k (low, high)))))
 
-  pub roster-written : (c i : ℕ) (sized grouped named weighed : List ℕ) → c ≡ u16At s 4 → i ≡ u16At s 6 → sized ≡ withSizes m (rosterFrom s) → grouped ≡ bytesWritten s 4 7 sized c → named ≡ bytesWritten s 12 (7 + c) grouped i → weighed ≡ weightsWritten s 44 (4 + c + i) named i → weighed ≡ withRoster m (rosterFrom s)
+  pub roster-written : (c i : ℕ) (sized grouped named weighed : List ℕ) → c ≡ u16At s 4 → i ≡ u16At s 6 → sized ≡ withSizes m (rosterFrom s)
+      → grouped ≡ bytesWritten s 4 7 sized c → named ≡ bytesWritten s 12 (7 + c) grouped i
+      → weighed ≡ weightsWritten s 44 (4 + c + i) named i → weighed ≡ withRoster m (rosterFrom s)
   roster-written c i sized grouped named weighed ec ei e1 e2 e3 e4 =
       e4 ∙ rw (e3, e2, e1, ec, ei) (sym roster-is)
 
@@ -85,7 +88,8 @@ module _ (m s : List ℕ) where
           unfolding openingAnswer openingQuestions firstNo longEnough
           passed = rw (le-leb 65536 (length m) long, sizes, names, weights)
 
-          pub accepted : (bare kind after : List ℕ) → bare ≡ cleared m memoryWords → kind ≡ putWord bare kindWord 1 → after ≡ withRoster kind (rosterFrom s) → (0 ≡ openingAnswer m s) × (after ≡ afterOpening m s)
+          pub accepted : (bare kind after : List ℕ) → bare ≡ cleared m memoryWords → kind ≡ putWord bare kindWord 1
+              → after ≡ withRoster kind (rosterFrom s) → (0 ≡ openingAnswer m s) × (after ≡ afterOpening m s)
           unfolding afterOpening opened
           accepted bare kind after e1 e2 e3 = (
             sym passed,

@@ -17,7 +17,7 @@ use Rattle.words.proofs.Runs.{bytes-puts}
 use Rattle.ledger.specs.Roster.{Numbered}
 use Rattle.limits.proofs.Answers.{both-true, zero-pass, pass-each}
 use Rattle.book.specs.Decoding.{between}
-use Rattle.book.specs.Kept.{begun}
+use Rattle.book.specs.EventLists.{begun}
 use Rattle.book.proofs.Tables.{between-numbered}
 use Rattle.layout.specs.Layout.{memoryWords, kindWord}
 use Rattle.layout.specs.Rosters.{listed, every, longEnough}
@@ -42,8 +42,10 @@ pub record Accepted (m s : List ℕ) : Type 0 where
 pub accepted-out : (m s : List ℕ) → openingAnswer m s ≡ 0 → Accepted m s
 unfolding openingAnswer openingQuestions longEnough bytesWithin weightsWithin
 accepted-out m s e =
-    let h = pass-each (openingQuestions m s) (zero-pass (openingQuestions m s) (omega arith, (omega arith, (omega arith, (omega arith, tt)))) e) in
-    let names = both-true (every (u16At s 4) (λ k. between 1 (u16At s 2) (u8At s (7 + k)))) (every (u16At s 6) (λ k. between 1 (u16At s 4) (u8At s (7 + u16At s 4 + k)))) (sym (names-by s) ∙ h .1 .1 .0) in
+    let h = pass-each (openingQuestions m s) (zero-pass (openingQuestions m s)
+    (omega arith, (omega arith, (omega arith, (omega arith, tt)))) e) in
+    let names = both-true (every (u16At s 4) (λ k. between 1 (u16At s 2) (u8At s (7 + k))))
+    (every (u16At s 6) (λ k. between 1 (u16At s 4) (u8At s (7 + u16At s 4 + k)))) (sym (names-by s) ∙ h .1 .1 .0) in
     record {
       long = leb-true 65536 (length m) (h .0);
       sizes = lengths-out s (h .1 .0);
@@ -78,7 +80,8 @@ module _ (m s : List ℕ) where
       written-bytes (λ l i. putSigned l (44 + i) (r .weight i)) (λ l k. bytes-signed l (44 + k) (r .weight k)) _ (r .instruments)
       (written-bytes (λ l i. putWord l (12 + i) (r .contractOf i)) (λ l k. bytes-put l (12 + k) (r .contractOf k)) _ (r .instruments)
       (written-bytes (λ l c. putWord l (4 + c) (r .groupOf c)) (λ l k. bytes-put l (4 + k) (r .groupOf k)) _ (r .contracts)
-      (bytes-puts bare 1 (r .accounts ∷ r .groups ∷ r .contracts ∷ r .instruments ∷ []) (bytes-put (cleared m memoryWords) kindWord 1 (cleared-bytes m memoryWords bytes)))))
+      (bytes-puts bare 1 (r .accounts ∷ r .groups ∷ r .contracts ∷ r .instruments ∷ [])
+      (bytes-put (cleared m memoryWords) kindWord 1 (cleared-bytes m memoryWords bytes)))))
 
   -- ---- an accepted one
   module _ (ok : Accepted m s) where

@@ -83,13 +83,16 @@ module _ (s l : List ℕ) (long : 65536 ≤ length l) (sizes : Lengths s) where
   named = bytesWritten s 12 (7 + u16At s 4) grouped (u16At s 6)
 
   grouped-length : length grouped ≡ length l
-  grouped-length = groups-keep length length-kept s (withSizes l (rosterFrom s)) (u16At s 4) (omega arith) ∙ sizes-keep length length-kept l (rosterFrom s)
+  grouped-length =
+      groups-keep length length-kept s (withSizes l (rosterFrom s)) (u16At s 4) (omega arith)
+      ∙ sizes-keep length length-kept l (rosterFrom s)
 
   named-length : length named ≡ length l
   named-length = contracts-keep length length-kept s grouped (7 + u16At s 4) (u16At s 6) (omega arith) ∙ grouped-length
 
   -- words 1 to 4: the sizes
-  pub size-word : (j : ℕ) → j < 4 → wordAt (withRoster l (rosterFrom s)) (1 + j) ≡ getD (u16At s 0 ∷ u16At s 2 ∷ u16At s 4 ∷ u16At s 6 ∷ []) j 0
+  pub size-word : (j : ℕ) → j < 4 → wordAt (withRoster l (rosterFrom s)) (1 + j) ≡ getD (u16At s 0 ∷ u16At s 2 ∷ u16At s 4 ∷ u16At s 6 ∷ [])
+      j 0
   unfolding withSizes rosterFrom listed
   size-word j h =
       let vs : List ℕ = u16At s 0 ∷ u16At s 2 ∷ u16At s 4 ∷ u16At s 6 ∷ [] in
@@ -100,7 +103,8 @@ module _ (s l : List ℕ) (long : 65536 ≤ length l) (sizes : Lengths s) where
       (λ x k low high. word-put-other x (12 + k) (u8At s (7 + u16At s 4 + k)) (1 + j) (λ e. omega arith))
       ∙ written-keeps (λ x k. putWord x (4 + k) (u8At s (7 + k))) (λ x. wordAt x (1 + j)) (putWords l 1 vs) (u16At s 4)
       (λ x k low high. word-put-other x (4 + k) (u8At s (7 + k)) (1 + j) (λ e. omega arith))
-      ∙ word-puts-same l 1 vs j (omega arith) (four-small (u16At s 0) (u16At s 2) (u16At s 4) (u16At s 6) (omega arith) (omega arith) (omega arith) (omega arith)) h
+      ∙ word-puts-same l 1 vs j (omega arith) (four-small (u16At s 0) (u16At s 2) (u16At s 4) (u16At s 6) (omega arith) (omega arith)
+      (omega arith) (omega arith)) h
 
   -- words 5 to 12: the groups of the contracts
   pub group-word : (k : ℕ) → 1 ≤ k → k ≤ u16At s 4 → u8At s (7 + k) < 2 ^ 64 → wordAt (withRoster l (rosterFrom s)) (4 + k) ≡ u8At s (7 + k)
@@ -117,22 +121,26 @@ module _ (s l : List ℕ) (long : 65536 ≤ length l) (sizes : Lengths s) where
       (u16At s 4) low high
 
   -- words 13 to 44: the contracts of the instruments
-  pub contract-word : (k : ℕ) → 1 ≤ k → k ≤ u16At s 6 → u8At s (7 + u16At s 4 + k) < 2 ^ 64 → wordAt (withRoster l (rosterFrom s)) (12 + k) ≡ u8At s (7 + u16At s 4 + k)
+  pub contract-word : (k : ℕ) → 1 ≤ k → k ≤ u16At s 6 → u8At s (7 + u16At s 4 + k) < 2 ^ 64
+      → wordAt (withRoster l (rosterFrom s)) (12 + k) ≡ u8At s (7 + u16At s 4 + k)
   contract-word k low high small =
       ap (λ x. wordAt x (12 + k)) (roster-is l s)
       ∙ written-keeps (λ x j. putSigned x (44 + j) (i32At s (4 + u16At s 4 + u16At s 6 + 4 * j))) (λ x. wordAt x (12 + k)) named (u16At s 6)
       (λ x j jl jh. word-signed-other x (44 + j) (i32At s (4 + u16At s 4 + u16At s 6 + 4 * j)) (12 + k) (λ e. omega arith))
-      ∙ written-there (λ x j. putWord x (12 + j) (u8At s (7 + u16At s 4 + j))) (λ x. wordAt x (12 + k)) (u8At s (7 + u16At s 4 + k)) grouped k
+      ∙ written-there (λ x j. putWord x (12 + j) (u8At s (7 + u16At s 4 + j))) (λ x. wordAt x (12 + k))
+      (u8At s (7 + u16At s 4 + k)) grouped k
       (λ x e. word-put-same x (12 + k) (u8At s (7 + u16At s 4 + k)) (omega (arith, grouped-length)) small)
       (λ x j other. word-put-other x (12 + j) (u8At s (7 + u16At s 4 + j)) (12 + k) (λ e. other (omega arith)))
       (λ x j. length-put x (12 + j) (u8At s (7 + u16At s 4 + j)))
       (u16At s 6) low high
 
   -- words 45 to 76: the weights
-  pub weight-word : (k : ℕ) → 1 ≤ k → k ≤ u16At s 6 → SFits w64 (i32At s (4 + u16At s 4 + u16At s 6 + 4 * k)) → signedAt (withRoster l (rosterFrom s)) (44 + k) ≡ i32At s (4 + u16At s 4 + u16At s 6 + 4 * k)
+  pub weight-word : (k : ℕ) → 1 ≤ k → k ≤ u16At s 6 → SFits w64 (i32At s (4 + u16At s 4 + u16At s 6 + 4 * k))
+      → signedAt (withRoster l (rosterFrom s)) (44 + k) ≡ i32At s (4 + u16At s 4 + u16At s 6 + 4 * k)
   weight-word k low high small =
       ap (λ x. signedAt x (44 + k)) (roster-is l s)
-      ∙ written-there (λ x j. putSigned x (44 + j) (i32At s (4 + u16At s 4 + u16At s 6 + 4 * j))) (λ x. signedAt x (44 + k)) (i32At s (4 + u16At s 4 + u16At s 6 + 4 * k)) named k
+      ∙ written-there (λ x j. putSigned x (44 + j) (i32At s (4 + u16At s 4 + u16At s 6 + 4 * j))) (λ x. signedAt x (44 + k))
+      (i32At s (4 + u16At s 4 + u16At s 6 + 4 * k)) named k
       (λ x e. signed-put-same x (44 + k) (i32At s (4 + u16At s 4 + u16At s 6 + 4 * k)) (omega (arith, named-length)) small)
       (λ x j other. signed-put-other x (44 + j) (i32At s (4 + u16At s 4 + u16At s 6 + 4 * j)) (44 + k) (λ e. other (omega arith)))
       (λ x j. length-signed x (44 + j) (i32At s (4 + u16At s 4 + u16At s 6 + 4 * j)))

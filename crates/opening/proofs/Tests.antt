@@ -83,7 +83,8 @@ module _ (s : List ℕ) where
   pub lengths-short : length s < 8 → lengthsFit s ≡ false
   unfolding lengthsFit rosterLength rosterFrom listed
   lengths-short h =
-      and-no (sizesFit (rosterFrom s)) (eqb (length s) (8 + u16At s 4 + 5 * u16At s 6)) (ne-eqb (length s) (8 + u16At s 4 + 5 * u16At s 6) (λ e. omega arith))
+      and-no (sizesFit (rosterFrom s)) (eqb (length s) (8 + u16At s 4 + 5 * u16At s 6))
+      (ne-eqb (length s) (8 + u16At s 4 + 5 * u16At s 6) (λ e. omega arith))
 
   -- one size after the other, and the length last
   module _ (a g c i : ℕ) (ea : a ≡ u16At s 0) (eg : g ≡ u16At s 2) (ec : c ≡ u16At s 4) (ei : i ≡ u16At s 6) where
@@ -107,7 +108,9 @@ module _ (s : List ℕ) where
   lengths-instruments i e no-here =
       lengths-by (u16At s 0) (u16At s 2) (u16At s 4) i refl refl refl e ∙ simp (no-here, and-false)
 
-  pub lengths-exact : (a g c i d j : ℕ) → a ≡ u16At s 0 → g ≡ u16At s 2 → c ≡ u16At s 4 → i ≡ u16At s 6 → between 1 16 a ≡ true → between 1 4 g ≡ true → between 1 8 c ≡ true → between 1 32 i ≡ true → d ≡ u16At s 4 → j ≡ u16At s 6 → eqb (length s) (8 + d + 5 * j) ≡ lengthsFit s
+  pub lengths-exact : (a g c i d j : ℕ) → a ≡ u16At s 0 → g ≡ u16At s 2 → c ≡ u16At s 4 → i ≡ u16At s 6 → between 1 16 a ≡ true
+      → between 1 4 g ≡ true → between 1 8 c ≡ true → between 1 32 i ≡ true → d ≡ u16At s 4 → j ≡ u16At s 6
+      → eqb (length s) (8 + d + 5 * j) ≡ lengthsFit s
   lengths-exact a g c i d j ea eg ec ei ya yg yc yi ed ej =
       let same-c : d ≡ c = ed ∙ sym ec in
       let same-i : j ≡ i = ej ∙ sym ei in
@@ -119,7 +122,8 @@ module _ (s : List ℕ) where
       let sizes = lengths-out e in
       omega arith
 
-  pub names-by : namesFit (rosterFrom s) ≡ (bytesWithin s 7 (u16At s 4) (u16At s 2) && bytesWithin s (7 + u16At s 4) (u16At s 6) (u16At s 4))
+  pub names-by : namesFit (rosterFrom s) ≡ (bytesWithin s 7 (u16At s 4) (u16At s 2) && bytesWithin s (7 + u16At s 4) (u16At s 6)
+      (u16At s 4))
   unfolding namesFit rosterFrom listed bytesWithin
   names-by =
       rw (
@@ -131,12 +135,14 @@ module _ (s : List ℕ) where
             (u16At s 6) (λ k h. rw (numbered-between (u16At s 6) k h)),
       )
 
-  pub names-first : (c g : ℕ) (t : Bool) → c ≡ u16At s 4 → g ≡ u16At s 2 → t ≡ bytesWithin s 7 c g → t ≡ false → false ≡ namesFit (rosterFrom s)
+  pub names-first : (c g : ℕ) (t : Bool) → c ≡ u16At s 4 → g ≡ u16At s 2 → t ≡ bytesWithin s 7 c g → t ≡ false
+      → false ≡ namesFit (rosterFrom s)
   names-first c g t ec eg e failed =
       let first : bytesWithin s 7 (u16At s 4) (u16At s 2) ≡ false = rw (← ec, ← eg) (sym e ∙ failed) in
       sym (names-by ∙ simp first)
 
-  pub names-second : (c g i : ℕ) (t : Bool) → c ≡ u16At s 4 → g ≡ u16At s 2 → i ≡ u16At s 6 → t ≡ bytesWithin s 7 c g → t ≡ true → bytesWithin s (7 + c) i c ≡ namesFit (rosterFrom s)
+  pub names-second : (c g i : ℕ) (t : Bool) → c ≡ u16At s 4 → g ≡ u16At s 2 → i ≡ u16At s 6 → t ≡ bytesWithin s 7 c g → t ≡ true
+      → bytesWithin s (7 + c) i c ≡ namesFit (rosterFrom s)
   names-second c g i t ec eg ei e passed =
       let first : bytesWithin s 7 (u16At s 4) (u16At s 2) ≡ true = rw (← ec, ← eg) (sym e ∙ passed) in
       sym (names-by ∙ simp (first, ec, ei))

@@ -71,7 +71,8 @@ module _ (put : List ℕ → ℕ → List ℕ) where
   written-bytes kept m (suc n) bytes = kept (written put m n) (suc n) (written-bytes kept m n bytes)
 
   -- what no store of the run changes is as it was
-  pub written-keeps : {A : Type 0} (of : List ℕ → A) (m : List ℕ) (n : ℕ) → ((l : List ℕ) (k : ℕ) → 1 ≤ k → k ≤ n → of (put l k) ≡ of l) → of (written put m n) ≡ of m
+  pub written-keeps : {A : Type 0} (of : List ℕ → A) (m : List ℕ) (n : ℕ) → ((l : List ℕ) (k : ℕ) → 1 ≤ k → k ≤ n → of (put l k) ≡ of l)
+      → of (written put m n) ≡ of m
   unfolding written
   written-keeps of m zero same = refl
   written-keeps of m (suc n) same =
@@ -79,16 +80,20 @@ module _ (put : List ℕ → ℕ → List ℕ) where
       ∙ written-keeps of m n (λ l k low high. same l k low (omega arith))
 
   -- what number k writes, and no other number changes, stands there at the end
-  pub written-there : {A : Type 0} (of : List ℕ → A) (x : A) (m : List ℕ) (k : ℕ) → ((l : List ℕ) → length l ≡ length m → of (put l k) ≡ x) → ((l : List ℕ) (j : ℕ) → j ≢ k → of (put l j) ≡ of l) → ((l : List ℕ) (j : ℕ) → length (put l j) ≡ length l) → (n : ℕ) → 1 ≤ k → k ≤ n → of (written put m n) ≡ x
+  pub written-there : {A : Type 0} (of : List ℕ → A) (x : A) (m : List ℕ) (k : ℕ) → ((l : List ℕ) → length l ≡ length m → of (put l k) ≡ x)
+      → ((l : List ℕ) (j : ℕ) → j ≢ k → of (put l j) ≡ of l) → ((l : List ℕ) (j : ℕ) → length (put l j) ≡ length l) → (n : ℕ) → 1 ≤ k
+      → k ≤ n → of (written put m n) ≡ x
   unfolding written
   written-there of x m k here others long zero low high = absurd (omega arith)
-  written-there of x m k here others long (suc n) low high = by (ℕ-discrete k (suc n)) (λ g. written-there of x m k here others long n low g)
+  written-there of x m k here others long (suc n) low high =
+      by (ℕ-discrete k (suc n)) (λ g. written-there of x m k here others long n low g)
     where
       by : Dec (k ≡ suc n) → (k ≤ n → of (written put m n) ≡ x) → of (put (written put m n) (suc n)) ≡ x
       by (yes same) before = rw (← same) (here (written put m n) (written-length long m n))
       by (no other) before = others (written put m n) (suc n) (λ e. other (sym e)) ∙ before (omega (arith, other))
 
-pub written-same : (f g : List ℕ → ℕ → List ℕ) (m : List ℕ) (n : ℕ) → ((l : List ℕ) (k : ℕ) → 1 ≤ k → k ≤ n → f l k ≡ g l k) → written f m n ≡ written g m n
+pub written-same : (f g : List ℕ → ℕ → List ℕ) (m : List ℕ) (n : ℕ) → ((l : List ℕ) (k : ℕ) → 1 ≤ k → k ≤ n → f l k ≡ g l k)
+    → written f m n ≡ written g m n
 unfolding written
 written-same f g m zero same = refl
 written-same f g m (suc n) same =

@@ -12,12 +12,12 @@ use Rattle.opening.specs.declared.Opening.the-variants.{Opened, MemoryTo
 use Rattle.opening.specs.Questions.{rosterFrom, openingAnswer}
 
 -- the number of an answer
-unfoldable pub numberOf : Opening → ℕ
-numberOf Opened = 0
-numberOf MemoryTooShort = 1
-numberOf WrongSizes = 2
-numberOf UnknownName = 3
-numberOf WeightOutOfRange = 4
+unfoldable pub openingNumber : Opening → ℕ
+openingNumber Opened = 0
+openingNumber MemoryTooShort = 1
+openingNumber WrongSizes = 2
+openingNumber UnknownName = 3
+openingNumber WeightOutOfRange = 4
 
 -- words 0 to n − 1 made 0
 unfoldable pub cleared : List ℕ → ℕ → List ℕ

@@ -4,7 +4,7 @@ pub mod writing;
 
 ghost use mathlib.Core.Path.{_≡_};
 ghost use Rattle.opening.specs.Questions.{openingAnswer};
-ghost use Rattle.opening.specs.Opening.{afterOpening, numberOf};
+ghost use Rattle.opening.specs.Opening.{afterOpening, openingNumber};
 use crate::questions::lengths_fit;
 use crate::questions::names_fit;
 use crate::questions::weights_fit;
@@ -25,7 +25,7 @@ pub enum Opening {
 
 // Opens a desk in `m` from the roster's bytes. A refusal leaves `m` as it was.
 pub fn open_desk(m: &mut [u8], roster: &[u8]) -> Opening
-    ensures answer { λ r. ⌜ numberOf r ≡ openingAnswer (now (m .entry)) (now (roster .entry)) ⌝ }
+    ensures answer { λ r. ⌜ openingNumber r ≡ openingAnswer (now (m .entry)) (now (roster .entry)) ⌝ }
     ensures memory { λ r. ⌜ now (m .exit) ≡ afterOpening (now (m .entry)) (now (roster .entry)) ⌝ }
 {
     if m.len() < MEMORY_BYTES {

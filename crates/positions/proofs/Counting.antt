@@ -85,7 +85,8 @@ module _ (m : List ℕ) (n : ℕ) (s : Side) (a i : ℕ) where
   left-nonneg p = open-nonneg (ordersFrom m p (n - p)) s a i
 
   -- what is counted, with what is left, makes the whole
-  pub counted-more : (x p r : ℕ) (o : Order) → p < n → o ≡ orderAt m p → r ≡ counted o s a i → pos x +ℤ left p ≡ left 0 → pos (x + r) +ℤ left (p + 1) ≡ left 0
+  pub counted-more : (x p r : ℕ) (o : Order) → p < n → o ≡ orderAt m p → r ≡ counted o s a i → pos x +ℤ left p ≡ left 0
+      → pos (x + r) +ℤ left (p + 1) ≡ left 0
   counted-more x p r o h here e whole =
       let turn : left p ≡ pos r +ℤ left (p + 1) = rw (e, here) (left-turn p h) in
       omega (signed, sum-parts (pos x) (left p), sum-parts (pos r) (left (p + 1)), sum-parts (pos (x + r)) (left (p + 1)))
@@ -106,14 +107,23 @@ counted-most o s a i = by (sameSide (o .side) s && standsIn a i o)
     by true = omega arith
     by false = omega arith
 
-small-from : (m : List ℕ) (most : ℕ) (s : Side) (a i n p : ℕ) → ((q : ℕ) → q < p + n → remaining (orderAt m q) ≤ most) → natAbs (openOn one (ordersFrom m p n) s a i) ≤ n * most
+small-from : (m : List ℕ) (most : ℕ) (s : Side) (a i n p : ℕ) → ((q : ℕ) → q < p + n → remaining (orderAt m q) ≤ most)
+    → natAbs (openOn one (ordersFrom m p n) s a i) ≤ n * most
 unfolding ordersFrom
 small-from m most s a i zero p small = rw (open-none s a i) (omega arith)
 small-from m most s a i (suc n) p small =
     let o = orderAt m p in
     let rest = openOn one (ordersFrom m (p + 1) n) s a i in
-    omega (arith, ap natAbs (open-more o s a i (ordersFrom m (p + 1) n)), magnitude-sum (pos (counted o s a i)) rest, counted-most o s a i, small p (omega arith), small-from m most s a i n (p + 1) (λ q h. small q (omega arith)))
+    omega (
+      arith,
+      ap natAbs (open-more o s a i (ordersFrom m (p + 1) n)),
+      magnitude-sum (pos (counted o s a i)) rest,
+      counted-most o s a i,
+      small p (omega arith),
+      small-from m most s a i n (p + 1) (λ q h. small q (omega arith)),
+    )
 
 -- where what remains of each of the n orders is small, so are B and V
-pub small-orders : (m : List ℕ) (n most : ℕ) → ((p : ℕ) → p < n → remaining (orderAt m p) ≤ most) → (s : Side) (a i : ℕ) → natAbs (openOn one (ordersFrom m 0 n) s a i) ≤ n * most
+pub small-orders : (m : List ℕ) (n most : ℕ) → ((p : ℕ) → p < n → remaining (orderAt m p) ≤ most) → (s : Side) (a i : ℕ)
+    → natAbs (openOn one (ordersFrom m 0 n) s a i) ≤ n * most
 small-orders m n most small s a i = small-from m most s a i n 0 (λ q h. small q (omega arith))

@@ -20,7 +20,7 @@ use Rattle.ledger.specs.declared.order.Side.the-variants.{Buy, Sell}
 use Rattle.ledger.specs.Roster.{Roster, Numbered, groupOfInstrument}
 use Rattle.ledger.specs.Positions.{Way, long, short, group, opposite, sideTo, openOn, ofInstrument, groupPart, sumGroup, potential}
 use Rattle.ledger.specs.Derivatives.{one}
-use Rattle.ledger.proofs.Places.{part-same}
+use Rattle.ledger.proofs.Scopes.{part-same}
 use Rattle.positions.specs.Gathered.{onWay, cell, Gathered, byCells, partByCells, sumByCells}
 
 -- ---- by the sign of the weight

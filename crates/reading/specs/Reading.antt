@@ -4,7 +4,7 @@ use mathlib.Core.Bool.{cond}
 use mathlib.Core.List.{List, [], _∷_}
 use lib.Dec.{eqb}
 use lib.IntN.{ℤ}
-use Rattle.ledger.specs.Positions.{Place, Way, long, short, instrument, group, potential}
+use Rattle.ledger.specs.Positions.{Scope, Way, long, short, instrument, group, potential}
 use Rattle.ledger.specs.Roster.{Numbered}
 use Rattle.limits.specs.Questions.{Question, firstNo}
 use Rattle.book.specs.Decoding.{between}
@@ -12,7 +12,7 @@ use Rattle.book.specs.Market.{derivatives}
 use Rattle.book.specs.Table.{q}
 use Rattle.layout.specs.View.{rosterOf, balancesOf, openOrders}
 use Rattle.soundness.specs.Soundness.{soundDesk}
-use Rattle.soundness.specs.Held.{Held}
+use Rattle.soundness.specs.SoundMemory.{SoundMemory}
 use Rattle.reading.specs.declared.Item.{Item}
 use Rattle.reading.specs.declared.Item.the-variants.{Instrument, Group}
 
@@ -41,7 +41,7 @@ unfoldable pub itemAnswer : List ℕ → ℕ → Item → ℕ
 itemAnswer m a item = firstNo (readingQuestions m (itemsOf m item) a (numberIn item))
 
 -- the potential position that the desk's open orders and balances give
-unfoldable pub positionIn : List ℕ → ℕ → Place → Way → ℤ
+unfoldable pub positionIn : List ℕ → ℕ → Scope → Way → ℤ
 positionIn m a p w = potential (derivatives .unit) (rosterOf m) (openOrders m) a (balancesOf m a) p w
 
 -- S, PCI, PVI
@@ -59,5 +59,5 @@ reported answer report before = cond (eqb answer 0) report before
 
 -- a sound desk, and an account on its roster
 pub record Read (m : List ℕ) (a : ℕ) : Type 0 where
-  pub held : Held m
+  pub held : SoundMemory m
   pub account : Numbered (rosterOf m .accounts) a

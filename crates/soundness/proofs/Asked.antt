@@ -13,11 +13,11 @@ use Rattle.limits.proofs.Answers.{and-true}
 use Rattle.book.specs.Decoding.{between}
 
 -- the answer t to a test u, asked by `!`
-pub said-no : (t u : Bool) → t ≡ u → not t ≡ true → u ≡ false
-said-no t u e h = sym e ∙ not-true t h
+pub answered-no : (t u : Bool) → t ≡ u → not t ≡ true → u ≡ false
+answered-no t u e h = sym e ∙ not-true t h
 
-pub said-yes : (t u : Bool) → t ≡ u → not t ≡ false → u ≡ true
-said-yes t u e h = sym e ∙ not-false t h
+pub answered-yes : (t u : Bool) → t ≡ u → not t ≡ false → u ≡ true
+answered-yes t u e h = sym e ∙ not-false t h
 
 -- two tests that mean the same
 pub same-test : (t u : Bool) → (t ≡ true → u ≡ true) → (t ≡ false → u ≡ false) → t ≡ u

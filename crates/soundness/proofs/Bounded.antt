@@ -24,11 +24,11 @@ use Rattle.layout.specs.Rosters.{listed}
 use Rattle.layout.specs.View.{rosterOf, balancesOf, recordsOf, openOrders, bookOf, tradingOf, view}
 use Rattle.layout.proofs.OrderRecords.{records-long}
 use Rattle.soundness.specs.Cells.{Readable}
-use Rattle.soundness.specs.Held.{Held}
+use Rattle.soundness.specs.SoundMemory.{SoundMemory}
 use Rattle.soundness.proofs.Places.{balance-word}
 use Rattle.soundness.proofs.Records.{remaining-small}
 use Rattle.soundness.proofs.RosterLaws.{roster-long, contract-word, weight-word}
-use Rattle.soundness.proofs.SoundDesk.{all-fit, held-count, held-records}
+use Rattle.soundness.proofs.SoundDesk.{all-fit, sound-count, sound-records}
 
 -- a signed word of a part is one of the whole
 signed-part : (m : List ℕ) (k n j : ℕ) → j < n → signedAt (partOf m k n) j ≡ signedAt m (k + j)
@@ -41,7 +41,8 @@ module _ (m : List ℕ) where
   unfolding rosterOf listed
   instruments-same = refl
 
-  pub contract-same : (i : ℕ) → Numbered (rosterOf m .instruments) i → rosterOf m .contractOf i ≡ rosterIn (partOf m rosterWord 76) .contractOf i
+  pub contract-same : (i : ℕ) → Numbered (rosterOf m .instruments) i
+      → rosterOf m .contractOf i ≡ rosterIn (partOf m rosterWord 76) .contractOf i
   unfolding rosterIn
   contract-same = contract-word m
 
@@ -49,11 +50,18 @@ module _ (m : List ℕ) where
   unfolding rosterIn
   weight-same = weight-word m
 
-module _ (m : List ℕ) (h : Held m) where
-  pub held-readable : Readable m
-  held-readable =
+module _ (m : List ℕ) (h : SoundMemory m) where
+  pub sound-readable : Readable m
+  sound-readable =
       let f = h .book .roster in
-      record { long = h .long; accounts = f .accounts .1; groups = f .groups .1; contracts = f .contracts .1; instruments = f .instruments .1 }
+      record {
+        long = h .long;
+        accounts = f .accounts .1;
+        groups = f .groups .1;
+        contracts = f .contracts .1;
+        instruments =
+            f .instruments .1;
+      }
 
   -- ---- the roster
   pub roster-bounds : RosterBounds (partOf m rosterWord 76) (rosterIn (partOf m rosterWord 76))
@@ -62,13 +70,15 @@ module _ (m : List ℕ) (h : Held m) where
       record {
         long = omega (arith, roster-long m (h .long));
         instruments = omega (arith, instruments-same m, f .instruments .1);
-        contract = λ i l. let on = rw (instruments-same m) at l in let k = rw (contract-same m i on) at (f .contractOf i on) in (k .0, omega (arith, k .1, f .contracts .1));
+        contract =
+            λ i l. let on = rw (instruments-same m) at l in let k = rw (contract-same m i on) at (f .contractOf i on) in
+            (k .0, omega (arith, k .1, f .contracts .1));
         weight = λ i l. let on = rw (instruments-same m) at l in rw (weight-same m i on) at (f .weight i on);
       }
 
   -- ---- the open orders
   pub records-there : wordAt m countWord * 16 ≤ length (recordsOf m)
-  records-there = omega (arith, held-count m h, records-long m (held-records m h))
+  records-there = omega (arith, sound-count m h, records-long m (sound-records m h))
 
   pub order-small : (p : ℕ) → p < wordAt m countWord → remaining (orderAt (recordsOf m) p) ≤ 1000000
   order-small p l =
@@ -77,7 +87,7 @@ module _ (m : List ℕ) (h : Held m) where
   -- B and V
   pub open-small : (s : Side) (a i : ℕ) → natAbs (openOn one (ordersFrom (recordsOf m) 0 (wordAt m countWord)) s a i) ≤ 256000000
   open-small s a i =
-      omega (arith, held-count m h, small-orders (recordsOf m) (wordAt m countWord) 1000000 order-small s a i)
+      omega (arith, sound-count m h, small-orders (recordsOf m) (wordAt m countWord) 1000000 order-small s a i)
 
   pub unfilled-small : (s : Side) (a i : ℕ) → natAbs (openOn one (openOrders m) s a i) ≤ 256000000
   unfolding openOrders
@@ -91,21 +101,32 @@ module _ (m : List ℕ) (h : Held m) where
       let z = balancesOf m a i in
       let bought = openOn unit (openOrders m) Buy a i in
       let sold = openOn unit (openOrders m) Sell a i in
-      omega (signed, h .book .bounded a i long, h .book .bounded a i short, open-nonneg unit Buy a i (openOrders m), open-nonneg unit Sell a i (openOrders m), sum-parts z bought, sum-parts (negℤ z) sold, negation-parts z, magnitude-parts z)
+      omega (
+        signed,
+        h .book .bounded a i long,
+        h .book .bounded a i short,
+        open-nonneg unit Buy a i (openOrders m),
+        open-nonneg unit Sell a i (openOrders m),
+        sum-parts z bought,
+        sum-parts (negℤ z) sold,
+        negation-parts z,
+        magnitude-parts z,
+      )
 
   module _ (a : ℕ) (on : Numbered (rosterOf m .accounts) a) where
     pub row-there : length (partOf m (balanceRow a) 33) ≡ 264
-    row-there = length-part m (balanceRow a) 33 (omega (arith, h .long, held-readable .accounts))
+    row-there = length-part m (balanceRow a) 33 (omega (arith, h .long, sound-readable .accounts))
 
     pub row-balance : (i : ℕ) → Numbered (rosterOf m .instruments) i → signedAt (partOf m (balanceRow a) 33) i ≡ balancesOf m a i
     row-balance i l =
-        signed-part m (balanceRow a) 33 i (omega (arith, held-readable .instruments)) ∙ sym (balance-word m a i on l)
+        signed-part m (balanceRow a) 33 i (omega (arith, sound-readable .instruments)) ∙ sym (balance-word m a i on l)
 
-    pub instrument-bounds : (i : ℕ) → Numbered (rosterOf m .instruments) i → InstrumentBounds (recordsOf m) (wordAt m countWord) (partOf m (balanceRow a) 33) a i
+    pub instrument-bounds : (i : ℕ) → Numbered (rosterOf m .instruments) i
+        → InstrumentBounds (recordsOf m) (wordAt m countWord) (partOf m (balanceRow a) 33) a i
     instrument-bounds i l =
         record {
           orders-long = records-there;
-          balances-long = omega (arith, row-there, held-readable .instruments);
+          balances-long = omega (arith, row-there, sound-readable .instruments);
           small = λ s. omega (arith, open-small s a i, ap natAbs (row-balance i l), balance-small a i);
         }
 
@@ -113,7 +134,7 @@ module _ (m : List ℕ) (h : Held m) where
     gather-bounds =
         record {
           long = records-there;
-          instrument = λ p l. let f = all-fit m h p l in (f .instrument .0, omega (arith, f .instrument .1, held-readable .instruments));
+          instrument = λ p l. let f = all-fit m h p l in (f .instrument .0, omega (arith, f .instrument .1, sound-readable .instruments));
           unfilled = λ s i. omega (arith, open-small s a i);
         }
 

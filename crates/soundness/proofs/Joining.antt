@@ -8,10 +8,11 @@ use lib.Bits.{bitOr}
 use Rattle.integers.specs.Parts.{signed, difference-parts, magnitude-parts}
 use Rattle.integers.specs.TwosComplement.{signedOf, signed-small, signed-large}
 use Rattle.words.proofs.Bits.{or-left, or-right}
-use Rattle.soundness.specs.Cells.{moved}
+use Rattle.soundness.specs.Cells.{offsetWord}
 
 -- one number more: r is at least f of the j numbers from k on, x at least f of the next
-pub joined-more : (f : ℕ → ℕ) (k j r x : ℕ) → ((p : ℕ) → k ≤ p → p < k + j → f p ≤ r) → f (k + j) ≤ x → (p : ℕ) → k ≤ p → p < k + (j + 1) → f p ≤ bitOr r x
+pub joined-more : (f : ℕ → ℕ) (k j r x : ℕ) → ((p : ℕ) → k ≤ p → p < k + j → f p ≤ r) → f (k + j) ≤ x → (p : ℕ) → k ≤ p → p < k + (j + 1)
+    → f p ≤ bitOr r x
 joined-more f k j r x was here p h l = by (ℕ-discrete p (k + j))
   where
     by : Dec (p ≡ k + j) → f p ≤ bitOr r x
@@ -19,7 +20,7 @@ joined-more f k j r x was here p h l = by (ℕ-discrete p (k + j))
     by (no apart) = omega (arith, was p h (omega (arith, apart)), or-left r x)
 
 -- ---- a signed number of 64 bits that is small when moved
-pub moved-small : (n : ℕ) → n < 2 ^ 64 → moved n < 1073741824 → natAbs (signedOf 64 n) ≤ 536870912
+pub moved-small : (n : ℕ) → n < 2 ^ 64 → offsetWord n < 1073741824 → natAbs (signedOf 64 n) ≤ 536870912
 moved-small n word h = by (decLe 9223372036854775808 n)
   where
     by : Dec (9223372036854775808 ≤ n) → natAbs (signedOf 64 n) ≤ 536870912

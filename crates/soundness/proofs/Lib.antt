@@ -12,7 +12,7 @@ pub mod Questions
 pub mod RosterFacts
 pub mod LineFacts
 pub mod OrderFacts
-mod OrdersTold
+mod OrdersTested
 pub mod PositionFacts
 pub mod SoundDesk
 pub mod Bounded

@@ -21,7 +21,7 @@ use Rattle.layout.specs.Layout.{ownSetRow, defaultSetRow, groupSetRow, ownRow, 
 use Rattle.layout.specs.Rosters.{every}
 use Rattle.layout.specs.View.{rosterOf, flag, onRoster, linesOf}
 use Rattle.soundness.specs.Soundness.{lineInRange, groupLineInRange, accountLinesSound, linesSound}
-use Rattle.soundness.specs.Held.{Figures}
+use Rattle.soundness.specs.SoundMemory.{Figures}
 use Rattle.layout.proofs.Every.{every-out, every-in}
 
 -- ---- one line
@@ -55,7 +55,8 @@ unfolding groupLineInRange
 group-line-in l f = rw (le-leb (l .lcc) 1000000000 (f .lcc)) (le-leb (l .lvc) 1000000000 (f .lvc))
 
 -- ---- the 168 figures of an account's row, as numbers of 32 bits
-module _ (m : List ℕ) (bytes : Bytes m) (a : ℕ) (all : (p : ℕ) → (ownRow a + 2) * 2 ≤ p → p < (ownRow a + 2) * 2 + 168 → u32At m (p * 4) ≤ 1000000000) where
+module _ (m : List ℕ) (bytes : Bytes m) (a : ℕ) (all : (p : ℕ) → (ownRow a + 2) * 2 ≤ p → p < (ownRow a + 2) * 2 + 168
+    → u32At m (p * 4) ≤ 1000000000) where
   word-within : (k : ℕ) → ownRow a + 2 ≤ k → k < ownRow a + 86 → GroupLineFits 1000000000 (groupLineAt m k)
   unfolding groupLineAt
   word-within k low high =
@@ -78,10 +79,13 @@ module _ (m : List ℕ) (bytes : Bytes m) (a : ℕ) (all : (p : ℕ) → (ownRow
   row-within instruments contracts groups =
       let r = rosterOf m in
       rw (
-        every-in (λ i. lineInRange (lineAt m (ownRow a + i * 2))) (r .instruments) (λ i h. line-in _ (line-within (ownRow a + i * 2) (omega arith) (omega arith))),
-        every-in (λ c. lineInRange (lineAt m (defaultRow a + c * 2))) (r .contracts) (λ c h. line-in _ (line-within (defaultRow a + c * 2) (omega arith) (omega arith))),
+        every-in (λ i. lineInRange (lineAt m (ownRow a + i * 2))) (r .instruments)
+            (λ i h. line-in _ (line-within (ownRow a + i * 2) (omega arith) (omega arith))),
+        every-in (λ c. lineInRange (lineAt m (defaultRow a + c * 2))) (r .contracts)
+            (λ c h. line-in _ (line-within (defaultRow a + c * 2) (omega arith) (omega arith))),
       )
-      (every-in (λ g. groupLineInRange (groupLineAt m (groupRow a + g))) (r .groups) (λ g h. group-line-in _ (word-within (groupRow a + g) (omega arith) (omega arith))))
+      (every-in (λ g. groupLineInRange (groupLineAt m (groupRow a + g))) (r .groups)
+      (λ g h. group-line-in _ (word-within (groupRow a + g) (omega arith) (omega arith))))
 
 -- ---- all lines of the roster
 module _ (m : List ℕ) where
@@ -95,10 +99,12 @@ module _ (m : List ℕ) where
   group-test a g = groupLineInRange (groupLineAt m (groupRow a + g))
 
   -- the three rows of an account
-  rows : linesSound m ≡ true → (a : ℕ) → Numbered (rosterOf m .accounts) a → (every (rosterOf m .instruments) (own-test a) ≡ true) × (every (rosterOf m .contracts) (default-test a) ≡ true) × (every (rosterOf m .groups) (group-test a) ≡ true)
+  rows : linesSound m ≡ true → (a : ℕ) → Numbered (rosterOf m .accounts) a → (every (rosterOf m .instruments) (own-test a) ≡ true)
+      × (every (rosterOf m .contracts) (default-test a) ≡ true) × (every (rosterOf m .groups) (group-test a) ≡ true)
   unfolding linesSound accountLinesSound own-test default-test group-test
   rows e a h =
-      let x = both-true (every (rosterOf m .instruments) (own-test a) && every (rosterOf m .contracts) (default-test a)) (every (rosterOf m .groups) (group-test a)) (every-out (accountLinesSound m) (rosterOf m .accounts) e a h) in
+      let x = both-true (every (rosterOf m .instruments) (own-test a) && every (rosterOf m .contracts) (default-test a))
+      (every (rosterOf m .groups) (group-test a)) (every-out (accountLinesSound m) (rosterOf m .accounts) e a h) in
       let y = both-true (every (rosterOf m .instruments) (own-test a)) (every (rosterOf m .contracts) (default-test a)) (x .0) in
       (y .0, y .1, x .1)
 
@@ -107,20 +113,28 @@ module _ (m : List ℕ) where
   figures-out e =
       record {
         own = λ a i h l. line-out (lineAt m (ownRow a + i * 2)) (every-out (own-test a) (rosterOf m .instruments) (rows e a h .0) i l);
-        default = λ a c h l. line-out (lineAt m (defaultRow a + c * 2)) (every-out (default-test a) (rosterOf m .contracts) (rows e a h .1) c l);
-        ofGroup = λ a g h l. group-line-out (groupLineAt m (groupRow a + g)) (every-out (group-test a) (rosterOf m .groups) (rows e a h .2) g l);
+        default =
+            λ a c h l. line-out (lineAt m (defaultRow a + c * 2)) (every-out (default-test a) (rosterOf m .contracts) (rows e a h .1) c l);
+        ofGroup =
+            λ a g h l. group-line-out (groupLineAt m (groupRow a + g)) (every-out (group-test a) (rosterOf m .groups) (rows e a h .2) g l);
       }
 
   pub figures-in : Figures m → linesSound m ≡ true
   unfolding linesSound accountLinesSound own-test default-test group-test
   figures-in f =
       every-in (accountLinesSound m) (rosterOf m .accounts)
-      (λ a h. rw (every-in (own-test a) (rosterOf m .instruments) (λ i l. line-in (lineAt m (ownRow a + i * 2)) (f .own a i h l)), every-in (default-test a) (rosterOf m .contracts) (λ c l. line-in (lineAt m (defaultRow a + c * 2)) (f .default a c h l))) (every-in (group-test a) (rosterOf m .groups) (λ g l. group-line-in (groupLineAt m (groupRow a + g)) (f .ofGroup a g h l))))
+      (λ a h. rw (
+        every-in (own-test a) (rosterOf m .instruments) (λ i l. line-in (lineAt m (ownRow a + i * 2)) (f .own a i h l)),
+        every-in (default-test a) (rosterOf m .contracts) (λ c l. line-in (lineAt m (defaultRow a + c * 2)) (f .default a c h l)),
+      )
+      (every-in (group-test a) (rosterOf m .groups) (λ g l. group-line-in (groupLineAt m (groupRow a + g)) (f .ofGroup a g h l))))
 
   -- ---- those that are set
-  set-on : {A : Type 0} (P : A → Type 0) (accounts numbers a n : ℕ) (t : Bool) (x l : A) → (Numbered accounts a → Numbered numbers n → P x) → onRoster accounts numbers a n (cond t (some x) none) none ≡ some l → P l
+  set-on : {A : Type 0} (P : A → Type 0) (accounts numbers a n : ℕ) (t : Bool) (x l : A) → (Numbered accounts a → Numbered numbers n → P x)
+      → onRoster accounts numbers a n (cond t (some x) none) none ≡ some l → P l
   set-on {A} P accounts numbers a n t x l fits e =
-      by (between 1 accounts a && between 1 numbers n) t (λ d. let h = both-true (between 1 accounts a) (between 1 numbers n) d in fits (between-numbered accounts a (h .0)) (between-numbered numbers n (h .1))) e
+      by (between 1 accounts a && between 1 numbers n) t (λ d. let h = both-true (between 1 accounts a) (between 1 numbers n) d in
+      fits (between-numbered accounts a (h .0)) (between-numbered numbers n (h .1))) e
     where
       by : (u t : Bool) → (u ≡ true → P x) → cond u (cond t (some x) none) none ≡ some l → P l
       by true true f e = let same : l ≡ x = cc in rw same (f refl)
@@ -132,7 +146,13 @@ module _ (m : List ℕ) where
   lines-fit f a =
       let r = rosterOf m in
       record {
-        own = λ i l. set-on (LineFits 1000000000) (r .accounts) (r .instruments) a i (flag m (ownSetRow a + i)) (lineAt m (ownRow a + i * 2)) l (f .own a i);
-        default = λ c l. set-on (LineFits 1000000000) (r .accounts) (r .contracts) a c (flag m (defaultSetRow a + c)) (lineAt m (defaultRow a + c * 2)) l (f .default a c);
-        ofGroup = λ g l. set-on (GroupLineFits 1000000000) (r .accounts) (r .groups) a g (flag m (groupSetRow a + g)) (groupLineAt m (groupRow a + g)) l (f .ofGroup a g);
+        own =
+            λ i l. set-on (LineFits 1000000000) (r .accounts) (r .instruments) a i (flag m (ownSetRow a + i))
+            (lineAt m (ownRow a + i * 2)) l (f .own a i);
+        default =
+            λ c l. set-on (LineFits 1000000000) (r .accounts) (r .contracts) a c (flag m (defaultSetRow a + c))
+            (lineAt m (defaultRow a + c * 2)) l (f .default a c);
+        ofGroup =
+            λ g l. set-on (GroupLineFits 1000000000) (r .accounts) (r .groups) a g (flag m (groupSetRow a + g))
+            (groupLineAt m (groupRow a + g)) l (f .ofGroup a g);
       }

@@ -42,15 +42,18 @@ module _ (s : List ℕ) where
   order-member p zero q h l = absurd (omega arith)
   order-member p (suc n) q h l = by (ℕ-discrete q p) (λ k. order-member (p + 1) n q k (omega arith))
     where
-      by : Dec (q ≡ p) → (p + 1 ≤ q → List·Memᴰ (orderAt s q) (ordersFrom s (p + 1) n)) → List·Memᴰ (orderAt s q) (orderAt s p ∷ ordersFrom s (p + 1) n)
+      by : Dec (q ≡ p) → (p + 1 ≤ q → List·Memᴰ (orderAt s q) (ordersFrom s (p + 1) n))
+          → List·Memᴰ (orderAt s q) (orderAt s p ∷ ordersFrom s (p + 1) n)
       by (yes same) later = let e : orderAt s q ≡ orderAt s p = rw same in List·Memᴰ·head e
       by (no apart) later = List·Memᴰ·tail (later (omega (arith, apart)))
 
-  pub each-member : (P : Order → Type 0) (p n : ℕ) → ((q : ℕ) → p ≤ q → q < p + n → P (orderAt s q)) → (o : Order) → List·Memᴰ o (ordersFrom s p n) → P o
+  pub each-member : (P : Order → Type 0) (p n : ℕ) → ((q : ℕ) → p ≤ q → q < p + n → P (orderAt s q)) → (o : Order)
+      → List·Memᴰ o (ordersFrom s p n) → P o
   unfolding ordersFrom
   each-member P p zero h o k = absurd (List·Memᴰ·not-nil k)
   each-member P p (suc n) h o k =
-      ⊎-elim (λ e. rw e (h p (omega arith) (omega arith))) (each-member P (p + 1) n (λ q a b. h q (omega arith) (omega arith)) o) (List·Memᴰ·cases-cons k)
+      ⊎-elim (λ e. rw e (h p (omega arith) (omega arith))) (each-member P (p + 1) n (λ q a b. h q (omega arith) (omega arith)) o)
+      (List·Memᴰ·cases-cons k)
 
   -- ---- what is asked of each
   module _ (r : Roster) (trading : ℕ → Bool) where

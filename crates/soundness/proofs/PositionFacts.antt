@@ -29,30 +29,44 @@ toward-zero long = refl
 toward-zero short = refl
 
 module _ (m : List ℕ) where
-  on-roster : positionsSound m ≡ true → (a i : ℕ) → Numbered (rosterOf m .accounts) a → Numbered (rosterOf m .instruments) i → (w : Way) → positionOf m a i w ≤ℤ pos 1000000000
+  on-roster : positionsSound m ≡ true → (a i : ℕ) → Numbered (rosterOf m .accounts) a → Numbered (rosterOf m .instruments) i → (w : Way)
+      → positionOf m a i w ≤ℤ pos 1000000000
   unfolding positionsSound accountSound placeSound positionSound
   on-roster e a i h l w =
       by w
-      (both-true (positionSound m a i long) (positionSound m a i short) (every-out (placeSound m a) (rosterOf m .instruments) (every-out (accountSound m) (rosterOf m .accounts) e a h) i l))
+      (both-true (positionSound m a i long) (positionSound m a i short)
+      (every-out (placeSound m a) (rosterOf m .instruments) (every-out (accountSound m) (rosterOf m .accounts) e a h) i l))
     where
       by : (w : Way) → (positionSound m a i long ≡ true) × (positionSound m a i short ≡ true) → positionOf m a i w ≤ℤ pos 1000000000
       by long both = let h = both .0 in omega signed
       by short both = let h = both .1 in omega signed
 
   -- elsewhere there is no balance and no order
-  off-roster : ((o : Order) → List·Memᴰ o (openOrders m) → OrderFits (rosterOf m) o) → (a i : ℕ) → (between 1 (rosterOf m .accounts) a && between 1 (rosterOf m .instruments) i) ≡ false → (w : Way) → positionOf m a i w ≡ pos 0
+  off-roster : ((o : Order) → List·Memᴰ o (openOrders m) → OrderFits (rosterOf m) o) → (a i : ℕ)
+      → (between 1 (rosterOf m .accounts) a && between 1 (rosterOf m .instruments) i) ≡ false → (w : Way) → positionOf m a i w ≡ pos 0
   unfolding ofInstrument balancesOf
   off-roster fits a i e w =
-      rw (e, toward-zero w, open-nowhere (derivatives .unit) (sideTo w) a i (openOrders m) (λ o k s. true≢false (sym (rw (s .1, s .2) at (here o (fits o k))) ∙ e)))
+      rw (
+        e,
+        toward-zero w,
+        open-nowhere (derivatives .unit) (sideTo w) a i (openOrders m)
+            (λ o k s. true≢false (sym (rw (s .1, s .2) at (here o (fits o k))) ∙ e)),
+      )
     where
-      here : (o : Order) → OrderFits (rosterOf m) o → (between 1 (rosterOf m .accounts) (o .account) && between 1 (rosterOf m .instruments) (o .instrument)) ≡ true
-      here o f = and-true (between 1 (rosterOf m .accounts) (o .account)) (between 1 (rosterOf m .instruments) (o .instrument)) (numbered-between (rosterOf m .accounts) (o .account) (f .account)) (numbered-between (rosterOf m .instruments) (o .instrument) (f .instrument))
+      here : (o : Order) → OrderFits (rosterOf m) o
+          → (between 1 (rosterOf m .accounts) (o .account) && between 1 (rosterOf m .instruments) (o .instrument)) ≡ true
+      here o f =
+          and-true (between 1 (rosterOf m .accounts) (o .account)) (between 1 (rosterOf m .instruments) (o .instrument))
+          (numbered-between (rosterOf m .accounts) (o .account) (f .account))
+          (numbered-between (rosterOf m .instruments) (o .instrument) (f .instrument))
 
-  pub positions-out : positionsSound m ≡ true → ((o : Order) → List·Memᴰ o (openOrders m) → OrderFits (rosterOf m) o) → (a i : ℕ) (w : Way) → positionOf m a i w ≤ℤ pos 1000000000
+  pub positions-out : positionsSound m ≡ true → ((o : Order) → List·Memᴰ o (openOrders m) → OrderFits (rosterOf m) o) → (a i : ℕ) (w : Way)
+      → positionOf m a i w ≤ℤ pos 1000000000
   positions-out e fits a i w =
       by (between 1 (rosterOf m .accounts) a && between 1 (rosterOf m .instruments) i) refl
     where
-      by : (t : Bool) → (between 1 (rosterOf m .accounts) a && between 1 (rosterOf m .instruments) i) ≡ t → positionOf m a i w ≤ℤ pos 1000000000
+      by : (t : Bool) → (between 1 (rosterOf m .accounts) a && between 1 (rosterOf m .instruments) i) ≡ t
+          → positionOf m a i w ≤ℤ pos 1000000000
       by true d =
           let both = both-true (between 1 (rosterOf m .accounts) a) (between 1 (rosterOf m .instruments) i) d in
           on-roster e a i (between-numbered (rosterOf m .accounts) a (both .0)) (between-numbered (rosterOf m .instruments) i (both .1)) w
@@ -62,4 +76,6 @@ module _ (m : List ℕ) where
   unfolding positionsSound accountSound placeSound positionSound
   positions-in h =
       every-in (accountSound m) (rosterOf m .accounts)
-      (λ a _. every-in (placeSound m a) (rosterOf m .instruments) (λ i _. and-true (positionSound m a i long) (positionSound m a i short) (let k = h a i long in omega signed) (let k = h a i short in omega signed)))
+      (λ a _. every-in (placeSound m a) (rosterOf m .instruments)
+      (λ i _. and-true (positionSound m a i long) (positionSound m a i short) (let k = h a i long in omega signed)
+      (let k = h a i short in omega signed)))

@@ -43,7 +43,12 @@ module _ (r : Roster) (trading : ℕ → Bool) (o : Order) where
   pub order-in : Fit r trading o → orderSound r trading o ≡ true
   unfolding orderSound
   order-in f =
-      rw (numbered-between (r .accounts) (o .account) (f .account), numbered-between (r .instruments) (o .instrument) (f .instrument), numbered-between 1000000 (o .total) (f .total), le-leb 1 (remaining o) (f .remains)) (f .marked)
+      rw (
+        numbered-between (r .accounts) (o .account) (f .account),
+        numbered-between (r .instruments) (o .instrument) (f .instrument),
+        numbered-between 1000000 (o .total) (f .total),
+        le-leb 1 (remaining o) (f .remains),
+      ) (f .marked)
 
   pub remaining-small : Fit r trading o → remaining o ≤ 1000000
   unfolding remaining

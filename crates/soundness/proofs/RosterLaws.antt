@@ -45,29 +45,46 @@ module _ (m : List ℕ) where
   weight-word i h = rw (numbered-between (wordAt (partOf m rosterWord 76) 3) i h)
 
   -- ---- acceptance, asked of those words
-  pub names-tests : namesFit (rosterOf m) ≡ (every (rosterOf m .contracts) (λ c. between 1 (rosterOf m .groups) (wordAt (partOf m rosterWord 76) (3 + c))) && every (rosterOf m .instruments) (λ i. between 1 (rosterOf m .contracts) (wordAt (partOf m rosterWord 76) (11 + i))))
+  pub names-tests : namesFit (rosterOf m) ≡ (every (rosterOf m .contracts)
+      (λ c. between 1 (rosterOf m .groups) (wordAt (partOf m rosterWord 76) (3 + c))) && every (rosterOf m .instruments)
+      (λ i. between 1 (rosterOf m .contracts) (wordAt (partOf m rosterWord 76) (11 + i))))
   unfolding namesFit
   names-tests =
-      rw (every-same (λ c. between 1 (rosterOf m .groups) (rosterOf m .groupOf c)) (λ c. between 1 (rosterOf m .groups) (wordAt (partOf m rosterWord 76) (3 + c))) (rosterOf m .contracts) (λ c h. rw (group-word c h)), every-same (λ i. between 1 (rosterOf m .contracts) (rosterOf m .contractOf i)) (λ i. between 1 (rosterOf m .contracts) (wordAt (partOf m rosterWord 76) (11 + i))) (rosterOf m .instruments) (λ i h. rw (contract-word i h)))
+      rw (
+        every-same (λ c. between 1 (rosterOf m .groups) (rosterOf m .groupOf c))
+            (λ c. between 1 (rosterOf m .groups) (wordAt (partOf m rosterWord 76) (3 + c))) (rosterOf m .contracts)
+            (λ c h. rw (group-word c h)),
+        every-same (λ i. between 1 (rosterOf m .contracts) (rosterOf m .contractOf i))
+            (λ i. between 1 (rosterOf m .contracts) (wordAt (partOf m rosterWord 76) (11 + i))) (rosterOf m .instruments)
+            (λ i h. rw (contract-word i h)),
+      )
 
-  pub weights-tests : weightsFit (rosterOf m) ≡ every (rosterOf m .instruments) (λ i. leb (natAbs (signedAt (partOf m rosterWord 76) (43 + i))) 1000000)
+  pub weights-tests : weightsFit (rosterOf m) ≡ every (rosterOf m .instruments)
+      (λ i. leb (natAbs (signedAt (partOf m rosterWord 76) (43 + i))) 1000000)
   unfolding weightsFit
   weights-tests = every-same _ _ (rosterOf m .instruments) (λ i h. rw (weight-word i h))
 
   -- ---- what the sizes say
-  pub sizes-numbered : sizesFit (rosterOf m) ≡ true → Numbered 16 (rosterOf m .accounts) × Numbered 4 (rosterOf m .groups) × Numbered 8 (rosterOf m .contracts) × Numbered 32 (rosterOf m .instruments)
+  pub sizes-numbered : sizesFit (rosterOf m) ≡ true → Numbered 16 (rosterOf m .accounts) × Numbered 4 (rosterOf m .groups)
+      × Numbered 8 (rosterOf m .contracts) × Numbered 32 (rosterOf m .instruments)
   unfolding sizesFit
   sizes-numbered e =
       let r = rosterOf m in
-      let x = both-true (between 1 16 (r .accounts) && between 1 4 (r .groups) && between 1 8 (r .contracts)) (between 1 32 (r .instruments)) e in
+      let x = both-true (between 1 16 (r .accounts) && between 1 4 (r .groups) && between 1 8 (r .contracts))
+      (between 1 32 (r .instruments)) e in
       let y = both-true (between 1 16 (r .accounts) && between 1 4 (r .groups)) (between 1 8 (r .contracts)) (x .0) in
-      let z = both-true (between 1 16 (r .accounts)) (between 1 4 (r .groups)) (y .0) in
-      (between-numbered 16 (r .accounts) (z .0), between-numbered 4 (r .groups) (z .1), between-numbered 8 (r .contracts) (y .1), between-numbered 32 (r .instruments) (x .1))
+      let z = both-true (between 1 16 (r .accounts)) (between 1 4 (r .groups)) (y .0) in (
+        between-numbered 16 (r .accounts) (z .0),
+        between-numbered 4 (r .groups) (z .1),
+        between-numbered 8 (r .contracts) (y .1),
+        between-numbered 32 (r .instruments) (x .1),
+      )
 
   pub sound-sizes : rosterSound m ≡ true → sizesFit (rosterOf m) ≡ true
   unfolding rosterSound
   sound-sizes e =
-      both-true (sizesFit (rosterOf m)) (namesFit (rosterOf m)) (both-true (sizesFit (rosterOf m) && namesFit (rosterOf m)) (weightsFit (rosterOf m)) e .0) .0
+      both-true (sizesFit (rosterOf m)) (namesFit (rosterOf m))
+      (both-true (sizesFit (rosterOf m) && namesFit (rosterOf m)) (weightsFit (rosterOf m)) e .0) .0
 
   pub readable : 65536 ≤ length m → sizesFit (rosterOf m) ≡ true → Readable m
   readable h e =

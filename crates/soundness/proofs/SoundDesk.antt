@@ -14,7 +14,7 @@ use Rattle.layout.specs.Layout.{countWord}
 use Rattle.layout.specs.View.{rosterOf, recordsOf, openOrders, bookOf, tradingOf, view}
 use Rattle.layout.specs.Stores.{Records}
 use Rattle.soundness.specs.Soundness.{ordersSound, soundDesk}
-use Rattle.soundness.specs.Held.{Held}
+use Rattle.soundness.specs.SoundMemory.{SoundMemory}
 use Rattle.soundness.proofs.Records.{Fit}
 use Rattle.soundness.proofs.Questions.{Conditions, each-out, each-in}
 use Rattle.soundness.proofs.RosterFacts.{roster-out, roster-in}
@@ -36,7 +36,13 @@ module _ (m : List ℕ) (c : Conditions m) where
   unfolding openOrders
   member-fits =
       each-member (recordsOf m) (OrderFits (rosterOf m)) 0 (wordAt m countWord)
-      (λ q a b. let f = fit q (omega arith) in record { account = f .account; instrument = f .instrument; total = f .total; remains = f .remains })
+      (λ q a b. let f = fit q (omega arith) in record {
+        account = f .account;
+        instrument = f .instrument;
+        total = f .total;
+        remains =
+            f .remains;
+      })
 
   member-marked : (o : Order) → List·Memᴰ o (openOrders m) → tradingOf m (o .account) ≡ true
   unfolding openOrders
@@ -57,7 +63,7 @@ module _ (m : List ℕ) (c : Conditions m) where
         marked = member-marked;
       }
 
-pub sound-out : (m : List ℕ) → soundDesk m ≡ true → Held m
+pub sound-out : (m : List ℕ) → soundDesk m ≡ true → SoundMemory m
 sound-out m e =
     let c = each-out m e in
     record {
@@ -69,25 +75,32 @@ sound-out m e =
     }
 
 -- ---- in
-module _ (m : List ℕ) (h : Held m) where
+module _ (m : List ℕ) (h : SoundMemory m) where
   pub all-fit : (p : ℕ) → p < wordAt m countWord → Fit (rosterOf m) (tradingOf m) (orderAt (recordsOf m) p)
   unfolding view bookOf openOrders
   all-fit p l =
       let s = recordsOf m in
       let k = order-member s 0 (wordAt m countWord) p (omega arith) (omega arith) in
       let f = h .book .fits (orderAt s p) k in
-      record { account = f .account; instrument = f .instrument; total = f .total; remains = f .remains; marked = h .book .marked (orderAt s p) k }
+      record {
+        account = f .account;
+        instrument = f .instrument;
+        total = f .total;
+        remains = f .remains;
+        marked =
+            h .book .marked (orderAt s p) k;
+      }
 
   orders-in : ordersSound m ≡ true
   unfolding ordersSound
   orders-in = records-in (recordsOf m) (rosterOf m) (tradingOf m) 0 (wordAt m countWord) (λ q a b. all-fit q (omega arith))
 
-  pub held-count : wordAt m countWord ≤ 256
+  pub sound-count : wordAt m countWord ≤ 256
   unfolding view bookOf
-  held-count = omega (arith, open-count m, h .book .count)
+  sound-count = omega (arith, open-count m, h .book .count)
 
-  pub held-records : Records m
-  held-records = record { long = h .long; count = held-count; first = h .first }
+  pub sound-records : Records m
+  sound-records = record { long = h .long; count = sound-count; first = h .first }
 
   pub sound-in : soundDesk m ≡ true
   unfolding view bookOf derivatives
@@ -96,7 +109,7 @@ module _ (m : List ℕ) (h : Held m) where
       (record {
         long = h .long;
         kind = h .kind;
-        count = held-count;
+        count = sound-count;
         first = h .first;
         ids = ascend-in (h .book .ids);
         roster = roster-in m (h .book .roster);

@@ -49,12 +49,26 @@ module _ (m : List ℕ) where
       module _ (count : wordAt m countWord ≤ 256) where
         pub too-far : 256 < firstOf m → false ≡ soundDesk m
         unfolding longEnough
-        too-far h = rw (asked, le-leb 65536 (length m) long, eq-eqb (wordAt m kindWord) 1 kind, le-leb (wordAt m countWord) 256 count, lt-leb (firstOf m) 256 h)
+        too-far h =
+            rw (
+              asked,
+              le-leb 65536 (length m) long,
+              eq-eqb (wordAt m kindWord) 1 kind,
+              le-leb (wordAt m countWord) 256 count,
+              lt-leb (firstOf m) 256 h,
+            )
 
         module _ (first : firstOf m ≤ 256) where
           rest : soundDesk m ≡ (rosterSound m && (linesSound m && (ascend 0 (openOrders m) && ordersSound m && positionsSound m)))
           unfolding longEnough
-          rest = rw (asked, le-leb 65536 (length m) long, eq-eqb (wordAt m kindWord) 1 kind, le-leb (wordAt m countWord) 256 count, le-leb (firstOf m) 256 first)
+          rest =
+              rw (
+                asked,
+                le-leb 65536 (length m) long,
+                eq-eqb (wordAt m kindWord) 1 kind,
+                le-leb (wordAt m countWord) 256 count,
+                le-leb (firstOf m) 256 first,
+              )
 
           pub no-roster : rosterSound m ≡ false → false ≡ soundDesk m
           no-roster h = rw (rest, h)
@@ -62,5 +76,6 @@ module _ (m : List ℕ) where
           pub no-lines : rosterSound m ≡ true → linesSound m ≡ false → false ≡ soundDesk m
           no-lines e h = rw (rest, e, h)
 
-          pub the-rest : rosterSound m ≡ true → linesSound m ≡ true → (t : Bool) → t ≡ (ascend 0 (openOrders m) && ordersSound m && positionsSound m) → t ≡ soundDesk m
+          pub the-rest : rosterSound m ≡ true → linesSound m ≡ true → (t : Bool)
+              → t ≡ (ascend 0 (openOrders m) && ordersSound m && positionsSound m) → t ≡ soundDesk m
           the-rest e f t h = rw (rest, e, f) h

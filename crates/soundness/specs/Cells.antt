@@ -19,8 +19,8 @@ pub record Readable (m : List ℕ) : Type 0 where
   pub instruments : rosterOf m .instruments ≤ 32
 
 -- a word with 536,870,912 added, as a word
-abbrev pub moved : ℕ → ℕ
-moved w = (w + 536870912) % 2 ^ 64
+abbrev pub offsetWord : ℕ → ℕ
+offsetWord w = (w + 536870912) % 2 ^ 64
 
 -- the first cell of account a
 abbrev pub row : ℕ → ℕ

@@ -1,4 +1,4 @@
 pub mod Soundness
 pub mod Cells
 pub mod Each
-pub mod Held
+pub mod SoundMemory

@@ -7,13 +7,13 @@ ghost use lib.IntN.{natAbs};
 ghost use lib.ListN.{length};
 ghost use Rattle.words.specs.Fields.{u32At};
 ghost use Rattle.words.specs.Words.{wordAt, signedAt};
-ghost use Rattle.soundness.specs.Cells.{moved};
+ghost use Rattle.soundness.specs.Cells.{offsetWord};
 use std::num::wrapping_add_u64;
 use words::fields::u32_at;
 use words::word;
 
 // At least each of the `n` numbers of 32 bits from number `k` on. Number j is the field at byte 4 j.
-fn joined(m: &[u8], k: usize, n: usize) -> u32
+fn bits_of_all(m: &[u8], k: usize, n: usize) -> u32
     requires { ⌜ (k + n) * 4 ≤ length (now m) ⌝ }
     ensures { λ r. ⌜ ((p : ℕ) → k ≤ p → p < k + n → u32At (now (m .entry)) (p * 4) ≤ r) ⌝ }
 {
@@ -29,13 +29,14 @@ pub fn all_in_range(m: &[u8], k: usize, n: usize) -> bool
     requires { ⌜ (k + n) * 4 ≤ length (now m) ⌝ }
     ensures { λ r. ⌜ (r ≡ true → (p : ℕ) → k ≤ p → p < k + n → u32At (now (m .entry)) (p * 4) ≤ 1000000000) ⌝ }
 {
-    joined(m, k, n) <= 1000000000
+    bits_of_all(m, k, n) <= 1000000000
 }
 
-// At least each of the `n` words from word `k` on with 536,870,912 added: a number of that size or less, of either sign, is then one of 30 bits.
-fn joined_moved(m: &[u8], k: usize, n: usize) -> u64
+// At least each of the `n` words from word `k` on with 536,870,912 added: a number of that size or less, of either sign, is then one of 30
+// bits.
+fn bits_of_all_offset(m: &[u8], k: usize, n: usize) -> u64
     requires { ⌜ (k + n) * 8 ≤ length (now m) ⌝ }
-    ensures { λ r. ⌜ ((p : ℕ) → k ≤ p → p < k + n → moved (wordAt (now (m .entry)) p) ≤ r) ⌝ }
+    ensures { λ r. ⌜ ((p : ℕ) → k ≤ p → p < k + n → offsetWord (wordAt (now (m .entry)) p) ≤ r) ⌝ }
 {
     let mut all: u64 = 0;
     for j in 0..n {
@@ -49,5 +50,5 @@ pub fn all_small(m: &[u8], k: usize, n: usize) -> bool
     requires { ⌜ (k + n) * 8 ≤ length (now m) ⌝ }
     ensures { λ r. ⌜ (r ≡ true → (p : ℕ) → k ≤ p → p < k + n → natAbs (signedAt (now (m .entry)) p) ≤ 536870912) ⌝ }
 {
-    joined_moved(m, k, n) < 1073741824
+    bits_of_all_offset(m, k, n) < 1073741824
 }

@@ -16,11 +16,11 @@ use layout::table::COUNT;
 use layout::table::MARKS;
 use ledger::order::Order;
 use ledger::records::account_of;
+use ledger::records::bits_of_both;
 use ledger::records::detail_in;
 use ledger::records::filled_of;
 use ledger::records::id_in;
 use ledger::records::instrument_of;
-use ledger::records::joined;
 use ledger::records::load;
 use ledger::records::packed_of;
 use ledger::records::remaining_of;
@@ -61,7 +61,7 @@ fn gather_all(m: &[u8], cells: &mut [u64; 1089]) -> Pass
             };
         }
         last = id;
-        all = joined(all, w);
+        all = bits_of_both(all, w);
         let j = 65 + packed_of(w) as usize;
         add_to(cells, j, Contracts::of(remaining_of(w)));
     }

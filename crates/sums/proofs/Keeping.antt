@@ -21,7 +21,7 @@ use Rattle.positions.specs.Gathered.{cell}
 use Rattle.positions.proofs.Gathering.{ownCell, same-cell}
 use Rattle.soundness.specs.Cells.{row, Sums}
 use Rattle.soundness.proofs.Gathering.{rows, row-inside}
-use Rattle.sums.specs.Shifted.{Shifted}
+use Rattle.sums.specs.SumsChanged.{SumsChanged}
 use Rattle.sums.proofs.Shifts.{same-amount}
 
 module _ (s : Side) (a i : ℕ) (o : Order) (n : ℕ) where
@@ -42,7 +42,7 @@ settled c a b enough x y sum rest =
     omega (signed, sum-parts (pos c) (pos a), difference-parts x (pos b), rest)
 
 module _ (cells : List ℕ) (orders orders′ : List Order) (held : Sums cells orders) (o : Order) (before after : ℕ)
-    (shift : Shifted o before after orders orders′) where
+    (shift : SumsChanged o before after orders orders′) where
   abbrev own : ℕ
   own = ownCell row o
 

@@ -18,7 +18,7 @@ use Rattle.ledger.specs.Orders.{remaining, replacedTotal, placeFrom}
 use Rattle.ledger.specs.Roster.{Numbered}
 use Rattle.ledger.specs.Derivatives.{one}
 use Rattle.ledger.proofs.Amounts.{amount}
-use Rattle.ledger.proofs.Changes.{Shifted as Shift}
+use Rattle.ledger.proofs.Changes.{CountChanged as Shift}
 use Rattle.limits.specs.Raised.{addedOn}
 use Rattle.book.specs.declared.LimitLine.{LimitLine}
 use Rattle.book.specs.declared.LimitLine.the-variants.{Own, Default, OfGroup}
@@ -35,16 +35,16 @@ use Rattle.book.proofs.Shifts.{new-shift, replace-shift, cancel-shift, fill-shi
 use Rattle.layout.specs.View.{rosterOf, openOrders, bookOf, view}
 use Rattle.layout.specs.Judged.{judged}
 use Rattle.layout.specs.Stores.{orderIn, Records}
-use Rattle.soundness.specs.Held.{Held}
-use Rattle.soundness.proofs.Bounded.{held-readable}
+use Rattle.soundness.specs.SoundMemory.{SoundMemory}
+use Rattle.soundness.proofs.Bounded.{sound-readable}
 use Rattle.working.specs.Working.{Ready, worked}
 use Rattle.working.proofs.Small.{Sized}
-use Rattle.working.proofs.Told.{Found, records, told}
+use Rattle.working.proofs.AcceptedFacts.{Found, records, accepted-facts}
 use Rattle.working.proofs.ViewWorked.{view-worked}
 use Rattle.working.proofs.Changing.{named-found, loadable}
 use Rattle.working.proofs.Handing.{ready-as}
 use Rattle.sums.specs.declared.Shift.{Shift as ByContracts}
-use Rattle.sums.specs.Shifted.{Shifted, Shifts}
+use Rattle.sums.specs.SumsChanged.{SumsChanged, Shifts}
 
 pub same-amount : (n : ℕ) (o : Order) (s : Side) (a i : ℕ) → amount one s a i o n ≡ addedOn n o s a i
 unfolding amount addedOn one
@@ -55,7 +55,7 @@ unfolding remaining
 remaining-most o = omega arith
 
 -- ---- the open orders after the event
-module _ (m : List ℕ) (bytes : Bytes m) (held : Held m) (e : Event) (sized : Sized e) (accepted : judged m e ≡ 0) where
+module _ (m : List ℕ) (bytes : Bytes m) (held : SoundMemory m) (e : Event) (sized : Sized e) (accepted : judged m e ≡ 0) where
   after-event : openOrders (worked m e) ≡ work (derivatives .unit) (bookOf m) e .orders
   unfolding view bookOf
   after-event = ap (λ v. v .book .orders) (view-worked m bytes held e sized accepted)
@@ -63,7 +63,7 @@ module _ (m : List ℕ) (bytes : Bytes m) (held : Held m) (e : Event) (sized : S
   -- the book's shift, told of the memory
   told-shift : (o : Order) (x y x′ y′ : ℕ) → Numbered 16 (o .account) → Numbered 32 (o .instrument) → y ≤ 1000000 → x ≡ x′ → y ≡ y′
       → Shift (derivatives .unit) o x′ y′ (bookOf m .orders) (work (derivatives .unit) (bookOf m) e .orders)
-      → Shifted o x y (openOrders m) (openOrders (worked m e))
+      → SumsChanged o x y (openOrders m) (openOrders (worked m e))
   unfolding derivatives bookOf
   told-shift o x y x′ y′ account instrument small same-x same-y shift =
       record {
@@ -121,9 +121,9 @@ pub new-shifts : {m : List ℕ} {s : Side} {a i id p : ℕ} {n : ℤ} → Bytes 
 unfolding newOrder remaining
 new-shifts {m} {s} {a} {i} {id} {p} {n} bytes word ready r made =
     let e = New s a i id n in
-    let t = told m (ready .held) e (ready .accepted) in
+    let t = accepted-facts m (ready .held) e (ready .accepted) in
     let low = t .2 .0 in
-    let bounds = held-readable m (ready .held) in
+    let bounds = sound-readable m (ready .held) in
     let o = newOrder s a i id n in
     let account : Numbered 16 a = (t .0 .0, omega (arith, t .0 .1, bounds .accounts)) in
     let instrument : Numbered 32 i = (t .1 .0, omega (arith, t .1 .1, bounds .instruments)) in
@@ -139,10 +139,10 @@ new-shifts {m} {s} {a} {i} {id} {p} {n} bytes word ready r made =
     }
 
 -- ---- the order in record p is the one that the event names
-pub named-loadable : (m : List ℕ) (id p : ℕ) → Held m → placeFrom 0 id (openOrders m) ≡ At p → Records m × (p < 256)
+pub named-loadable : (m : List ℕ) (id p : ℕ) → SoundMemory m → placeFrom 0 id (openOrders m) ≡ At p → Records m × (p < 256)
 named-loadable m id p held = loadable m id p (records m held)
 
-module _ (m : List ℕ) (id p : ℕ) (o : Order) (bytes : Bytes m) (held : Held m) (loaded : o ≡ orderIn m p) where
+module _ (m : List ℕ) (id p : ℕ) (o : Order) (bytes : Bytes m) (held : SoundMemory m) (loaded : o ≡ orderIn m p) where
   found : placeFrom 0 id (openOrders m) ≡ At p → find id (openOrders m) ≡ some o
   found named = named-found m id p named ∙ ap some (sym loaded)
 
@@ -154,24 +154,24 @@ module _ (m : List ℕ) (id p : ℕ) (o : Order) (bytes : Bytes m) (held : Held 
   fits f named = let e = f .found in let same : f .order ≡ o = cc (found named) in rw same at (f .fits)
 
   account : OrderFits (rosterOf m) o → Numbered 16 (o .account)
-  account f = (f .account .0, omega (arith, f .account .1, held-readable m held .accounts))
+  account f = (f .account .0, omega (arith, f .account .1, sound-readable m held .accounts))
 
   instrument : OrderFits (rosterOf m) o → Numbered 32 (o .instrument)
-  instrument f = (f .instrument .0, omega (arith, f .instrument .1, held-readable m held .instruments))
+  instrument f = (f .instrument .0, omega (arith, f .instrument .1, sound-readable m held .instruments))
 
   pub remaining-small : Found m id → placeFrom 0 id (openOrders m) ≡ At p → (r : ℕ) → r ≡ remaining o → r ≤ 1000000
   remaining-small f named r e = omega (arith, remaining-most o, fits f named .total .1)
 
   -- what counts of the order goes from x to y
   abbrev ShiftsTo : Event → ℕ → ℕ → Type 0
-  ShiftsTo e x y = Shifted o x y (openOrders m) (openOrders (worked m e))
+  ShiftsTo e x y = SumsChanged o x y (openOrders m) (openOrders (worked m e))
 
   pub replace-shifted : {n : ℤ} → Ready m (Replace id n) p → SFits w64 n → (o′ : Order)
       → o′ ≡ replacedTotal o (natAbs (toZ w64 (ofZ w64 n))) →
       ShiftsTo (Replace id n) (remaining o) (remaining o′)
   unfolding remaining replacedTotal
   replace-shifted {n} ready fits-n o′ made =
-      let t = told m held (Replace id n) (ready .accepted) in
+      let t = accepted-facts m held (Replace id n) (ready .accepted) in
       let f = fits (t .0) (ready .named) in
       let now : remaining o′ ≡ natAbs n - o .filled = rw (made, toZ-ofZ w64 n fits-n) in
       told-shift m bytes held (Replace id n) tt (ready .accepted) o (remaining o) (remaining o′) (o .total - o .filled)
@@ -181,13 +181,13 @@ module _ (m : List ℕ) (id p : ℕ) (o : Order) (bytes : Bytes m) (held : Held 
 
   pub cancel-shifted : Ready m (Cancel id) p → ShiftsTo (Cancel id) (remaining o) 0
   cancel-shifted ready =
-      let f = fits (told m held (Cancel id) (ready .accepted)) (ready .named) in
+      let f = fits (accepted-facts m held (Cancel id) (ready .accepted)) (ready .named) in
       told-shift m bytes held (Cancel id) tt (ready .accepted) o (remaining o) 0 (remaining o) 0 (account f) (instrument f) (omega arith)
       refl refl (cancel-shift derivatives (bookOf m) derivatives-unit id o (in-book (ready .named)))
 
   pub fill-most : {n : ℤ} → Ready m (Fill id n) p → SFits w64 n → natAbs (toZ w64 (ofZ w64 n)) ≤ remaining o
   fill-most {n} ready fits-n =
-      let t = told m held (Fill id n) (ready .accepted) in
+      let t = accepted-facts m held (Fill id n) (ready .accepted) in
       let e = t .0 .found in
       let same : t .0 .order ≡ o = cc (found (ready .named)) in
       rw (toZ-ofZ w64 n fits-n) (rw same at (t .2))
@@ -196,14 +196,14 @@ module _ (m : List ℕ) (id p : ℕ) (o : Order) (bytes : Bytes m) (held : Held 
   pub fill-left : {n : ℤ} → Ready m (Fill id n) p → SFits w64 n → (b z : ℤ) → b ≡ pos (remaining o) → z ≡ b +ℤ negℤ (toZ w64 (ofZ w64 n)) →
       z ≡ pos (remaining o - natAbs (toZ w64 (ofZ w64 n)))
   fill-left {n} ready fits-n b z before after =
-      let low = told m held (Fill id n) (ready .accepted) .1 .0 in
+      let low = accepted-facts m held (Fill id n) (ready .accepted) .1 .0 in
       let most = rw (toZ-ofZ w64 n fits-n) at (fill-most ready fits-n) in
       rw (after, before, toZ-ofZ w64 n fits-n) (omega (signed, magnitude-parts n, difference-parts (pos (remaining o)) n))
 
   pub fill-shifted : {n : ℤ} → Ready m (Fill id n) p → SFits w64 n →
       ShiftsTo (Fill id n) (remaining o) (remaining o - natAbs (toZ w64 (ofZ w64 n)))
   fill-shifted {n} ready fits-n =
-      let t = told m held (Fill id n) (ready .accepted) in
+      let t = accepted-facts m held (Fill id n) (ready .accepted) in
       let f = fits (t .0) (ready .named) in
       let same = toZ-ofZ w64 n fits-n in
       told-shift m bytes held (Fill id n) tt (ready .accepted) o (remaining o) (remaining o - natAbs (toZ w64 (ofZ w64 n)))

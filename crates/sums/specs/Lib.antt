@@ -1,1 +1,1 @@
-pub mod Shifted
+pub mod SumsChanged

@@ -7,7 +7,7 @@ ghost use Rattle.book.specs.Books.{newOrder};
 ghost use Rattle.layout.specs.View.{openOrders};
 ghost use Rattle.soundness.specs.Cells.{Sums};
 ghost use Rattle.working.specs.Working.{Ready, worked};
-ghost use Rattle.sums.specs.Shifted.{Shifts};
+ghost use Rattle.sums.specs.SumsChanged.{Shifts};
 use book::Event;
 use layout::orders::load_order;
 use ledger::order::Order;

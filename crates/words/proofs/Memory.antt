@@ -7,7 +7,8 @@ use native.Mathlib.Omega.{arith}
 use lib.ListN.{length, getD}
 use Rattle.words.specs.Bytes.{Bytes}
 use Rattle.words.specs.Words.{wordAt, putWord}
-use Rattle.words.proofs.Numbers.{length-store, byte-store-other, number-store-other, number-store-same, number-below, store-back, store-bytes}
+use Rattle.words.proofs.Numbers.{length-store, byte-store-other, number-store-other, number-store-same, number-below, store-back}
+use Rattle.words.proofs.Numbers.{store-bytes}
 
 pub length-put : (m : List ℕ) (k v : ℕ) → length (putWord m k v) ≡ length m
 unfolding putWord

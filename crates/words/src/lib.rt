@@ -84,8 +84,8 @@ fn down(s: &mut [u8], by: usize, n: usize)
     }
 }
 
-// Copies the `n` words from word `from` on to word `to` and after it, which are lower, the first one first. It is a loop of its own: `words_down`
-// has one distance wherever it is called, and so stays a memmove.
+// Copies the `n` words from word `from` on to word `to` and after it, which are lower, the first one first. It is a loop of its own:
+// `words_down` has one distance wherever it is called, and so stays a memmove.
 pub fn words_copied(m: &mut [u8], from: usize, to: usize, n: usize)
     requires { ⌜ (to ≤ from) × ((from + n) * 8 ≤ length (now m)) ⌝ }
     ensures { λ r. ⌜ now (m .exit) ≡ putWords (now (m .entry)) to (wordsAt (now (m .entry)) from n) ⌝ }

@@ -24,6 +24,7 @@ zero-bits z fits =
 pub ready-block : {m : List ℕ} {what w : Blocked} {z : ℤ} {p : ℕ} → what ≡ w → Ready m (Block what z) p → Ready m (Block w z) p
 ready-block same ready = rw same at ready
 
-pub worked-block : (m : List ℕ) (z : ℤ) {what w : Blocked} {x : List ℕ} → SFits w64 z → what ≡ w → x ≡ blockStored m w (not (eqb (ofZ w64 z) 0)) → x ≡ worked m (Block what z)
+pub worked-block : (m : List ℕ) (z : ℤ) {what w : Blocked} {x : List ℕ} → SFits w64 z → what ≡ w
+    → x ≡ blockStored m w (not (eqb (ofZ w64 z) 0)) → x ≡ worked m (Block what z)
 unfolding worked
 worked-block m z fits same stored = rw (same, ← zero-bits z fits) stored

@@ -34,9 +34,9 @@ use Rattle.layout.specs.Stores.{orderIn, storeFrom, joinedFirst, leftFirst, Rec
 use Rattle.layout.specs.FieldStores.{storeMark}
 use Rattle.layout.proofs.OrderRecords.{small-open}
 use Rattle.layout.proofs.ViewOrders.{change-leaves, change-becomes}
-use Rattle.soundness.specs.Held.{Held}
+use Rattle.soundness.specs.SoundMemory.{SoundMemory}
 use Rattle.working.specs.Working.{Ready, Stands, keptFirst, worked}
-use Rattle.working.proofs.Told.{records, storable, told}
+use Rattle.working.proofs.AcceptedFacts.{records, storable, accepted-facts}
 
 -- ---- the place
 named-inside : (m : List ℕ) (id p : ℕ) → placeFrom 0 id (openOrders m) ≡ At p → p < wordAt m countWord
@@ -53,7 +53,9 @@ unfolding placeFrom ordersFrom find
 found-there s id zero q p e = let z : _≡_ {A = ℕ} 0 1 = cc in absurd (omega arith)
 found-there s id (suc n) q p e = by (eqb (orderAt s q .id) id) e (found-there s id n (q + 1) p)
   where
-    by : (t : Bool) → cond t (At q) (placeFrom (q + 1) id (ordersFrom s (q + 1) n)) ≡ At p → (placeFrom (q + 1) id (ordersFrom s (q + 1) n) ≡ At p → find id (ordersFrom s (q + 1) n) ≡ some (orderAt s p)) → cond t (some (orderAt s q)) (find id (ordersFrom s (q + 1) n)) ≡ some (orderAt s p)
+    by : (t : Bool) → cond t (At q) (placeFrom (q + 1) id (ordersFrom s (q + 1) n)) ≡ At p
+        → (placeFrom (q + 1) id (ordersFrom s (q + 1) n) ≡ At p → find id (ordersFrom s (q + 1) n) ≡ some (orderAt s p))
+        → cond t (some (orderAt s q)) (find id (ordersFrom s (q + 1) n)) ≡ some (orderAt s p)
     by true here later = let same : q ≡ p = cc in rw same
     by false there later = later there
 
@@ -69,27 +71,35 @@ pub loadable : (m : List ℕ) (id p : ℕ) → Records m → placeFrom 0 id (ope
 loadable m id p r found = let inside = named-inside m id p found in (r, omega (arith, r .count))
 
 -- ---- NEW
-pub new-storable : (m : List ℕ) (held : Held m) (s : Side) (a i id : ℕ) (n : ℤ) → SFits w64 n → judged m (New s a i id n) ≡ 0 → Storable (record { id = id; account = a; instrument = i; side = s; total = natAbs (toZ w64 (ofZ w64 n)); filled = 0 })
+pub new-storable : (m : List ℕ) (held : SoundMemory m) (s : Side) (a i id : ℕ) (n : ℤ) → SFits w64 n → judged m (New s a i id n) ≡ 0
+    → Storable (record { id = id; account = a; instrument = i; side = s; total = natAbs (toZ w64 (ofZ w64 n)); filled = 0 })
 unfolding newOrder
 new-storable m held s a i id n fits passes =
-    let t = told m held (New s a i id n) passes in
+    let t = accepted-facts m held (New s a i id n) passes in
     rw (toZ-ofZ w64 n fits) (storable m held (newOrder s a i id n) (new-fits (rosterOf m) s a i id n (t .0) (t .1) (t .2 .1)))
 
-pub joined : (m l x : List ℕ) (s : Side) (a i id : ℕ) (n : ℤ) (p : ℕ) → p ≡ rank id (openOrders m) → SFits w64 n → l ≡ storeFrom m (joinedFirst m p) (insert (record { id = id; account = a; instrument = i; side = s; total = natAbs (toZ w64 (ofZ w64 n)); filled = 0 }) (openOrders m)) → x ≡ storeMark l a → x ≡ worked m (New s a i id n)
+pub order-joins : (m l x : List ℕ) (s : Side) (a i id : ℕ) (n : ℤ) (p : ℕ) → p ≡ rank id (openOrders m) → SFits w64 n
+    → l ≡ storeFrom m (joinedFirst m p) (insert
+    (record { id = id; account = a; instrument = i; side = s; total = natAbs (toZ w64 (ofZ w64 n)); filled = 0 }) (openOrders m))
+    → x ≡ storeMark l a → x ≡ worked m (New s a i id n)
 unfolding worked newOrder
-joined m l x s a i id n p named fits stored marked = marked ∙ rw (stored, toZ-ofZ w64 n fits, named)
+order-joins m l x s a i id n p named fits stored marked = marked ∙ rw (stored, toZ-ofZ w64 n fits, named)
 
 -- ---- REPLACE
-pub replaced-storable : (m : List ℕ) (id : ℕ) (n : ℤ) (p : ℕ) (o y : Order) → Ready m (Replace id n) p → SFits w64 n → o ≡ orderIn m p → y ≡ replacedTotal o (natAbs (toZ w64 (ofZ w64 n))) → Records m × (p < wordAt m countWord) × Storable y
+pub replaced-storable : (m : List ℕ) (id : ℕ) (n : ℤ) (p : ℕ) (o y : Order) → Ready m (Replace id n) p → SFits w64 n → o ≡ orderIn m p
+    → y ≡ replacedTotal o (natAbs (toZ w64 (ofZ w64 n))) → Records m × (p < wordAt m countWord) × Storable y
 replaced-storable m id n p o y ready fits loaded made =
-    let t = told m (ready .held) (Replace id n) (ready .accepted) in
+    let t = accepted-facts m (ready .held) (Replace id n) (ready .accepted) in
     let found = t .0 .found in
     let same : t .0 .order ≡ o = cc (named-found m id p (ready .named)) in
-    let new : OrderFits (rosterOf m) (replacedTotal o (natAbs n)) = rw (← same) (replaced-fits (rosterOf m) (t .0 .order) (natAbs n) (t .0 .fits) (t .1 .1) (t .2)) in
+    let new : OrderFits (rosterOf m) (replacedTotal o (natAbs n)) =
+    rw (← same) (replaced-fits (rosterOf m) (t .0 .order) (natAbs n) (t .0 .fits) (t .1 .1) (t .2)) in
     let here = at-place m id p (records m (ready .held)) (ready .named) in
     (here .0, here .1, rw (made, toZ-ofZ w64 n fits) (storable m (ready .held) (replacedTotal o (natAbs n)) new))
 
-pub replaced : (m x : List ℕ) (id : ℕ) (n : ℤ) (p : ℕ) (o y : Order) → Bytes m → Ready m (Replace id n) p → SFits w64 n → o ≡ orderIn m p → y ≡ replacedTotal o (natAbs (toZ w64 (ofZ w64 n))) → x ≡ storeFrom m (firstOf m) (set (openOrders m) p y) → x ≡ worked m (Replace id n)
+pub replaced : (m x : List ℕ) (id : ℕ) (n : ℤ) (p : ℕ) (o y : Order) → Bytes m → Ready m (Replace id n) p → SFits w64 n → o ≡ orderIn m p
+    → y ≡ replacedTotal o (natAbs (toZ w64 (ofZ w64 n))) → x ≡ storeFrom m (firstOf m) (set (openOrders m) p y)
+    → x ≡ worked m (Replace id n)
 unfolding worked
 replaced m x id n p o y bytes ready fits loaded made stored =
     stored
@@ -98,7 +108,8 @@ replaced m x id n p o y bytes ready fits loaded made stored =
     (ap (λ z. z ∷ []) (sym (made ∙ rw (loaded, toZ-ofZ w64 n fits))))))
 
 -- ---- CANCEL
-pub cancelled : (m x : List ℕ) (id p : ℕ) → Bytes m → Ready m (Cancel id) p → x ≡ storeFrom m (leftFirst m p) (without p (openOrders m)) → x ≡ worked m (Cancel id)
+pub cancelled : (m x : List ℕ) (id p : ℕ) → Bytes m → Ready m (Cancel id) p → x ≡ storeFrom m (leftFirst m p) (without p (openOrders m))
+    → x ≡ worked m (Cancel id)
 unfolding worked
 cancelled m x id p bytes ready stored =
     stored
@@ -107,7 +118,8 @@ cancelled m x id p bytes ready stored =
 
 -- ---- FILL
 -- the order found, filled by n, is `next`, of which r remains
-module _ {m : List ℕ} {p : ℕ} {o : Order} {n : ℕ} (bytes : Bytes m) (stands : Stands m p o n) {next : Order} {r : ℕ} (made : next ≡ filledBy o n) (read : r ≡ remaining next) where
+module _ {m : List ℕ} {p : ℕ} {o : Order} {n : ℕ} (bytes : Bytes m) (stands : Stands m p o n) {next : Order} {r : ℕ}
+    (made : next ≡ filledBy o n) (read : r ≡ remaining next) where
   abbrev fills : Order → List Order
   fills x = kept (filledBy x n)
 
@@ -118,19 +130,28 @@ module _ {m : List ℕ} {p : ℕ} {o : Order} {n : ℕ} (bytes : Bytes m) (stand
   unfolding filledBy remaining
   filled-storable some-left =
       let at = at-place m (o .id) p (stands .records) (stands .found) in
-      let was : Storable o = rw (stands .loaded) (small-open m (stands .records .first) p (omega (arith, at .1, stands .records .count)) bytes .detail) in
+      let was : Storable o = rw (stands .loaded)
+      (small-open m (stands .records .first) p (omega (arith, at .1, stands .records .count)) bytes .detail) in
       let rest : remaining (filledBy o n) ≢ 0 = λ e. some-left (read ∙ ap remaining made ∙ e) in
-      let new : Storable (filledBy o n) = record { packable = was .packable; part = omega (arith, rest); filled = stands .small; remaining = omega (arith, was .remaining) } in
+      let new : Storable (filledBy o n) = record {
+        packable = was .packable;
+        part = omega (arith, rest);
+        filled = stands .small;
+        remaining =
+            omega (arith, was .remaining);
+      } in
       (at .0, at .1, rw made new)
 
-  pub filled-leaves : r ≡ 0 → storeFrom m (leftFirst m p) (without p (openOrders m)) ≡ storeFrom m (keptFirst m (At p) (filledBy o n)) (change (o .id) fills (openOrders m))
+  pub filled-leaves : r ≡ 0 → storeFrom m (leftFirst m p) (without p (openOrders m)) ≡ storeFrom m (keptFirst m (At p) (filledBy o n))
+      (change (o .id) fills (openOrders m))
   unfolding closes
   filled-leaves none-left =
       rw (← made, eq-eqb (remaining next) 0 (sym read ∙ none-left))
       (ap (storeFrom m (leftFirst m p))
       (sym (change-leaves m (o .id) p (stands .found) fills (ap kept here ∙ kept-none next (sym read ∙ none-left)))))
 
-  pub filled-stays : r ≢ 0 → storeFrom m (firstOf m) (set (openOrders m) p next) ≡ storeFrom m (keptFirst m (At p) (filledBy o n)) (change (o .id) fills (openOrders m))
+  pub filled-stays : r ≢ 0 → storeFrom m (firstOf m) (set (openOrders m) p next) ≡ storeFrom m (keptFirst m (At p) (filledBy o n))
+      (change (o .id) fills (openOrders m))
   unfolding closes
   filled-stays some-left =
       rw (← made, ne-eqb (remaining next) 0 (λ e. some-left (read ∙ e)))

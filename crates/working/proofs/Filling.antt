@@ -32,7 +32,7 @@ use Rattle.layout.specs.FieldStores.{storeBalance}
 use Rattle.layout.proofs.GuardedTables.{on-here}
 use Rattle.soundness.proofs.Bounded.{balance-small}
 use Rattle.working.specs.Working.{Ready, Stands, keptFirst, worked, moved, onSide}
-use Rattle.working.proofs.Told.{Told, laid, records, told}
+use Rattle.working.proofs.AcceptedFacts.{AcceptedFacts, laid, records, accepted-facts}
 use Rattle.working.proofs.Rooms.{Cast, cast-fits}
 use Rattle.working.proofs.Changing.{named-id, named-found}
 
@@ -56,8 +56,8 @@ module _ {m : List ℕ} {id : ℕ} {n : ℤ} {p : ℕ} (ready : Ready m (Fill id
   same-quantity : quantity ≡ natAbs n
   same-quantity = ap natAbs (toZ-ofZ w64 n fits)
 
-  t : Told m (Fill id n)
-  t = told m (ready .held) (Fill id n) (ready .accepted)
+  t : AcceptedFacts m (Fill id n)
+  t = accepted-facts m (ready .held) (Fill id n) (ready .accepted)
 
   -- the quantity as contracts
   as-contracts : toZ w64 (ofZ w64 n) ≡ pos quantity

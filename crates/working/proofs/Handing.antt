@@ -24,5 +24,6 @@ placeless same named ready =
     let r = ready-as same ready in
     record { held = r .held; accepted = r .accepted; named = named }
 
-pub done-as : (m : List ℕ) {e e′ : Event} {x : List ℕ} {b s : ℕ} → e ≡ e′ → x ≡ worked m e′ → (b ≡ moved m e′ Buy) × (s ≡ moved m e′ Sell) → (x ≡ worked m e) × ((b ≡ moved m e Buy) × (s ≡ moved m e Sell))
+pub done-as : (m : List ℕ) {e e′ : Event} {x : List ℕ} {b s : ℕ} → e ≡ e′ → x ≡ worked m e′ → (b ≡ moved m e′ Buy) × (s ≡ moved m e′ Sell)
+    → (x ≡ worked m e) × ((b ≡ moved m e Buy) × (s ≡ moved m e Sell))
 done-as m same stored counts = rw same (stored, counts)

@@ -1,10 +1,10 @@
 -- Working an accepted event: what an acceptance tells, what is then stored, and that the view becomes the book's and stays sound.
-pub mod Told
+pub mod AcceptedFacts
 pub mod FirstRecord
 pub mod Writes
 pub mod Small
 pub mod ViewWorked
-pub mod HeldWorked
+pub mod SoundWorked
 pub mod Rooms
 pub mod LineFigures
 pub mod Blocking

@@ -23,14 +23,15 @@ use Rattle.book.specs.declared.LimitLine.the-variants.{OfGroup}
 use Rattle.book.specs.declared.Event.the-variants.{Limit}
 use Rattle.layout.specs.FieldStores.{lineWith, groupLineWith}
 use Rattle.working.specs.Working.{Ready, lineStored, worked}
-use Rattle.working.proofs.Told.{told}
+use Rattle.working.proofs.AcceptedFacts.{accepted-facts}
 
 -- ---- four figures
 pub line-unset : (f : Figures) (t : Bool) → t ≡ unsets f → t ≡ true → lineOf f ≡ none
 unfolding lineOf
 line-unset f t e h = rw (sym e ∙ h)
 
-pub line-set : (f : Figures) → unsets f ≡ false → lineOf f ≡ some (lineWith (natAbs (f .tci)) (natAbs (f .tvi)) (natAbs (f .lci)) (natAbs (f .lvi)))
+pub line-set : (f : Figures) → unsets f ≡ false
+    → lineOf f ≡ some (lineWith (natAbs (f .tci)) (natAbs (f .tvi)) (natAbs (f .lci)) (natAbs (f .lvi)))
 unfolding lineOf
 line-set f e = rw e
 
@@ -75,21 +76,24 @@ positive-not-minus-one : (z : ℤ) → pos 0 ≤ℤ z → isMinusOne z ≡ false
 positive-not-minus-one (pos n) h = refl
 positive-not-minus-one (negsuc n) h = absurd (h .le)
 
-module _ {m : List ℕ} {a g : ℕ} {x y : ℤ} {p : ℕ} (ready : Ready m (Limit a (OfGroup g x y)) p) (fits-x : SFits w64 x) {t : Bool} (said : t ≡ isMinusOne (toZ w64 (ofZ w64 x))) where
+module _ {m : List ℕ} {a g : ℕ} {x y : ℤ} {p : ℕ} (ready : Ready m (Limit a (OfGroup g x y)) p) (fits-x : SFits w64 x) {t : Bool}
+    (tested : t ≡ isMinusOne (toZ w64 (ofZ w64 x))) where
   fit : (isMinusOne x && isMinusOne y) || (isLimit derivatives x && isLimit derivatives y) ≡ true
-  fit = told m (ready .held) (Limit a (OfGroup g x y)) (ready .accepted) .2
+  fit = accepted-facts m (ready .held) (Limit a (OfGroup g x y)) (ready .accepted) .2
 
   first : isMinusOne x ≡ t
-  first = sym (said ∙ ap isMinusOne (toZ-ofZ w64 x fits-x))
+  first = sym (tested ∙ ap isMinusOne (toZ-ofZ w64 x fits-x))
 
   pub group-unset : t ≡ true → none ≡ groupLineOf x y
   unfolding groupLineOf
   group-unset taken = sym (by (isMinusOne y) (rw (first ∙ taken) at fit))
     where
-      by : (u : Bool) → u || (isLimit derivatives x && isLimit derivatives y) ≡ true → cond (isMinusOne x && u) none (some (groupLineWith (natAbs x) (natAbs y))) ≡ none
+      by : (u : Bool) → u || (isLimit derivatives x && isLimit derivatives y) ≡ true
+          → cond (isMinusOne x && u) none (some (groupLineWith (natAbs x) (natAbs y))) ≡ none
       by true h = rw (first ∙ taken)
       by false h =
-          absurd (true≢false (sym (first ∙ taken) ∙ positive-not-minus-one x (limit-positive x (both-true (isLimit derivatives x) (isLimit derivatives y) h .0))))
+          absurd (true≢false (sym (first ∙ taken)
+          ∙ positive-not-minus-one x (limit-positive x (both-true (isLimit derivatives x) (isLimit derivatives y) h .0))))
 
   module _ (left : t ≡ false) (fits-y : SFits w64 y) where
     pub group-casts : LimitCast x × LimitCast y
@@ -109,5 +113,6 @@ pub worked-line : (m : List ℕ) (a : ℕ) {l k : LimitLine} {x : List ℕ} → 
 unfolding worked
 worked-line m a same stored = rw same stored
 
-pub group-handed : {l : LimitLine} {g : ℕ} {x y : ℤ} → l ≡ OfGroup g x y → SFits w64 x → SFits w64 y → l ≡ OfGroup g (toZ w64 (ofZ w64 x)) (toZ w64 (ofZ w64 y))
+pub group-handed : {l : LimitLine} {g : ℕ} {x y : ℤ} → l ≡ OfGroup g x y → SFits w64 x → SFits w64 y
+    → l ≡ OfGroup g (toZ w64 (ofZ w64 x)) (toZ w64 (ofZ w64 y))
 group-handed {x = x} {y = y} same fits-x fits-y = rw (toZ-ofZ w64 x fits-x, toZ-ofZ w64 y fits-y) same

@@ -16,9 +16,9 @@ use Rattle.book.specs.declared.Blocked.the-variants.{Account, Instrument, Group
 use Rattle.book.specs.declared.Event.{Event}
 use Rattle.book.specs.declared.Event.the-variants.{Limit, Balance, Block, New, Replace, Cancel, Fill, Junk}
 use Rattle.layout.specs.Layout.{memoryBytes}
-use Rattle.layout.proofs.SameFields.{Held}
+use Rattle.layout.proofs.SameFields.{InBounds}
 use Rattle.working.specs.Working.{Ready}
-use Rattle.working.proofs.Told.{Told, laid, told}
+use Rattle.working.proofs.AcceptedFacts.{AcceptedFacts, laid, accepted-facts}
 
 -- a figure that is no less than 0 is cast
 abbrev pub Cast : ℤ → Type 0
@@ -42,7 +42,7 @@ Room m (Cancel id) = Unit
 Room m (Fill id n) = Unit
 Room m Junk = Unit
 
-in-room : (m : List ℕ) → Held m → (e : Event) → Told m e → Room m e
+in-room : (m : List ℕ) → InBounds m → (e : Event) → AcceptedFacts m e → Room m e
 in-room m held (Limit a (Own i f)) t = let bounds = held .sized in omega (arith, held .long)
 in-room m held (Limit a (Default c f)) t = let bounds = held .sized in omega (arith, held .long)
 in-room m held (Limit a (OfGroup g x y)) t = let bounds = held .sized in omega (arith, held .long)
@@ -57,4 +57,4 @@ in-room m held (Fill id n) t = tt
 in-room m held Junk t = tt
 
 pub room : {m : List ℕ} {e : Event} {p : ℕ} → Ready m e p → Room m e
-room {m} {e} r = in-room m (laid m (r .held)) e (told m (r .held) e (r .accepted))
+room {m} {e} r = in-room m (laid m (r .held)) e (accepted-facts m (r .held) e (r .accepted))

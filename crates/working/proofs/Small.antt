@@ -30,10 +30,10 @@ use Rattle.layout.specs.Judged.{judged}
 use Rattle.layout.proofs.RosterLaws.{by-test}
 use Rattle.layout.proofs.OrderRecords.{small-open}
 use Rattle.layout.proofs.StoreWords.{SmallLine, SmallGroupLine}
-use Rattle.soundness.specs.Held.{Held}
+use Rattle.soundness.specs.SoundMemory.{SoundMemory}
 use Rattle.soundness.proofs.OrderFacts.{each-member}
-use Rattle.soundness.proofs.SoundDesk.{held-count}
-use Rattle.working.proofs.Told.{Found, sound, storable, passed, told}
+use Rattle.soundness.proofs.SoundDesk.{sound-count}
+use Rattle.working.proofs.AcceptedFacts.{Found, sound, storable, passed, accepted-facts}
 
 -- ---- lines in range
 pub small-line : (x : Option Line) → ((l : Line) → x ≡ some l → LineFits 1000000000 l) → SmallLine x
@@ -81,29 +81,31 @@ became-small : (o : Order) → o .id < 2 ^ 64 → (l : List Order) → Became o 
 became-small o small l gone x k = absurd (List·Memᴰ·not-nil k)
 became-small o small l (became e) x k = rw (List·Memᴰ·eq-of-singleton k, e) small
 
-module _ (m : List ℕ) (bytes : Bytes m) (held : Held m) where
+module _ (m : List ℕ) (bytes : Bytes m) (held : SoundMemory m) where
   open-ids : (o : Order) → List·Memᴰ o (openOrders m) → o .id < 2 ^ 64
   unfolding openOrders
   open-ids =
       each-member (recordsOf m) (λ o. o .id < 2 ^ 64) 0 (wordAt m countWord)
-      (λ q a b. small-open m (held .first) q (omega (arith, held-count m held)) bytes .id)
+      (λ q a b. small-open m (held .first) q (omega (arith, sound-count m held)) bytes .id)
 
-  changed-ids : (id : ℕ) (f : Order → List Order) → ((o : Order) → Became o (f o)) → Found m id → (x : Order) → List·Memᴰ x (change id f (openOrders m)) → x .id < 2 ^ 64
+  changed-ids : (id : ℕ) (f : Order → List Order) → ((o : Order) → Became o (f o)) → Found m id → (x : Order)
+      → List·Memᴰ x (change id f (openOrders m)) → x .id < 2 ^ 64
   changed-ids id f becomes d =
       let o = d .order in
       change-each id f (openOrders m) o (d .found) (λ x. x .id < 2 ^ 64) open-ids
       (became-small o (open-ids o (standing-member (standing id (openOrders m) o (d .found)))) (f o) (becomes o))
 
-  ids-after : (e : Event) → Sized e → judged m e ≡ 0 → (x : Order) → List·Memᴰ x (work (derivatives .unit) (bookOf m) e .orders) → x .id < 2 ^ 64
+  ids-after : (e : Event) → Sized e → judged m e ≡ 0 → (x : Order) → List·Memᴰ x (work (derivatives .unit) (bookOf m) e .orders)
+      → x .id < 2 ^ 64
   unfolding work bookOf newOrder
   ids-after (Limit a l) sized passes = open-ids
   ids-after (Balance a i z) sized passes = open-ids
   ids-after (Block what z) sized passes = open-ids
   ids-after (New s a i id n) sized passes =
       λ x k. ⊎-elim (λ e. rw e sized) (open-ids x) (insert-members (newOrder s a i id n) (openOrders m) x .0 k)
-  ids-after (Replace id n) sized passes = changed-ids id _ (replaced-became (natAbs n)) (told m held (Replace id n) passes .0)
-  ids-after (Cancel id) sized passes = changed-ids id _ (λ o. gone) (told m held (Cancel id) passes)
-  ids-after (Fill id n) sized passes = changed-ids id _ (filled-became (natAbs n)) (told m held (Fill id n) passes .0)
+  ids-after (Replace id n) sized passes = changed-ids id _ (replaced-became (natAbs n)) (accepted-facts m held (Replace id n) passes .0)
+  ids-after (Cancel id) sized passes = changed-ids id _ (λ o. gone) (accepted-facts m held (Cancel id) passes)
+  ids-after (Fill id n) sized passes = changed-ids id _ (filled-became (natAbs n)) (accepted-facts m held (Fill id n) passes .0)
   ids-after Junk sized passes = open-ids
 
   pub small-after : (e : Event) → Sized e → judged m e ≡ 0 → SmallOrders (work (derivatives .unit) (bookOf m) e .orders)

@@ -28,18 +28,20 @@ use Rattle.layout.proofs.FirstRecord.{joined-small}
 use Rattle.layout.proofs.ViewStores.{view-balance, view-mark}
 use Rattle.layout.proofs.ViewBlocks.{view-block-account, view-block-instrument, view-block-group}
 use Rattle.layout.proofs.ViewLimits.{view-own, view-default, view-of-group}
-use Rattle.layout.proofs.ViewOrders.{view-orders, held-orders, roster-orders}
-use Rattle.soundness.specs.Held.{Held}
+use Rattle.layout.proofs.ViewOrders.{view-orders, bounds-orders, roster-orders}
+use Rattle.soundness.specs.SoundMemory.{SoundMemory}
 use Rattle.soundness.proofs.Bounded.{balance-small}
 use Rattle.working.specs.Working.{keptFirst, worked}
-use Rattle.working.proofs.Told.{laid, told}
+use Rattle.working.proofs.AcceptedFacts.{laid, accepted-facts}
 use Rattle.working.proofs.FirstRecord.{gone-small, kept-small}
 use Rattle.working.proofs.Writes.{few-after}
 use Rattle.working.proofs.Filling.{fill-one}
 use Rattle.working.proofs.Small.{Sized, small-line, small-group-line, small-after}
 
 -- a fill moves the balance of its order's place alone
-fill-moves : (unit : Order → ℕ) (o : Order) (n : ℕ) (S : ℕ → ℕ → ℤ) → at (o .account) (at (o .instrument) (S (o .account) (o .instrument) +ℤ fillMoves unit (o .account) (o .instrument) o n) (S (o .account))) S ≡ (λ b k. S b k +ℤ fillMoves unit b k o n)
+fill-moves : (unit : Order → ℕ) (o : Order) (n : ℕ) (S : ℕ → ℕ → ℤ)
+    → at (o .account) (at (o .instrument) (S (o .account) (o .instrument) +ℤ fillMoves unit (o .account) (o .instrument) o n)
+    (S (o .account))) S ≡ (λ b k. S b k +ℤ fillMoves unit b k o n)
 fill-moves unit o n S =
     fun-ext
     (λ b. fun-ext (λ k. by-number b a (λ t. cond t (at i z (S a)) (S b) k ≡ S b k +ℤ fillMoves unit b k o n)
@@ -68,13 +70,20 @@ fill-size o n = ap natAbs (fill-one o n) ∙ by (o .side)
     by Buy = refl
     by Sell = magnitude-negation (pos n)
 
-module _ (m : List ℕ) (bytes : Bytes m) (held : Held m) where
+module _ (m : List ℕ) (bytes : Bytes m) (held : SoundMemory m) where
   -- the orders afterwards, stored
-  orders-shown : (f : ℕ) → f ≤ 256 → (e : Event) → Sized e → judged m e ≡ 0 → view (storeFrom m f (work (derivatives .unit) (bookOf m) e .orders)) ≡ record { book = withOrders (bookOf m) (work (derivatives .unit) (bookOf m) e .orders); trading = tradingOf m }
+  orders-shown : (f : ℕ) → f ≤ 256 → (e : Event) → Sized e → judged m e ≡ 0
+      → view (storeFrom m f (work (derivatives .unit) (bookOf m) e .orders))
+      ≡ record { book = withOrders (bookOf m) (work (derivatives .unit) (bookOf m) e .orders); trading = tradingOf m }
   orders-shown f inside e id-word passes =
-      view-orders m f (work (derivatives .unit) (bookOf m) e .orders) (laid m held) inside (few-after m held e passes) (small-after m bytes held e id-word passes)
+      view-orders m f (work (derivatives .unit) (bookOf m) e .orders) (laid m held) inside (few-after m held e passes)
+      (small-after m bytes held e id-word passes)
 
-  new-shown : (s : Side) (a i id : ℕ) (n : ℤ) → id < 2 ^ 64 → judged m (New s a i id n) ≡ 0 → view (worked m (New s a i id n)) ≡ record { book = work (derivatives .unit) (bookOf m) (New s a i id n); trading = at a true (tradingOf m) }
+  new-shown : (s : Side) (a i id : ℕ) (n : ℤ) → id < 2 ^ 64 → judged m (New s a i id n) ≡ 0
+      → view (worked m (New s a i id n)) ≡ record {
+        book = work (derivatives .unit) (bookOf m) (New s a i id n);
+        trading = at a true (tradingOf m);
+      }
   unfolding worked work bookOf view
   new-shown s a i id n id-word passes =
       let e = New s a i id n in
@@ -83,22 +92,26 @@ module _ (m : List ℕ) (bytes : Bytes m) (held : Held m) where
       let shown = orders-shown f inside e id-word passes in
       let l = storeFrom m f (work (derivatives .unit) (bookOf m) e .orders) in
       let few = few-after m held e passes in
-      view-mark l (held-orders m f _ (laid m held) inside few) a (rw (roster-orders m f _ (laid m held) inside few) (told m held e passes .0))
+      view-mark l (bounds-orders m f _ (laid m held) inside few) a
+      (rw (roster-orders m f _ (laid m held) inside few) (accepted-facts m held e passes .0))
       ∙ ap (λ k. record { book = k .book; trading = at a true (k .trading) }) shown
 
-  replace-shown : (id : ℕ) (n : ℤ) → judged m (Replace id n) ≡ 0 → view (worked m (Replace id n)) ≡ record { book = work (derivatives .unit) (bookOf m) (Replace id n); trading = tradingOf m }
+  replace-shown : (id : ℕ) (n : ℤ) → judged m (Replace id n) ≡ 0
+      → view (worked m (Replace id n)) ≡ record { book = work (derivatives .unit) (bookOf m) (Replace id n); trading = tradingOf m }
   unfolding worked work bookOf
   replace-shown id n passes = orders-shown (firstOf m) (held .first) (Replace id n) tt passes
 
-  cancel-shown : (id : ℕ) → judged m (Cancel id) ≡ 0 → view (worked m (Cancel id)) ≡ record { book = work (derivatives .unit) (bookOf m) (Cancel id); trading = tradingOf m }
+  cancel-shown : (id : ℕ) → judged m (Cancel id) ≡ 0
+      → view (worked m (Cancel id)) ≡ record { book = work (derivatives .unit) (bookOf m) (Cancel id); trading = tradingOf m }
   unfolding worked work bookOf
   cancel-shown id passes = orders-shown _ (gone-small m (held .first) (placeFrom 0 id (openOrders m))) (Cancel id) tt passes
 
-  fill-shown : (id : ℕ) (n : ℤ) → judged m (Fill id n) ≡ 0 → view (worked m (Fill id n)) ≡ record { book = work (derivatives .unit) (bookOf m) (Fill id n); trading = tradingOf m }
+  fill-shown : (id : ℕ) (n : ℤ) → judged m (Fill id n) ≡ 0
+      → view (worked m (Fill id n)) ≡ record { book = work (derivatives .unit) (bookOf m) (Fill id n); trading = tradingOf m }
   unfolding worked work bookOf view
   fill-shown id n passes =
       let e = Fill id n in
-      let t = told m held e passes in
+      let t = accepted-facts m held e passes in
       let o = t .0 .order in
       let a = o .account in
       let i = o .instrument in
@@ -111,30 +124,47 @@ module _ (m : List ℕ) (bytes : Bytes m) (held : Held m) where
       let roster = roster-orders m f (work unit (bookOf m) e .orders) (laid m held) inside few in
       let balances = fill-moves unit o (natAbs n) (balancesOf m) in
       rw (t .0 .found)
-      (view-balance l (held-orders m f _ (laid m held) inside few) a i z (rw roster (t .0 .fits .account)) (rw roster (t .0 .fits .instrument)) (omega (sized, balance-small m held a i, fill-size o (natAbs n), magnitude-sum (balancesOf m a i) (fillMoves unit a i o (natAbs n)))) unit
+      (view-balance l (bounds-orders m f _ (laid m held) inside few) a i z (rw roster (t .0 .fits .account))
+      (rw roster (t .0 .fits .instrument)) (omega (
+        sized,
+        balance-small m held a i,
+        fill-size o (natAbs n),
+        magnitude-sum (balancesOf m a i) (fillMoves unit a i o (natAbs n)),
+      )) unit
       ∙ ap (λ k. record { book = work unit (k .book) (Balance a i z); trading = k .trading }) (orders-shown f inside e tt passes)
-      ∙ ap (λ s. record { book = record { balanceOf = s; linesOf = linesOf m; blocks = blocksOf m; orders = work unit (bookOf m) e .orders }; trading = tradingOf m }) balances)
+      ∙ ap (λ s. record {
+        book = record {
+          balanceOf = s;
+          linesOf = linesOf m;
+          blocks = blocksOf m;
+          orders =
+              work unit (bookOf m) e .orders;
+        };
+        trading = tradingOf m;
+      }) balances)
 
-  pub view-worked : (e : Event) → Sized e → judged m e ≡ 0 → view (worked m e) ≡ record { book = work (derivatives .unit) (bookOf m) e; trading = mark (tradingOf m) e }
+  pub view-worked : (e : Event) → Sized e → judged m e ≡ 0
+      → view (worked m e) ≡ record { book = work (derivatives .unit) (bookOf m) e; trading = mark (tradingOf m) e }
   unfolding worked work mark view derivatives
   view-worked (Limit a (Own i f)) id-word passes =
-      let t = told m held (Limit a (Own i f)) passes in
+      let t = accepted-facts m held (Limit a (Own i f)) passes in
       view-own m (laid m held) a i f (small-line (lineOf f) (line-fits derivatives f (t .2))) (t .0) (t .1) (derivatives .unit)
   view-worked (Limit a (Default c f)) id-word passes =
-      let t = told m held (Limit a (Default c f)) passes in
+      let t = accepted-facts m held (Limit a (Default c f)) passes in
       view-default m (laid m held) a c f (small-line (lineOf f) (line-fits derivatives f (t .2))) (t .0) (t .1) (derivatives .unit)
   view-worked (Limit a (OfGroup g x y)) id-word passes =
-      let t = told m held (Limit a (OfGroup g x y)) passes in
-      view-of-group m (laid m held) a g x y (small-group-line (groupLineOf x y) (group-line-fits derivatives x y (t .2))) (t .0) (t .1) (derivatives .unit)
+      let t = accepted-facts m held (Limit a (OfGroup g x y)) passes in
+      view-of-group m (laid m held) a g x y (small-group-line (groupLineOf x y) (group-line-fits derivatives x y (t .2))) (t .0) (t .1)
+      (derivatives .unit)
   view-worked (Balance a i z) id-word passes =
-      let t = told m held (Balance a i z) passes in
+      let t = accepted-facts m held (Balance a i z) passes in
       view-balance m (laid m held) a i z (t .0) (t .1) (omega sized) (derivatives .unit)
   view-worked (Block (Account a) z) id-word passes =
-      view-block-account m (laid m held) z (derivatives .unit) a (told m held (Block (Account a) z) passes)
+      view-block-account m (laid m held) z (derivatives .unit) a (accepted-facts m held (Block (Account a) z) passes)
   view-worked (Block (Instrument i) z) id-word passes =
-      view-block-instrument m (laid m held) z (derivatives .unit) i (told m held (Block (Instrument i) z) passes)
+      view-block-instrument m (laid m held) z (derivatives .unit) i (accepted-facts m held (Block (Instrument i) z) passes)
   view-worked (Block (GroupFor a g) z) id-word passes =
-      let t = told m held (Block (GroupFor a g) z) passes in
+      let t = accepted-facts m held (Block (GroupFor a g) z) passes in
       view-block-group m (laid m held) z (derivatives .unit) a g (t .0) (t .1)
   view-worked (New s a i id n) id-word passes = new-shown s a i id n id-word passes
   view-worked (Replace id n) id-word passes = replace-shown id n passes

@@ -23,16 +23,17 @@ use Rattle.book.specs.Books.{lineOf, groupLineOf, work}
 use Rattle.book.specs.Sound.{LineFits, GroupLineFits}
 use Rattle.book.proofs.SoundLines.{line-fits, group-line-fits}
 use Rattle.book.proofs.SoundOrders.{count-after}
-use Rattle.layout.specs.Layout.{markWord, accountBlockWord, instrumentBlockWord, groupBlockRow, balanceRow, ownSetRow, defaultSetRow, groupSetRow, ownRow, defaultRow, groupRow}
+use Rattle.layout.specs.Layout.{markWord, accountBlockWord, instrumentBlockWord, groupBlockRow, balanceRow, ownSetRow, defaultSetRow}
+use Rattle.layout.specs.Layout.{groupSetRow, ownRow, defaultRow, groupRow}
 use Rattle.layout.specs.View.{rosterOf, openOrders, bookOf, tradingOf}
 use Rattle.layout.specs.Stores.{recordWord, fields, putOrder, putOrders, storeFrom}
 use Rattle.layout.specs.FieldStores.{lineWords, groupLineWords, storeLine, storeGroupLine, storeBalance}
 use Rattle.layout.specs.Judged.{judged}
 use Rattle.layout.proofs.RosterLaws.{roster-same}
 use Rattle.layout.proofs.FirstRecord.{joined-small}
-use Rattle.soundness.specs.Held.{Held}
+use Rattle.soundness.specs.SoundMemory.{SoundMemory}
 use Rattle.working.specs.Working.{worked}
-use Rattle.working.proofs.Told.{sound, laid, passed, told}
+use Rattle.working.proofs.AcceptedFacts.{sound, laid, passed, accepted-facts}
 use Rattle.working.proofs.FirstRecord.{gone-small, kept-small}
 
 -- no event of an order
@@ -50,8 +51,8 @@ Setting Junk = Unit
 abbrev pub FiguresFit : ℕ → Type 0
 FiguresFit v = (lower v ≤ 1000000000) × (upper v ≤ 1000000000)
 
--- what a store of v in word k is: behind the roster, inside the desk, of a setting before the records, of the first record's place inside the
--- region, and of a line with its figures in range
+-- what a store of v in word k is: behind the roster, inside the desk, of a setting before the records, of the first record's place inside
+-- the region, and of a line with its figures in range
 pub record Stores (e : Event) (k v : ℕ) : Type 0 where
   pub low : 112 ≤ k
   pub high : k < 8192
@@ -60,7 +61,7 @@ pub record Stores (e : Event) (k v : ℕ) : Type 0 where
   pub figures : 1536 ≤ k → k < 2880 → FiguresFit v
 
 -- at most 256 orders are open afterwards
-pub few-after : (m : List ℕ) → Held m → (e : Event) → judged m e ≡ 0 → length (work (derivatives .unit) (bookOf m) e .orders) ≤ 256
+pub few-after : (m : List ℕ) → SoundMemory m → (e : Event) → judged m e ≡ 0 → length (work (derivatives .unit) (bookOf m) e .orders) ≤ 256
 few-after m held e passes =
     count-after derivatives (rosterOf m) (bookOf m) (tradingOf m) (sound m held) e (passed m e passes)
 
@@ -82,7 +83,8 @@ module _ (S : ℕ → ℕ → Type 0) (P : List ℕ → Type 0) (keeps : (l : Li
   keeps-words (v ∷ vs) l k ok p =
       let first : k + 0 ≡ k = omega arith in
       let next : (j : ℕ) → k + suc j ≡ k + 1 + j = λ j. omega arith in
-      keeps-words vs (putWord l k v) (k + 1) (λ j h. rw (next j) at (ok (suc j) (omega arith))) (keeps l k v (rw first at (ok 0 (omega arith))) p)
+      keeps-words vs (putWord l k v) (k + 1) (λ j h. rw (next j) at (ok (suc j) (omega arith)))
+      (keeps l k v (rw first at (ok 0 (omega arith))) p)
 
   keeps-signed : (l : List ℕ) (k : ℕ) (z : ℤ) → ((v : ℕ) → S k v) → P l → P (putSigned l k z)
   unfolding putSigned
@@ -93,9 +95,11 @@ module _ (S : ℕ → ℕ → Type 0) (P : List ℕ → Type 0) (keeps : (l : Li
     unfolding putOrders putOrder fields
     keeps-records [] l q few p = p
     keeps-records (o ∷ os) l q few p =
-        keeps-records os (putOrder l q o) (q + 1) (omega arith) (keeps-words (fields o) l (recordWord q) (λ j h. ok (recordWord q + j) _ (omega arith) (omega arith)) p)
+        keeps-records os (putOrder l q o) (q + 1) (omega arith)
+        (keeps-words (fields o) l (recordWord q) (λ j h. ok (recordWord q + j) _ (omega arith) (omega arith)) p)
 
-    keeps-orders : ((v : ℕ) → S 112 v) → ((v : ℕ) → v ≤ 256 → S 113 v) → (m : List ℕ) (f : ℕ) (os : List Order) → f ≤ 256 → length os ≤ 256 → P m → P (storeFrom m f os)
+    keeps-orders : ((v : ℕ) → S 112 v) → ((v : ℕ) → v ≤ 256 → S 113 v) → (m : List ℕ) (f : ℕ) (os : List Order) → f ≤ 256 → length os ≤ 256
+        → P m → P (storeFrom m f os)
     unfolding storeFrom
     keeps-orders count first m f os low few p =
         keeps (putWord (putOrders m f os) 113 f) 112 (length os) (count (length os))
@@ -103,21 +107,25 @@ module _ (S : ℕ → ℕ → Type 0) (P : List ℕ → Type 0) (keeps : (l : Li
 
   -- a line: its figures are in range
   module _ (m : List ℕ) (s k : ℕ) (set : (v : ℕ) → v ≤ 1 → S s v) (p : P m) where
-    keeps-line : ((j v : ℕ) → k ≤ j → j < k + 2 → FiguresFit v → S j v) → (x : Option Line) → ((l : Line) → x ≡ some l → LineFits 1000000000 l) → P (storeLine m s k x)
+    keeps-line : ((j v : ℕ) → k ≤ j → j < k + 2 → FiguresFit v → S j v) → (x : Option Line)
+        → ((l : Line) → x ≡ some l → LineFits 1000000000 l) → P (storeLine m s k x)
     keeps-line ok none fits = keeps m s 0 (set 0 (omega arith)) p
     keeps-line ok (some l) fits =
         keeps (putWords m k (lineWords l)) s 1 (set 1 (omega arith))
         (keeps-words (lineWords l) m k (λ j h. ok (k + j) _ (omega arith) (omega arith) (line-words-fit l (fits l refl) j)) p)
 
-    keeps-group-line : ((j v : ℕ) → k ≤ j → j < k + 1 → FiguresFit v → S j v) → (x : Option GroupLine) → ((l : GroupLine) → x ≡ some l → GroupLineFits 1000000000 l) → P (storeGroupLine m s k x)
+    keeps-group-line : ((j v : ℕ) → k ≤ j → j < k + 1 → FiguresFit v → S j v) → (x : Option GroupLine)
+        → ((l : GroupLine) → x ≡ some l → GroupLineFits 1000000000 l) → P (storeGroupLine m s k x)
     keeps-group-line ok none fits = keeps m s 0 (set 0 (omega arith)) p
     keeps-group-line ok (some l) fits =
         keeps (putWords m k (groupLineWords l)) s 1 (set 1 (omega arith))
         (keeps-words (groupLineWords l) m k (λ j h. ok (k + j) _ (omega arith) (omega arith) (group-words-fit l (fits l refl) j)) p)
 
 -- ---- the memory after an accepted event
-module _ (e : Event) (P : List ℕ → Type 0) (keeps : (l : List ℕ) (k v : ℕ) → Stores e k v → P l → P (putWord l k v)) (m : List ℕ) (held : Held m) where
-  keeps-balance : (l : List ℕ) (a i : ℕ) (z : ℤ) → Numbered (rosterOf m .accounts) a → Numbered (rosterOf m .instruments) i → P l → P (storeBalance l a i z)
+module _ (e : Event) (P : List ℕ → Type 0) (keeps : (l : List ℕ) (k v : ℕ) → Stores e k v → P l → P (putWord l k v)) (m : List ℕ)
+    (held : SoundMemory m) where
+  keeps-balance : (l : List ℕ) (a i : ℕ) (z : ℤ) → Numbered (rosterOf m .accounts) a → Numbered (rosterOf m .instruments) i → P l
+      → P (storeBalance l a i z)
   keeps-balance l a i z on-a on-i =
       let sized = laid m held .sized in
       keeps-signed (Stores e) P keeps l (balanceRow a + i) z (λ v. omega arith)
@@ -127,7 +135,8 @@ module _ (e : Event) (P : List ℕ → Type 0) (keeps : (l : List ℕ) (k v : �
   of-order no-setting k v low high first apart =
       record { low = low; high = high; aside = λ s. absurd (no-setting s); first = first; figures = λ a b. absurd (apart a b) }
 
-  keeps-list : (Setting e → ⊥) → (f : ℕ) → f ≤ 256 → judged m e ≡ 0 → P m → P (storeFrom m f (work (derivatives .unit) (bookOf m) e .orders))
+  keeps-list : (Setting e → ⊥) → (f : ℕ) → f ≤ 256 → judged m e ≡ 0 → P m
+      → P (storeFrom m f (work (derivatives .unit) (bookOf m) e .orders))
   keeps-list no-setting f inside passes =
       keeps-orders (Stores e) P keeps
       (λ j v low high. of-order no-setting j v (omega arith) (omega arith) (λ same. omega arith) (λ a b. omega arith))
@@ -135,49 +144,56 @@ module _ (e : Event) (P : List ℕ → Type 0) (keeps : (l : List ℕ) (k v : �
       (λ v small. of-order no-setting 113 v (omega arith) (omega arith) (λ same. small) (λ a b. omega arith))
       m f _ inside (few-after m held e passes)
 
-pub worked-keeps : (e : Event) (P : List ℕ → Type 0) → ((l : List ℕ) (k v : ℕ) → Stores e k v → P l → P (putWord l k v)) → (m : List ℕ) → Held m → judged m e ≡ 0 → P m → P (worked m e)
+pub worked-keeps : (e : Event) (P : List ℕ → Type 0) → ((l : List ℕ) (k v : ℕ) → Stores e k v → P l → P (putWord l k v)) → (m : List ℕ)
+    → SoundMemory m → judged m e ≡ 0 → P m → P (worked m e)
 unfolding worked work bookOf derivatives
 worked-keeps (Limit a (Own i f)) P keeps m held passes p =
-    let t = told m held (Limit a (Own i f)) passes in
+    let t = accepted-facts m held (Limit a (Own i f)) passes in
     let sized = laid m held .sized in
-    keeps-line (Stores (Limit a (Own i f))) P keeps m (ownSetRow a + i) (ownRow a + i * 2) (λ v h. omega arith) p (λ j v low high h. omega arith) (lineOf f) (line-fits derivatives f (t .2))
+    keeps-line (Stores (Limit a (Own i f))) P keeps m (ownSetRow a + i) (ownRow a + i * 2) (λ v h. omega arith) p
+    (λ j v low high h. omega arith) (lineOf f) (line-fits derivatives f (t .2))
 worked-keeps (Limit a (Default c f)) P keeps m held passes p =
-    let t = told m held (Limit a (Default c f)) passes in
+    let t = accepted-facts m held (Limit a (Default c f)) passes in
     let sized = laid m held .sized in
-    keeps-line (Stores (Limit a (Default c f))) P keeps m (defaultSetRow a + c) (defaultRow a + c * 2) (λ v h. omega arith) p (λ j v low high h. omega arith) (lineOf f) (line-fits derivatives f (t .2))
+    keeps-line (Stores (Limit a (Default c f))) P keeps m (defaultSetRow a + c) (defaultRow a + c * 2) (λ v h. omega arith) p
+    (λ j v low high h. omega arith) (lineOf f) (line-fits derivatives f (t .2))
 worked-keeps (Limit a (OfGroup g x y)) P keeps m held passes p =
-    let t = told m held (Limit a (OfGroup g x y)) passes in
+    let t = accepted-facts m held (Limit a (OfGroup g x y)) passes in
     let sized = laid m held .sized in
-    keeps-group-line (Stores (Limit a (OfGroup g x y))) P keeps m (groupSetRow a + g) (groupRow a + g) (λ v h. omega arith) p (λ j v low high h. omega arith) (groupLineOf x y) (group-line-fits derivatives x y (t .2))
+    keeps-group-line (Stores (Limit a (OfGroup g x y))) P keeps m (groupSetRow a + g) (groupRow a + g) (λ v h. omega arith) p
+    (λ j v low high h. omega arith) (groupLineOf x y) (group-line-fits derivatives x y (t .2))
 worked-keeps (Balance a i z) P keeps m held passes p =
-    let t = told m held (Balance a i z) passes in
+    let t = accepted-facts m held (Balance a i z) passes in
     keeps-balance (Balance a i z) P keeps m held m a i z (t .0) (t .1) p
 worked-keeps (Block (Account a) z) P keeps m held passes p =
-    let t = told m held (Block (Account a) z) passes in
+    let t = accepted-facts m held (Block (Account a) z) passes in
     let sized = laid m held .sized in
     keeps m (accountBlockWord a) _ (omega arith) p
 worked-keeps (Block (Instrument i) z) P keeps m held passes p =
-    let t = told m held (Block (Instrument i) z) passes in
+    let t = accepted-facts m held (Block (Instrument i) z) passes in
     let sized = laid m held .sized in
     keeps m (instrumentBlockWord i) _ (omega arith) p
 worked-keeps (Block (GroupFor a g) z) P keeps m held passes p =
-    let t = told m held (Block (GroupFor a g) z) passes in
+    let t = accepted-facts m held (Block (GroupFor a g) z) passes in
     let sized = laid m held .sized in
     keeps m (groupBlockRow a + g) _ (omega arith) p
 worked-keeps (New s a i id n) P keeps m held passes p =
-    let t = told m held (New s a i id n) passes in
+    let t = accepted-facts m held (New s a i id n) passes in
     let sized = laid m held .sized in
     keeps _ (markWord a) 1 (omega arith) (keeps-list (New s a i id n) P keeps m held (λ x. x) _ (joined-small m _ (held .first)) passes p)
 worked-keeps (Replace id n) P keeps m held passes p = keeps-list (Replace id n) P keeps m held (λ x. x) _ (held .first) passes p
-worked-keeps (Cancel id) P keeps m held passes p = keeps-list (Cancel id) P keeps m held (λ x. x) _ (gone-small m (held .first) (placeFrom 0 id (openOrders m))) passes p
+worked-keeps (Cancel id) P keeps m held passes p =
+    keeps-list (Cancel id) P keeps m held (λ x. x) _ (gone-small m (held .first) (placeFrom 0 id (openOrders m))) passes p
 worked-keeps (Fill id n) P keeps m held passes p =
-    let f = told m held (Fill id n) passes .0 in
+    let f = accepted-facts m held (Fill id n) passes .0 in
     rw (f .found)
-    (keeps-balance (Fill id n) P keeps m held _ (f .order .account) (f .order .instrument) _ (f .fits .account) (f .fits .instrument) (keeps-list (Fill id n) P keeps m held (λ x. x) _ (kept-small m (held .first) (placeFrom 0 id (openOrders m)) (filledBy (f .order) (natAbs n))) passes p))
+    (keeps-balance (Fill id n) P keeps m held _ (f .order .account) (f .order .instrument) _ (f .fits .account) (f .fits .instrument)
+    (keeps-list (Fill id n) P keeps m held (λ x. x) _
+    (kept-small m (held .first) (placeFrom 0 id (openOrders m)) (filledBy (f .order) (natAbs n))) passes p))
 worked-keeps Junk P keeps m held passes p = p
 
 -- ---- so are kept
-module _ (m : List ℕ) (held : Held m) (e : Event) (passes : judged m e ≡ 0) where
+module _ (m : List ℕ) (held : SoundMemory m) (e : Event) (passes : judged m e ≡ 0) where
   pub length-worked : length (worked m e) ≡ length m
   length-worked =
       worked-keeps e (λ l. length l ≡ length m) (λ l k v s was. length-put l k v ∙ was) m held passes refl

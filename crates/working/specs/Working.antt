@@ -25,12 +25,13 @@ use Rattle.book.specs.Books.{lineOf, groupLineOf, newOrder}
 use Rattle.layout.specs.View.{balancesOf, firstOf, openOrders}
 use Rattle.layout.specs.Judged.{judged, NamedAt}
 use Rattle.layout.specs.Stores.{orderIn, storeFrom, joinedFirst, leftFirst, Records, rank}
-use Rattle.layout.specs.FieldStores.{storeBalance, storeMark, blockAccount, blockInstrument, blockGroup, storeOwn, storeDefault, storeOfGroup}
-use Rattle.soundness.specs.Held.{Held}
+use Rattle.layout.specs.FieldStores.{storeBalance, storeMark, blockAccount, blockInstrument, blockGroup, storeOwn, storeDefault}
+use Rattle.layout.specs.FieldStores.{storeOfGroup}
+use Rattle.soundness.specs.SoundMemory.{SoundMemory}
 
 -- an accepted event at a sound desk; the order that it names stands, or joins, at place p
 pub record Ready (m : List ℕ) (e : Event) (p : ℕ) : Type 0 where
-  pub held : Held m
+  pub held : SoundMemory m
   pub accepted : judged m e ≡ 0
   pub named : NamedAt e (openOrders m) p
 
@@ -67,7 +68,8 @@ filled m id n (some o) =
     let a = o .account in
     let i = o .instrument in
     let f = keptFirst m (placeFrom 0 id (openOrders m)) (filledBy o n) in
-    storeBalance (storeFrom m f (change id (λ x. kept (filledBy x n)) (openOrders m))) a i (balancesOf m a i +ℤ fillMoves (derivatives .unit) a i o n)
+    storeBalance (storeFrom m f (change id (λ x. kept (filledBy x n)) (openOrders m))) a i
+    (balancesOf m a i +ℤ fillMoves (derivatives .unit) a i o n)
 
 -- the memory after the event
 unfoldable pub worked : List ℕ → Event → List ℕ

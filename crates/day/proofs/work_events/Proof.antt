@@ -7,28 +7,14 @@ use Rattle.day.proofs.work_events.Statement.{statement}
 use Rattle.day.proofs.work_events.Tie as tie
 
 abbrev Inv-loop : tie.InvT-loop
-Inv-loop m₀ buf₀ used block₀ at₀ before₀ m buf block at before = (length m ≡ length m₀) × (length buf ≡ length buf₀) × (length block ≡ 49152)
+Inv-loop m₀ buf₀ used block₀ at₀ before₀ m buf block at before =
+    (length m ≡ length m₀) × (length buf ≡ length buf₀) × (length block ≡ 49152)
 
 abbrev μ-loop : tie.MeasureT-loop
 μ-loop m₀ buf₀ used block₀ at₀ before₀ m buf block at before = 9223372036854775808 - before
 
 pub work-events-spec : {M : Type 1} → statement M
 work-events-spec =
-    tie.close
-    (tie.spec
-    Inv-loop
-    μ-loop
-    (λ c. search needs)
-    (λ c. search needs)
-    (λ c κs. search needs)
-    (λ c. search needs)
-    (λ c κs. search needs)
-    (λ c. search needs)
-    (λ c. search needs)
-    (λ c. search needs)
-    (λ c. search needs)
-    (λ c. search needs)
-    (λ c. search needs)
-    (λ c. search needs)
-    (λ c. search needs)
-    (λ c. search needs))
+    tie.close (tie.spec Inv-loop μ-loop (λ c. search needs) (λ c. search needs) (λ c κs. search needs) (λ c. search needs)
+    (λ c κs. search needs) (λ c. search needs) (λ c. search needs) (λ c. search needs) (λ c. search needs) (λ c. search needs)
+    (λ c. search needs) (λ c. search needs) (λ c. search needs) (λ c. search needs))

@@ -10,10 +10,16 @@ returns : tie.Need-returns
 returns c = simp (block-law _ (c .before .before .before .pre), ← c .before .u8-at .ensures, ne-eqb _ _ (c .if1 .taken))
 
 returns-2 : tie.Need-returns-2
-returns-2 c = simp (block-law _ (c .before .before .before .before .before .pre), ← c .before .u64-at .ensures, ne-eqb _ _ (c .if2 .taken), and-false)
+returns-2 c =
+    simp (block-law _ (c .before .before .before .before .before .pre), ← c .before .u64-at .ensures, ne-eqb _ _ (c .if2 .taken), and-false)
 
 returns-3 : tie.Need-returns-3
-returns-3 c = simp (block-law _ (c .before .before .before .before .before .before .before .pre), refused (c .before .none-after-one .ensures) (c .if3 .taken), and-false)
+returns-3 c =
+    simp (
+      block-law _ (c .before .before .before .before .before .before .before .pre),
+      refused (c .before .none-after-one .ensures) (c .if3 .taken),
+      and-false,
+    )
 
 returns-4 : tie.Need-returns-4
 returns-4 c =
@@ -22,21 +28,21 @@ returns-4 c =
     let three = level .before in
     let two = three .before .before in
     let one = two .before .before in
-    simp (block-law _ (one .before .before .before .pre), ← one .before .u8-at .ensures, eq-eqb _ _ (one .if1 .left), ← two .before .u64-at .ensures, eq-eqb _ _ (two .if2 .left), passed (three .before .none-after-one .ensures) (three .if3 .left), c .block-at .ensures, level .u8-at2 .ensures, read .before .before .number-at .ensures, read .before .number-at2 .ensures, handed-on (record { sfits = read .i64-at .ok }) (read .i64-at .ensures))
+    simp (
+      block-law _ (one .before .before .before .pre),
+      ← one .before .u8-at .ensures,
+      eq-eqb _ _ (one .if1 .left),
+      ← two .before .u64-at .ensures,
+      eq-eqb _ _ (two .if2 .left),
+      passed (three .before .none-after-one .ensures) (three .if3 .left),
+      c .block-at .ensures,
+      level .u8-at2 .ensures,
+      read .before .before .number-at .ensures,
+      read .before .number-at2 .ensures,
+      handed-on (record { sfits = read .i64-at .ok }) (read .i64-at .ensures),
+    )
 
 pub block-spec : {M : Type 1} → statement M
 block-spec =
-    tie.close
-    (tie.spec
-    (λ c κs. search needs)
-    returns
-    (λ c κs. search needs)
-    returns-2
-    (λ c κs. search needs)
-    returns-3
-    (λ c κs. search needs)
-    (λ c κs. search needs)
-    (λ c κs. search needs)
-    (λ c κs. search needs)
-    (λ c κs. search needs)
-    returns-4)
+    tie.close (tie.spec (λ c κs. search needs) returns (λ c κs. search needs) returns-2 (λ c κs. search needs) returns-3
+    (λ c κs. search needs) (λ c κs. search needs) (λ c κs. search needs) (λ c κs. search needs) (λ c κs. search needs) returns-4)

@@ -23,7 +23,12 @@ returns-4 : tie.Need-returns-4
 unfolding limitAt
 returns-4 c =
     let at = c .before .before in
-    simp (at .before .before .match .keys3, passed (at .before .none-after-two .ensures) (at .if1 .left), handed-on (record { sfits = c .before .i64-at .ok }) (c .before .i64-at .ensures), handed-on (record { sfits = c .i64-at2 .ok }) (c .i64-at2 .ensures))
+    simp (
+      at .before .before .match .keys3,
+      passed (at .before .none-after-two .ensures) (at .if1 .left),
+      handed-on (record { sfits = c .before .i64-at .ok }) (c .before .i64-at .ensures),
+      handed-on (record { sfits = c .i64-at2 .ok }) (c .i64-at2 .ensures),
+    )
 
 returns-5 : tie.Need-returns-5
 unfolding limitAt
@@ -33,15 +38,5 @@ returns-5 c =
 
 pub limit-at-spec : {M : Type 1} → statement M
 limit-at-spec =
-    tie.close
-    (tie.spec
-    (λ c κs. search needs)
-    (λ c κs. search needs)
-    (λ c κs. search needs)
-    returns
-    (λ c κs. search needs)
-    (λ c κs. search needs)
-    returns-2
-    returns-3
-    returns-4
-    returns-5)
+    tie.close (tie.spec (λ c κs. search needs) (λ c κs. search needs) (λ c κs. search needs) returns (λ c κs. search needs)
+    (λ c κs. search needs) returns-2 returns-3 returns-4 returns-5)

@@ -24,17 +24,17 @@ returns-4 c =
     let three = c .before in
     let two = three .before .before in
     let one = two .before .before in
-    simp (← one .before .u8-at .ensures, eq-eqb _ _ (one .if1 .left), ← two .before .u16-at .ensures, eq-eqb _ _ (two .if2 .left), ← three .before .u16-at2 .ensures, eq-eqb _ _ (three .if3 .left), c .u8-at2 .ensures)
+    simp (
+      ← one .before .u8-at .ensures,
+      eq-eqb _ _ (one .if1 .left),
+      ← two .before .u16-at .ensures,
+      eq-eqb _ _ (two .if2 .left),
+      ← three .before .u16-at2 .ensures,
+      eq-eqb _ _ (three .if3 .left),
+      c .u8-at2 .ensures,
+    )
 
 pub no-header-spec : {M : Type 1} → statement M
 no-header-spec =
-    tie.close
-    (tie.spec
-    (λ c κs. search needs)
-    returns
-    (λ c κs. search needs)
-    returns-2
-    (λ c κs. search needs)
-    returns-3
-    (λ c κs. search needs)
-    returns-4)
+    tie.close (tie.spec (λ c κs. search needs) returns (λ c κs. search needs) returns-2 (λ c κs. search needs) returns-3
+    (λ c κs. search needs) returns-4)

@@ -14,7 +14,11 @@ returns-2 : tie.Need-returns-2
 unfolding noneAfterTwo
 returns-2 c =
     let read = c .before .before in
-    simp (figure-zero _ 32 (read .u64-at .ensures) (read .u64-at .ok), eq-eqb _ _ (c .before .if1 .left), figure-zero _ 40 (c .u64-at2 .ensures) (c .u64-at2 .ok))
+    simp (
+      figure-zero _ 32 (read .u64-at .ensures) (read .u64-at .ok),
+      eq-eqb _ _ (c .before .if1 .left),
+      figure-zero _ 40 (c .u64-at2 .ensures) (c .u64-at2 .ok),
+    )
 
 pub none-after-two-spec : {M : Type 1} → statement M
 none-after-two-spec = tie.close (tie.spec (λ c κs. search needs) returns (λ c κs. search needs) returns-2)

@@ -11,7 +11,12 @@ returns c = simp (replace-law _ (c .before .before .before .before .pre), refuse
 returns-2 : tie.Need-returns-2
 returns-2 c =
     let one = c .before in
-    simp (replace-law _ (one .before .before .before .before .pre), passed (one .before .id-and-figure .ensures) (one .if1 .left), ← one .before .before .u64-at .ensures, handed-on (record { sfits = c .i64-at .ok }) (c .i64-at .ensures))
+    simp (
+      replace-law _ (one .before .before .before .before .pre),
+      passed (one .before .id-and-figure .ensures) (one .if1 .left),
+      ← one .before .before .u64-at .ensures,
+      handed-on (record { sfits = c .i64-at .ok }) (c .i64-at .ensures),
+    )
 
 pub replace-spec : {M : Type 1} → statement M
 replace-spec =

@@ -10,9 +10,4 @@ answer-next-requires c κs = let asked = c .before .before .is-sound-with-sums .
 
 pub desk-event-spec : {M : Type 1} → statement M
 desk-event-spec =
-    tie.close
-    (tie.spec
-    (λ c κs. empty-cells 1089 refl)
-    answer-next-requires
-    (λ c. search needs)
-    (λ c. search needs))
+    tie.close (tie.spec (λ c κs. empty-cells 1089 refl) answer-next-requires (λ c. search needs) (λ c. search needs))

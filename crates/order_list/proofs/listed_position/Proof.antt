@@ -59,11 +59,5 @@ returns c =
 
 pub listed-position-spec : {M : Type 1} → statement M
 listed-position-spec =
-    tie.close
-    (tie.spec
-    (λ c κs. search needs)
-    open-in-requires
-    (λ c κs. few-buys c)
-    (λ c κs. few-sells (c .before))
-    position-by-requires
+    tie.close (tie.spec (λ c κs. search needs) open-in-requires (λ c κs. few-buys c) (λ c κs. few-sells (c .before)) position-by-requires
     returns)

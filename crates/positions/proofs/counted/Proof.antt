@@ -15,12 +15,12 @@ returns-3 : tie.Need-returns-3
 returns-3 c =
     let at = c .before .before .before in
     c .remaining .ensures
-    ∙ sym (counted-own _ _ _ _ (at .before .before .if1 .left) (at .if2 .left) (sym (c .before .before .same-side .ensures) ∙ c .before .if3 .taken))
+    ∙ sym (counted-own _ _ _ _ (at .before .before .if1 .left) (at .if2 .left) (sym (c .before .before .same-side .ensures)
+    ∙ c .before .if3 .taken))
 
 returns-4 : tie.Need-returns-4
 returns-4 c = sym (counted-other-side _ _ _ _ (sym (c .before .same-side .ensures) ∙ c .if3 .left))
 
 pub counted-spec : {M : Type 1} → statement M
 counted-spec =
-    tie.close
-    (tie.spec returns returns-2 (λ c κs. search needs) (λ c κs. search needs) returns-3 returns-4)
+    tie.close (tie.spec returns returns-2 (λ c κs. search needs) (λ c κs. search needs) returns-3 returns-4)

@@ -18,14 +18,20 @@ sub-times c = let at = c .before .before .before in negation-fits (at .args .wei
 times-requires : tie.Need-times-requires
 times-requires c κs =
     let at = c .before .before .before in
-    let k = at .args .weight in
-    (on-way-small (wayOf (c .before .opposite .result)) (at .args .long .0) (at .args .short .0) (c .on-side .result .0) 200000000000 (c .on-side .ensures) (at .pre .1) (at .pre .2), omega (arith, ap natAbs (negation-again k (omega arith)), magnitude-negation k))
+    let k = at .args .weight in (
+      on-way-small (wayOf (c .before .opposite .result)) (at .args .long .0) (at .args .short .0) (c .on-side .result .0) 200000000000
+          (c .on-side .ensures) (at .pre .1) (at .pre .2),
+      omega (arith, ap natAbs (negation-again k (omega arith)), magnitude-negation k),
+    )
 
 times-requires-2 : tie.Need-times-requires-2
 times-requires-2 c κs =
     let at = c .before .before in
-    let k = at .args .weight in
-    (on-way-small (wayOf (at .args .side)) (at .args .long .0) (at .args .short .0) (c .on-side2 .result .0) 200000000000 (c .on-side2 .ensures) (at .pre .1) (at .pre .2), omega (arith, ap natAbs (small-again k (omega arith))))
+    let k = at .args .weight in (
+      on-way-small (wayOf (at .args .side)) (at .args .long .0) (at .args .short .0) (c .on-side2 .result .0) 200000000000
+          (c .on-side2 .ensures) (at .pre .1) (at .pre .2),
+      omega (arith, ap natAbs (small-again k (omega arith))),
+    )
 
 returns : tie.Need-returns
 returns c =
@@ -46,13 +52,5 @@ returns-2 c =
 
 pub group-part-spec : {M : Type 1} → statement M
 group-part-spec =
-    tie.close
-    (tie.spec
-    (λ c κs. search needs)
-    (λ c κs. search needs)
-    sub-times
-    times-requires
-    (λ c κs. search needs)
-    times-requires-2
-    returns
-    returns-2)
+    tie.close (tie.spec (λ c κs. search needs) (λ c κs. search needs) sub-times times-requires (λ c κs. search needs) times-requires-2
+    returns returns-2)

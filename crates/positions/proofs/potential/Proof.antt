@@ -19,12 +19,5 @@ returns-2 c = cc
 
 pub potential-spec : {M : Type 1} → statement M
 potential-spec =
-    tie.close
-    (tie.spec
-    (λ c. search needs)
-    (λ c κs. search needs)
-    (λ c. search needs)
-    (λ c κs. search needs)
-    plus-requires-2
-    returns
+    tie.close (tie.spec (λ c. search needs) (λ c κs. search needs) (λ c. search needs) (λ c κs. search needs) plus-requires-2 returns
     returns-2)

@@ -23,10 +23,13 @@ contract-small c =
     let s = c .before .before .before .before in
     omega (arith, c .word .ensures ∙ contract-word _ _, s .pre .1 .contract (s .args .i) (s .pre .2))
 
-group-of : (c : tie.After-word2) → let a = c .before .before .before .before .before .args in c .word2 .result ≡ groupOfInstrument (rosterIn (a .roster .now)) (a .i)
+group-of : (c : tie.After-word2) → let a =
+    c .before .before .before .before .before .args in c .word2 .result ≡ groupOfInstrument (rosterIn (a .roster .now)) (a .i)
 group-of c = c .word2 .ensures ∙ group-word _ _ _ (c .before .word .ensures)
 
-weight : (c : tie.After-signed-word) → let a = c .before .before .before .before .before .before .before .args in again (c .signed-word .result) ≡ rosterIn (a .roster .now) .weight (a .i)
+weight : (c : tie.After-signed-word) → let a =
+    c .before .before .before .before .before .before .before .args in
+    again (c .signed-word .result) ≡ rosterIn (a .roster .now) .weight (a .i)
 weight c =
     toZ-ofZ w64 (c .signed-word .result) (record { sfits = c .signed-word .ok })
     ∙ c .signed-word .ensures
@@ -36,7 +39,8 @@ returns : tie.Need-returns
 returns c w = part-outside _ _ _ _ _ w (λ e. c .if1 .taken (group-of (c .before) ∙ e)) _
 
 -- the weight and the instrument's positions are small
-small : (c : tie.After-by-cells) → (natAbs (again (c .before .signed-word .result)) ≤ 1000000) × (natAbs (c .by-cells .result .long .0) ≤ 200000000000) × (natAbs (c .by-cells .result .short .0) ≤ 200000000000)
+small : (c : tie.After-by-cells) → (natAbs (again (c .before .signed-word .result)) ≤ 1000000)
+    × (natAbs (c .by-cells .result .long .0) ≤ 200000000000) × (natAbs (c .by-cells .result .short .0) ≤ 200000000000)
 small c =
     let s = c .before .before .before .before .before .before .before .before in
     let cells = s .pre .0 in
@@ -46,49 +50,57 @@ small c =
       rw (c .by-cells .ensures short) (by-cells short (cells .balance) (cells .unfilled)),
     )
 
-long-part : (c : tie.After-group-part) → let a = c .before .before .before .before .before .before .before .before .before .args in c .group-part .result .0 ≡ partByCells (a .cells .now) (signedAt (a .balances .now)) (rosterIn (a .roster .now)) (a .group) (a .i) long
+long-part : (c : tie.After-group-part) → let a =
+    c .before .before .before .before .before .before .before .before .before .args in
+    c .group-part .result .0 ≡ partByCells (a .cells .now) (signedAt (a .balances .now)) (rosterIn (a .roster .now)) (a .group) (a .i) long
 long-part c =
     let at = c .before .before .before in
-    part-inside _ _ _ _ _ long (sym (group-of (at .before)) ∙ at .if1 .left) _ _ _ _ (weight (c .before .before)) (c .before .by-cells .ensures) (c .group-part .ensures)
+    part-inside _ _ _ _ _ long (sym (group-of (at .before)) ∙ at .if1 .left) _ _ _ _ (weight (c .before .before))
+    (c .before .by-cells .ensures) (c .group-part .ensures)
 
-short-part : (c : tie.After-group-part2) → let a = c .before .before .before .before .before .before .before .before .before .before .args in c .group-part2 .result .0 ≡ partByCells (a .cells .now) (signedAt (a .balances .now)) (rosterIn (a .roster .now)) (a .group) (a .i) short
+short-part : (c : tie.After-group-part2) → let a =
+    c .before .before .before .before .before .before .before .before .before .before .args in
+    c .group-part2 .result .0 ≡ partByCells (a .cells .now) (signedAt (a .balances .now)) (rosterIn (a .roster .now)) (a .group)
+    (a .i) short
 short-part c =
     let at = c .before .before .before .before in
-    part-inside _ _ _ _ _ short (sym (group-of (at .before)) ∙ at .if1 .left) _ _ _ _ (weight (c .before .before .before)) (c .before .before .by-cells .ensures) (c .group-part2 .ensures)
+    part-inside _ _ _ _ _ short (sym (group-of (at .before)) ∙ at .if1 .left) _ _ _ _ (weight (c .before .before .before))
+    (c .before .before .by-cells .ensures) (c .group-part2 .ensures)
 
 plus-requires : tie.Need-plus-requires
 plus-requires c κs =
     let s = c .before .before .before .before .before .before .before .before .before .before in
     let a = s .args in
     let part = part-small (a .cells .now) (signedAt (a .balances .now)) (a .i) (rosterIn (a .roster .now)) (a .group) in
-    omega (arith, s .pre .3 long, ap natAbs (long-part (c .before)), part long (s .pre .1 .weight (a .i) (s .pre .2)) (s .pre .0 .balance) (s .pre .0 .unfilled))
+    omega (
+      arith,
+      s .pre .3 long,
+      ap natAbs (long-part (c .before)),
+      part long (s .pre .1 .weight (a .i) (s .pre .2)) (s .pre .0 .balance) (s .pre .0 .unfilled),
+    )
 
 plus-requires-2 : tie.Need-plus-requires-2
 plus-requires-2 c κs =
     let s = c .before .before .before .before .before .before .before .before .before .before .before in
     let a = s .args in
     let part = part-small (a .cells .now) (signedAt (a .balances .now)) (a .i) (rosterIn (a .roster .now)) (a .group) in
-    omega (arith, s .pre .3 short, ap natAbs (short-part (c .before)), part short (s .pre .1 .weight (a .i) (s .pre .2)) (s .pre .0 .balance) (s .pre .0 .unfilled))
+    omega (
+      arith,
+      s .pre .3 short,
+      ap natAbs (short-part (c .before)),
+      part short (s .pre .1 .weight (a .i) (s .pre .2)) (s .pre .0 .balance) (s .pre .0 .unfilled),
+    )
 
 returns-2 : tie.Need-returns-2
 returns-2 c =
     let a = c .before .before .before .before .before .before .before .before .before .before .before .before .args in
-    on-way-sum _ _ (a .sum .long .0) (a .sum .short .0) (partByCells (a .cells .now) (signedAt (a .balances .now)) (rosterIn (a .roster .now)) (a .group) (a .i)) (c .before .plus .ensures ∙ ap (λ (z : ℤ). a .sum .long .0 +ℤ z) (long-part (c .before .before .before))) (c .plus2 .ensures ∙ ap (λ (z : ℤ). a .sum .short .0 +ℤ z) (short-part (c .before .before)))
+    on-way-sum _ _ (a .sum .long .0) (a .sum .short .0)
+    (partByCells (a .cells .now) (signedAt (a .balances .now)) (rosterIn (a .roster .now)) (a .group) (a .i))
+    (c .before .plus .ensures ∙ ap (λ (z : ℤ). a .sum .long .0 +ℤ z) (long-part (c .before .before .before)))
+    (c .plus2 .ensures ∙ ap (λ (z : ℤ). a .sum .short .0 +ℤ z) (short-part (c .before .before)))
 
 pub with-part-spec : {M : Type 1} → statement M
 with-part-spec =
-    tie.close
-    (tie.spec
-    (λ c. search needs)
-    (λ c κs. search needs)
-    (λ c. omega (arith, contract-small c))
-    (λ c κs. omega (arith, contract-small c))
-    returns
-    (λ c. search needs)
-    (λ c κs. search needs)
-    (λ c κs. search needs)
-    (λ c κs. small c)
-    (λ c κs. small (c .before))
-    plus-requires
-    plus-requires-2
-    returns-2)
+    tie.close (tie.spec (λ c. search needs) (λ c κs. search needs) (λ c. omega (arith, contract-small c))
+    (λ c κs. omega (arith, contract-small c)) returns (λ c. search needs) (λ c κs. search needs) (λ c κs. search needs) (λ c κs. small c)
+    (λ c κs. small (c .before)) plus-requires plus-requires-2 returns-2)

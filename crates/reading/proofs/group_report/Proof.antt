@@ -2,7 +2,7 @@
 use borrow.Author.Needs.{needs}
 use mir.Syntax.{w64}
 use mir.ValLaws.{toZ-ofZ}
-use Rattle.soundness.proofs.SoundDesk.{held-records}
+use Rattle.soundness.proofs.SoundDesk.{sound-records}
 use Rattle.soundness.proofs.Bounded.{group-bounds}
 use Rattle.reading.proofs.Reports.{group-told}
 use Rattle.reading.proofs.group_report.Statement.{statement}
@@ -36,15 +36,5 @@ returns c =
 
 pub group-report-spec : {M : Type 1} → statement M
 group-report-spec =
-    tie.close
-    (tie.spec
-    (λ c κs. held-records _ (c .before .pre .held))
-    (λ c κs. search needs)
-    (λ c. search needs)
-    (λ c. search needs)
-    (λ c κs. search needs)
-    (λ c κs. search needs)
-    group-position-requires
-    (λ c κs. search needs)
-    (λ c κs. search needs)
-    returns)
+    tie.close (tie.spec (λ c κs. sound-records _ (c .before .pre .held)) (λ c κs. search needs) (λ c. search needs) (λ c. search needs)
+    (λ c κs. search needs) (λ c κs. search needs) group-position-requires (λ c κs. search needs) (λ c κs. search needs) returns)

@@ -2,7 +2,7 @@
 use borrow.Author.Needs.{needs}
 use mir.Syntax.{w64}
 use mir.ValLaws.{toZ-ofZ}
-use Rattle.soundness.proofs.SoundDesk.{held-count, held-records}
+use Rattle.soundness.proofs.SoundDesk.{sound-count, sound-records}
 use Rattle.soundness.proofs.Bounded.{instrument-bounds}
 use Rattle.reading.proofs.Reports.{instrument-told}
 use Rattle.reading.proofs.instrument_report.Statement.{statement}
@@ -13,7 +13,7 @@ listed-position-requires c κs =
     let orders = c .before .before in
     let read = orders .before .before .pre in
     rw (orders .records .ensures, c .before .word .ensures, c .part .ensures)
-    (held-count _ (read .0 .held), instrument-bounds _ (read .0 .held) _ (read .0 .account) _ (read .1))
+    (sound-count _ (read .0 .held), instrument-bounds _ (read .0 .held) _ (read .0 .account) _ (read .1))
 
 returns : tie.Need-returns
 returns c =
@@ -34,15 +34,5 @@ returns c =
 
 pub instrument-report-spec : {M : Type 1} → statement M
 instrument-report-spec =
-    tie.close
-    (tie.spec
-    (λ c κs. held-records _ (c .before .pre .0 .held))
-    (λ c κs. search needs)
-    (λ c. search needs)
-    (λ c. search needs)
-    (λ c κs. search needs)
-    listed-position-requires
-    (λ c κs. search needs)
-    (λ c κs. search needs)
-    (λ c κs. search needs)
-    returns)
+    tie.close (tie.spec (λ c κs. sound-records _ (c .before .pre .0 .held)) (λ c κs. search needs) (λ c. search needs) (λ c. search needs)
+    (λ c κs. search needs) listed-position-requires (λ c κs. search needs) (λ c κs. search needs) (λ c κs. search needs) returns)

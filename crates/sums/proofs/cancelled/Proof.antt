@@ -3,7 +3,7 @@ use mathlib.Core.Path.{refl, _∙_, ap}
 use native.Mathlib.Omega.{arith}
 use borrow.Author.Needs.{needs}
 use lib.IntN.{pos}
-use Rattle.working.proofs.Told.{told}
+use Rattle.working.proofs.AcceptedFacts.{accepted-facts}
 use Rattle.sums.proofs.Shifts.{named-loadable, remaining-small, cancel-shifted}
 use Rattle.sums.proofs.cancelled.Statement.{statement}
 use Rattle.sums.proofs.cancelled.Tie as tie
@@ -12,7 +12,7 @@ of-requires : tie.Need-of-requires
 of-requires c κs =
     let known = c .before .before in
     let ready = known .before .pre in
-    let t = told _ (ready .held) _ (ready .accepted) in
+    let t = accepted-facts _ (ready .held) _ (ready .accepted) in
     omega (
       arith,
       remaining-small _ _ _ _ (λ i. known .shared-slice-known .given i .fits) (ready .held) (c .before .load-order .ensures) t

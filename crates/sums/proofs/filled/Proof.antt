@@ -3,7 +3,7 @@ use mathlib.Core.Path.{_∙_, ap}
 use native.Mathlib.Omega.{arith}
 use borrow.Author.Needs.{needs}
 use lib.IntN.{pos, natAbs}
-use Rattle.working.proofs.Told.{told}
+use Rattle.working.proofs.AcceptedFacts.{accepted-facts}
 use Rattle.sums.proofs.Shifts.{named-loadable, remaining-small, fill-most, fill-left, fill-shifted}
 use Rattle.sums.proofs.filled.Statement.{statement}
 use Rattle.sums.proofs.filled.Tie as tie
@@ -12,7 +12,7 @@ of-requires : tie.Need-of-requires
 of-requires c κs =
     let known = c .before .before in
     let ready = known .before .pre in
-    let t = told _ (ready .held) _ (ready .accepted) in
+    let t = accepted-facts _ (ready .held) _ (ready .accepted) in
     omega (
       arith,
       remaining-small _ _ _ _ (λ i. known .shared-slice-known .given i .fits) (ready .held) (c .before .load-order .ensures)
@@ -24,7 +24,7 @@ less-requires c κs =
     let loaded = c .before .before in
     let known = loaded .before in
     let start = known .before in
-    let t = told _ (start .pre .held) _ (start .pre .accepted) in
+    let t = accepted-facts _ (start .pre .held) _ (start .pre .accepted) in
     let most = fill-most _ _ _ _ (λ i. known .shared-slice-known .given i .fits) (start .pre .held) (loaded .load-order .ensures)
     (start .pre) (start .fits .quantity) in
     let small = remaining-small _ _ _ _ (λ i. known .shared-slice-known .given i .fits) (start .pre .held) (loaded .load-order .ensures)

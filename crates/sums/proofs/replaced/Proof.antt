@@ -7,9 +7,9 @@ use Rattle.ledger.specs.Orders.{remaining}
 use Rattle.book.specs.declared.Event.the-variants.{Replace}
 use Rattle.layout.specs.View.{openOrders}
 use Rattle.working.specs.Working.{worked}
-use Rattle.working.proofs.Told.{told}
+use Rattle.working.proofs.AcceptedFacts.{accepted-facts}
 use Rattle.working.proofs.Rooms.{cast-fits}
-use Rattle.sums.specs.Shifted.{Shifted}
+use Rattle.sums.specs.SumsChanged.{SumsChanged}
 use Rattle.sums.proofs.Shifts.{named-loadable, remaining-small, replace-shifted}
 use Rattle.sums.proofs.replaced.Statement.{statement}
 use Rattle.sums.proofs.replaced.Tie as tie
@@ -18,7 +18,7 @@ of-requires : tie.Need-of-requires
 of-requires c κs =
     let known = c .before .before in
     let ready = known .before .pre in
-    let t = told _ (ready .held) _ (ready .accepted) in
+    let t = accepted-facts _ (ready .held) _ (ready .accepted) in
     omega (
       arith,
       remaining-small _ _ _ _ (λ i. known .shared-slice-known .given i .fits) (ready .held) (c .before .load-order .ensures)
@@ -28,13 +28,13 @@ of-requires c κs =
 cast-replaced-total : tie.Need-cast-replaced-total
 cast-replaced-total c =
     let start = c .before .before .before .before in
-    cast-fits _ (start .fits .total) (told _ (start .pre .held) _ (start .pre .accepted) .1 .0)
+    cast-fits _ (start .fits .total) (accepted-facts _ (start .pre .held) _ (start .pre .accepted) .1 .0)
 
 -- the order in the record, at the new total
 shifted : (c : tie.After-replaced-total) →
     let loaded = c .before .before .before in
     let start = loaded .before .before in
-    Shifted (loaded .load-order .result) (remaining (loaded .load-order .result)) (remaining (c .replaced-total .result))
+    SumsChanged (loaded .load-order .result) (remaining (loaded .load-order .result)) (remaining (c .replaced-total .result))
     (openOrders (start .args .m .now)) (openOrders (worked (start .args .m .now) (Replace (start .args .id) (start .args .total))))
 shifted c =
     let loaded = c .before .before .before in

@@ -5,7 +5,7 @@ use mir.Syntax.{w64}
 use mir.ValLaws.{toZ-ofZ}
 use Rattle.book.specs.declared.Event.the-variants.{Replace, Fill}
 use Rattle.book.specs.Books.{work}
-use Rattle.working.proofs.Told.{told}
+use Rattle.working.proofs.AcceptedFacts.{accepted-facts}
 use Rattle.working.proofs.Handing.{handed, ready-as}
 use Rattle.sums.proofs.Shifts.{still-limit, still-block, unshifted, shifted-as, new-shifts}
 use Rattle.sums.proofs.shift_of.Statement.{statement}
@@ -16,7 +16,7 @@ entered-requires c κs =
     let e = c .before .e4 .given in
     let ready = ready-as (e .1) (c .before .before .before .before .pre) in
     rw (toZ-ofZ w64 (e .0 .1 .1 .1 .1 .0) (record { sfits = c .known-told4 .given .1 .1 .1 .1 .0 .1 }))
-    (told _ (ready .held) _ (ready .accepted) .2 .0)
+    (accepted-facts _ (ready .held) _ (ready .accepted) .2 .0)
 
 replaced-requires : tie.Need-replaced-requires
 replaced-requires c κs =

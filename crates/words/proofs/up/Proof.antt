@@ -21,8 +21,12 @@ loop-holds c = (omega arith, refl, risen-start _ _ _)
 loop-again : tie.Need-loop-again Inv-loop μ-loop
 loop-again c =
     let put = c .before .before in
-    let at = put .before .before .before .before .before in
-    (omega arith, put .set-word .kept .0 ∙ at .loop .inv .1, risen-turn _ _ _ _ _ (at .loop .i) _ (omega arith) (omega arith) (at .loop .inv .2) (put .before .word .ensures) (put .set-word .ensures))
+    let at = put .before .before .before .before .before in (
+      omega arith,
+      put .set-word .kept .0 ∙ at .loop .inv .1,
+      risen-turn _ _ _ _ _ (at .loop .i) _ (omega arith) (omega arith) (at .loop .inv .2) (put .before .word .ensures)
+          (put .set-word .ensures),
+    )
 
 returns : tie.Need-returns Inv-loop μ-loop
 returns c = let at = c .before in risen-end _ _ _ _ (at .loop .i) (omega arith) (at .loop .inv .2)

@@ -18,7 +18,8 @@ use Rattle.desk.proofs.run.desk_run.Tie as tie
 
 abbrev Inv-loop : tie.InvT-loop
 Inv-loop m₀ events answers₀ cells₀ sound at₀ count₀ m answers cells at count =
-    (length m ≡ length m₀) × (sound ≡ soundDesk m) × (sound ≡ true → Sums cells (openOrders m)) × Running m₀ events answers₀ m answers at count
+    (length m ≡ length m₀) × (sound ≡ soundDesk m) × (sound ≡ true → Sums cells (openOrders m))
+    × Running m₀ events answers₀ m answers at count
 
 abbrev μ-loop : tie.MeasureT-loop
 μ-loop m₀ events answers₀ cells₀ sound at₀ count₀ m answers cells at count = length events - at
@@ -44,27 +45,14 @@ loop-again c =
       done .answer-next .kept .0 ∙ inv .0,
       done .answer-next .ensures .1 .1 .0,
       done .answer-next .ensures .1 .1 .1,
-      turns _ _ _ _ _ _ _ (inv .3) _ _ _ (room .before .loop-test .taken) (ltb-true _ _ (room .if1 .taken)) (cut .event-at .ensures) (done .answer-next .ensures .0) (done .answer-next .ensures .1 .0),
+      turns _ _ _ _ _ _ _ (inv .3) _ _ _ (room .before .loop-test .taken) (ltb-true _ _ (room .if1 .taken)) (cut .event-at .ensures)
+          (done .answer-next .ensures .0) (done .answer-next .ensures .1 .0),
     )
 
 pub desk-run-spec : {M : Type 1} → statement M
 desk-run-spec =
-    tie.close
-    (tie.spec
-    Inv-loop
-    μ-loop
-    (λ c κs. empty-cells 1089 refl)
-    (λ c. (refl, c .is-sound-with-sums .ensures .0, λ t. c .is-sound-with-sums .ensures .1 t .sums, begins _ _ _))
-    (λ c κs. search needs)
-    (λ c κs. search needs)
-    (λ c. omega (arith, ltb-true))
-    add-at
-    (λ c. omega (arith, ltb-true))
-    loop-less
-    loop-again
-    (λ c. search needs)
-    (λ c. search needs)
-    (λ c. room-ends _ _ _ _ _ _ _ (c .before .before .loop .inv .3) (ltb-false _ _ (c .if1 .left)))
-    (λ c. search needs)
-    (λ c. search needs)
-    (λ c. events-end _ _ _ _ _ _ _ (c .before .loop .inv .3) (c .loop-test .left)))
+    tie.close (tie.spec Inv-loop μ-loop (λ c κs. empty-cells 1089 refl)
+    (λ c. (refl, c .is-sound-with-sums .ensures .0, λ t. c .is-sound-with-sums .ensures .1 t .sums, begins _ _ _)) (λ c κs. search needs)
+    (λ c κs. search needs) (λ c. omega (arith, ltb-true)) add-at (λ c. omega (arith, ltb-true)) loop-less loop-again (λ c. search needs)
+    (λ c. search needs) (λ c. room-ends _ _ _ _ _ _ _ (c .before .before .loop .inv .3) (ltb-false _ _ (c .if1 .left))) (λ c. search needs)
+    (λ c. search needs) (λ c. events-end _ _ _ _ _ _ _ (c .before .loop .inv .3) (c .loop-test .left)))

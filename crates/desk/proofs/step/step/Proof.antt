@@ -30,7 +30,10 @@ returns c =
       told,
       (
         done .work .ensures .0 ∙ stepped-worked _ _ _ told accepted,
-        ((done .work .ensures .1 .0 ∙ moves _ _ _ told accepted _, done .work .ensures .1 .1 ∙ moves _ _ _ told accepted _), rw (done .work .ensures .0) (keeps .keep .ensures)),
+        (
+          (done .work .ensures .1 .0 ∙ moves _ _ _ told accepted _, done .work .ensures .1 .1 ∙ moves _ _ _ told accepted _),
+          rw (done .work .ensures .0) (keeps .keep .ensures),
+        ),
       ),
     )
 
@@ -42,22 +45,14 @@ returns-2 c =
       told,
       (
         stepped-same _ _ _ told refuses,
-        ((c .nothing .ensures .0 ∙ moves-nothing _ _ _ told refuses _, c .nothing .ensures .1 ∙ moves-nothing _ _ _ told refuses _), judged .before .before .before .before .before .pre .1),
+        (
+          (c .nothing .ensures .0 ∙ moves-nothing _ _ _ told refuses _, c .nothing .ensures .1 ∙ moves-nothing _ _ _ told refuses _),
+          judged .before .before .before .before .before .pre .1,
+        ),
       ),
     )
 
 pub step-spec : {M : Type 1} → statement M
 step-spec =
-    tie.close
-    (tie.spec
-    (λ c κs. search needs)
-    (λ c. search needs)
-    keep-requires
-    work-requires
-    (λ c κs. search needs)
-    (λ c. search needs)
-    (λ c. search needs)
-    returns
-    (λ c. search needs)
-    (λ c. search needs)
-    returns-2)
+    tie.close (tie.spec (λ c κs. search needs) (λ c. search needs) keep-requires work-requires (λ c κs. search needs) (λ c. search needs)
+    (λ c. search needs) returns (λ c. search needs) (λ c. search needs) returns-2)

@@ -3,7 +3,7 @@ use mathlib.Core.Path.{_∙_, sym}
 use native.Mathlib.Omega.{arith}
 use borrow.Author.Needs.{needs}
 use borrow.Author.Tests.{le-ltb}
-use Rattle.soundness.proofs.SoundDesk.{held-records}
+use Rattle.soundness.proofs.SoundDesk.{sound-records}
 use Rattle.judging.proofs.Places.{rank-small, open-before, none-before}
 use Rattle.judging.proofs.entries.is_open.Statement.{statement}
 use Rattle.judging.proofs.entries.is_open.Tie as tie
@@ -11,7 +11,7 @@ use Rattle.judging.proofs.entries.is_open.Tie as tie
 id-at-requires : tie.Need-id-at-requires
 id-at-requires c κs =
     let pre = c .before .before .pre in
-    (held-records _ (pre .0), omega (arith, rank-small _ (pre .0) _ _ (pre .1)))
+    (sound-records _ (pre .0), omega (arith, rank-small _ (pre .0) _ _ (pre .1)))
 
 returns : tie.Need-returns
 returns c =

@@ -12,39 +12,39 @@ use Rattle.book.specs.Decoding.{between}
 use Rattle.book.specs.Table.{isQuantity}
 use Rattle.book.proofs.Tables.{between-numbered, quantity-numbered}
 use Rattle.layout.specs.View.{rosterOf}
-use Rattle.soundness.proofs.Asked.{said-no, said-yes}
-use Rattle.judging.proofs.Said.{said, quantity-cast}
+use Rattle.soundness.proofs.Asked.{answered-no, answered-yes}
+use Rattle.judging.proofs.HandedOn.{test-handed-on, quantity-cast}
 use Rattle.judging.proofs.Verdicts.{refused}
 use Rattle.judging.proofs.ByKind.{new-answer}
-use Rattle.judging.proofs.Places.{held-ranked}
+use Rattle.judging.proofs.Places.{sound-ranked}
 use Rattle.judging.proofs.entries.judge_new.Statement.{statement}
 use Rattle.judging.proofs.entries.judge_new.Tie as tie
 
 known : (c : tie.Else1) → let a = c .before .before .before .before .args in between 1 (rosterOf (a .m .now) .accounts) (a .account) ≡ true
-known c = said-yes _ _ (c .before .account-known .ensures) (c .if1 .left)
+known c = answered-yes _ _ (c .before .account-known .ensures) (c .if1 .left)
 
 listed : (c : tie.Else2) → let a = c .before .before .before .before .before .before .args in
     between 1 (rosterOf (a .m .now) .instruments) (a .instrument) ≡ true
-listed c = said-yes _ _ (c .before .instrument-known .ensures) (c .if2 .left)
+listed c = answered-yes _ _ (c .before .instrument-known .ensures) (c .if2 .left)
 
 whole : (c : tie.Else3) → isQuantity (c .before .before .before .before .before .before .before .before .args .quantity) ≡ true
 whole c =
     let s = c .before .before .before .before .before .before .before .before in
-    said-yes _ _ (said isQuantity (s .fits .quantity) (c .before .is-quantity .ensures)) (c .if3 .left)
+    answered-yes _ _ (test-handed-on isQuantity (s .fits .quantity) (c .before .is-quantity .ensures)) (c .if3 .left)
 
 returns : tie.Need-returns
 unfolding numberOf
 returns c =
     let asked = c .before in
     refused UnknownAccount (c .plain .ensures) (new-answer _ _ _ _ _ _ false _ _
-    (said-no _ _ (asked .before .account-known .ensures) (asked .if1 .taken)) refl refl) (omega arith)
+    (answered-no _ _ (asked .before .account-known .ensures) (asked .if1 .taken)) refl refl) (omega arith)
 
 returns-2 : tie.Need-returns-2
 unfolding numberOf
 returns-2 c =
     let asked = c .before in
     refused UnknownItem (c .plain2 .ensures) (new-answer _ _ _ _ _ _ true false _ (known (asked .before .before))
-    (said-no _ _ (asked .before .instrument-known .ensures) (asked .if2 .taken)) refl) (omega arith)
+    (answered-no _ _ (asked .before .instrument-known .ensures) (asked .if2 .taken)) refl) (omega arith)
 
 returns-3 : tie.Need-returns-3
 unfolding numberOf
@@ -54,14 +54,14 @@ returns-3 c =
     let s = two .before .before .before .before .before .before in
     refused FigureOutOfRange (c .plain3 .ensures)
     (new-answer _ _ _ _ _ _ true true false (known (two .before .before)) (listed two)
-    (said-no _ _ (said isQuantity (s .fits .quantity) (asked .before .is-quantity .ensures)) (asked .if3 .taken)))
+    (answered-no _ _ (test-handed-on isQuantity (s .fits .quantity) (asked .before .is-quantity .ensures)) (asked .if3 .taken)))
     (omega arith)
 
 cast-t15 : tie.Need-cast-t15
 cast-t15 c = quantity-cast _ (c .before .before .before .before .before .before .before .before .fits .quantity) (whole c)
 
 place-requires : tie.Need-place-requires
-place-requires c κs = held-ranked _ (c .before .before .before .before .before .before .before .before .pre .0)
+place-requires c κs = sound-ranked _ (c .before .before .before .before .before .before .before .before .pre .0)
 
 new-order-requires : tie.Need-new-order-requires
 new-order-requires c κs =
@@ -98,7 +98,5 @@ returns-4 c =
 
 pub judge-new-spec : {M : Type 1} → statement M
 judge-new-spec =
-    tie.close
-    (tie.spec (λ c κs. search needs) (λ c κs. search needs) returns (λ c κs. search needs) (λ c κs. search needs)
-    returns-2 (λ c κs. search needs) (λ c κs. search needs) returns-3 cast-t15 place-requires new-order-requires
-    returns-4)
+    tie.close (tie.spec (λ c κs. search needs) (λ c κs. search needs) returns (λ c κs. search needs) (λ c κs. search needs) returns-2
+    (λ c κs. search needs) (λ c κs. search needs) returns-3 cast-t15 place-requires new-order-requires returns-4)

@@ -12,17 +12,19 @@ use Rattle.book.specs.Answers.{numberOf}
 use Rattle.book.specs.Table.{isQuantity}
 use Rattle.book.proofs.Tables.{quantity-numbered}
 use Rattle.layout.specs.View.{openOrders}
-use Rattle.soundness.proofs.Asked.{said-no, said-yes}
-use Rattle.soundness.proofs.SoundDesk.{held-records}
-use Rattle.judging.proofs.Said.{said, quantity-cast}
+use Rattle.soundness.proofs.Asked.{answered-no, answered-yes}
+use Rattle.soundness.proofs.SoundDesk.{sound-records}
+use Rattle.judging.proofs.HandedOn.{test-handed-on, quantity-cast}
 use Rattle.judging.proofs.Verdicts.{refused}
 use Rattle.judging.proofs.ByKind.{replace-figure, replace-none, replace-found}
-use Rattle.judging.proofs.Places.{held-ranked, found-order, order-named, place-small, no-order}
+use Rattle.judging.proofs.Places.{sound-ranked, found-order, order-named, place-small, no-order}
 use Rattle.judging.proofs.entries.judge_replace.Statement.{statement}
 use Rattle.judging.proofs.entries.judge_replace.Tie as tie
 
 whole : (c : tie.Else1) → isQuantity (c .before .before .before .before .args .total) ≡ true
-whole c = said-yes _ _ (said isQuantity (c .before .before .before .before .fits .total) (c .before .is-quantity .ensures)) (c .if1 .left)
+whole c =
+    answered-yes _ _ (test-handed-on isQuantity (c .before .before .before .before .fits .total) (c .before .is-quantity .ensures))
+    (c .if1 .left)
 
 found : (c : tie.After-p) → let a = c .before .before .before .before .before .before .before .args in
     placeFrom 0 (a .id) (openOrders (a .m .now)) ≡ At (c .p .given .0 .0)
@@ -33,12 +35,13 @@ unfolding numberOf
 returns c =
     let s = c .before .before .before .before .before in
     refused FigureOutOfRange (c .plain .ensures) (replace-figure _ _ _
-    (said-no _ _ (said isQuantity (s .fits .total) (c .before .before .is-quantity .ensures)) (c .before .if1 .taken))) (omega arith)
+    (answered-no _ _ (test-handed-on isQuantity (s .fits .total) (c .before .before .is-quantity .ensures)) (c .before .if1 .taken)))
+    (omega arith)
 
 load-order-requires : tie.Need-load-order-requires
 load-order-requires c κs =
     let s = c .before .before .before .before .before .before .before .before in
-    (held-records _ (s .pre .0), place-small _ _ (s .pre .0) _ (found (c .before)))
+    (sound-records _ (s .pre .0), place-small _ _ (s .pre .0) _ (found (c .before)))
 
 cast-replaced : tie.Need-cast-replaced
 cast-replaced c =
@@ -73,7 +76,6 @@ returns-3 c =
 
 pub judge-replace-spec : {M : Type 1} → statement M
 judge-replace-spec =
-    tie.close
-    (tie.spec (λ c κs. search needs) (λ c κs. search needs) returns
-    (λ c κs. held-ranked _ (c .before .before .before .before .pre .0)) (λ c. search needs) load-order-requires
-    cast-replaced replaced-requires (λ c. search needs) (λ c κs. search needs) returns-2 returns-3)
+    tie.close (tie.spec (λ c κs. search needs) (λ c κs. search needs) returns
+    (λ c κs. sound-ranked _ (c .before .before .before .before .pre .0)) (λ c. search needs) load-order-requires cast-replaced
+    replaced-requires (λ c. search needs) (λ c κs. search needs) returns-2 returns-3)

@@ -7,8 +7,8 @@ use Rattle.limits.specs.Questions.{firstNo}
 use Rattle.book.specs.Answers.{numberOf}
 use Rattle.book.specs.OpenOrders.{find}
 use Rattle.layout.specs.View.{openOrders}
-use Rattle.judging.specs.Rest.{newRest}
-use Rattle.judging.proofs.InTurn.{first-refuses, then-second, limits-set}
+use Rattle.judging.specs.QuestionsLeft.{newFrom13}
+use Rattle.judging.proofs.QuestionsInOrder.{first-refuses, then-second, limits-set}
 use Rattle.judging.proofs.entries.new_order.Statement.{statement}
 use Rattle.judging.proofs.entries.new_order.Tie as tie
 
@@ -19,22 +19,31 @@ new-within-requires : tie.Need-new-within-requires
 new-within-requires c κs =
     let asked = c .before .before in
     let pre = asked .before .before .before .before .before .pre in
-    let f = pre .0 in
-    (f, record { on = f .on; set = limits-set _ _ _ (asked .admitted .ensures) (c .enum-told .given .1); total = f .small; small = f .small }, pre .1)
+    let f = pre .0 in (
+      f,
+      record {
+        on = f .on;
+        set = limits-set _ _ _ (asked .admitted .ensures) (c .enum-told .given .1);
+        total = f .small;
+        small =
+            f .small;
+      },
+      pre .1,
+    )
 
 returns : tie.Need-returns
-unfolding newRest firstNo numberOf
+unfolding newFrom13 firstNo numberOf
 returns c = rw (sym (c .before .is-open .ensures) ∙ c .if1 .taken)
 
 returns-2 : tie.Need-returns-2
-unfolding newRest firstNo
+unfolding newFrom13 firstNo
 returns-2 c =
     let asked = c .before .before .before in
     rw (free (asked .before))
     (c .new-within .ensures ∙ sym (then-second _ _ _ (asked .admitted .ensures) (c .before .enum-told .given .1) _))
 
 returns-3 : tie.Need-returns-3
-unfolding newRest firstNo
+unfolding newFrom13 firstNo
 returns-3 c =
     let asked = c .before in
     let a = asked .before .before .before .before .before .args in

@@ -7,19 +7,19 @@ use Rattle.limits.specs.Questions.{firstNo}
 use Rattle.book.specs.Answers.{numberOf}
 use Rattle.layout.specs.View.{openOrders}
 use Rattle.soundness.proofs.SoundDesk.{open-count}
-use Rattle.judging.specs.Rest.{newWithin}
+use Rattle.judging.specs.QuestionsLeft.{newFrom18}
 use Rattle.judging.proofs.Rises.{entered-raises}
 use Rattle.judging.proofs.entries.new_within.Statement.{statement}
 use Rattle.judging.proofs.entries.new_within.Tie as tie
 
 returns : tie.Need-returns
-unfolding newWithin firstNo numberOf
+unfolding newFrom18 firstNo numberOf
 returns c =
     let m = c .before .before .before .before .args .m .now in
     rw (le-ltb (length (openOrders m)) 256 (omega (arith, open-count m, c .before .word .ensures)))
 
 returns-2 : tie.Need-returns-2
-unfolding newWithin firstNo
+unfolding newFrom18 firstNo
 returns-2 c =
     let s = c .before .before .before .before .before in
     let m = s .args .m .now in

@@ -5,9 +5,9 @@ use borrow.Author.Needs.{needs}
 use Rattle.ledger.specs.Orders.{replacedTotal}
 use Rattle.limits.specs.Questions.{firstNo}
 use Rattle.book.specs.Answers.{numberOf}
-use Rattle.entering.specs.Questions.{admission}
-use Rattle.judging.specs.Rest.{raisedRest}
-use Rattle.judging.proofs.InTurn.{first-refuses, then-second, limits-set}
+use Rattle.order_checks.specs.Questions.{admission}
+use Rattle.judging.specs.QuestionsLeft.{raisedFrom14}
+use Rattle.judging.proofs.QuestionsInOrder.{first-refuses, then-second, limits-set}
 use Rattle.judging.proofs.Rises.{replaced-on, replaced-raises}
 use Rattle.judging.proofs.entries.raised.Statement.{statement}
 use Rattle.judging.proofs.entries.raised.Tie as tie
@@ -17,7 +17,9 @@ admitted-requires c κs =
     let s = c .before .before .before in
     rw (c .replaced-total .ensures) (replaced-on _ _ _ (s .pre .0))
 
-asked : (c : tie.After-admitted) → let a = c .before .before .before .before .args in numberOf (c .admitted .result) ≡ firstNo (admission (a .m .now) (replacedTotal (a .o) (a .total)))
+asked : (c : tie.After-admitted) → let a =
+    c .before .before .before .before .args in
+    numberOf (c .admitted .result) ≡ firstNo (admission (a .m .now) (replacedTotal (a .o) (a .total)))
 asked c = rw (c .before .replaced-total .ensures) at (c .admitted .ensures)
 
 within-limits-requires : tie.Need-within-limits-requires
@@ -36,7 +38,7 @@ within-limits-requires c κs =
     )
 
 returns : tie.Need-returns
-unfolding raisedRest
+unfolding raisedFrom14
 returns c =
     let at = c .before .before .before in
     let s = at .before .before .before .before in
@@ -44,17 +46,10 @@ returns c =
     ∙ sym (then-second _ _ _ (asked at) (c .before .enum-told .given .1) _)
 
 returns-2 : tie.Need-returns-2
-unfolding raisedRest
+unfolding raisedFrom14
 returns-2 c = first-refuses _ _ _ (asked (c .before)) (c .match .keys2) _
 
 pub raised-spec : {M : Type 1} → statement M
 raised-spec =
-    tie.close
-    (tie.spec
-    (λ c κs. search needs)
-    admitted-requires
-    (λ c. search needs)
-    (λ c. search needs)
-    within-limits-requires
-    returns
+    tie.close (tie.spec (λ c κs. search needs) admitted-requires (λ c. search needs) (λ c. search needs) within-limits-requires returns
     returns-2)

@@ -5,24 +5,24 @@ use borrow.Author.Needs.{needs}
 use borrow.Author.Tests.{lt-ltb, le-ltb}
 use Rattle.limits.specs.Questions.{firstNo}
 use Rattle.book.specs.Answers.{numberOf}
-use Rattle.judging.specs.Rest.{replaceRest}
+use Rattle.judging.specs.QuestionsLeft.{replaceFrom12}
 use Rattle.judging.proofs.entries.replaced.Statement.{statement}
 use Rattle.judging.proofs.entries.replaced.Tie as tie
 
 returns : tie.Need-returns
-unfolding replaceRest firstNo numberOf
+unfolding replaceFrom12 firstNo numberOf
 returns c =
     let a = c .before .before .before .before .args in
     rw (le-ltb (a .o .filled) (a .total) (omega arith))
 
 returns-2 : tie.Need-returns-2
-unfolding replaceRest firstNo numberOf
+unfolding replaceFrom12 firstNo numberOf
 returns-2 c =
     let a = c .before .before .before .before .before .before .args in
     rw (lt-ltb (a .o .filled) (a .total) (omega arith), le-ltb (a .o .total) (a .total) (omega arith))
 
 returns-3 : tie.Need-returns-3
-unfolding replaceRest firstNo
+unfolding replaceFrom12 firstNo
 returns-3 c =
     let a = c .before .before .before .before .before .before .before .args in
     c .raised .ensures ∙ rw (lt-ltb (a .o .filled) (a .total) (omega arith), lt-ltb (a .o .total) (a .total) (omega arith))

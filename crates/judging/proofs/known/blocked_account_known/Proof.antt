@@ -11,6 +11,5 @@ returns-3 c = cc
 
 pub blocked-account-known-spec : {M : Type 1} → statement M
 blocked-account-known-spec =
-    tie.close
-    (tie.spec (λ c. search needs) (λ c κs. search needs) (λ c. search needs) (λ c. search needs)
-    (λ c κs. search needs) returns (λ c. search needs) returns-3)
+    tie.close (tie.spec (λ c. search needs) (λ c κs. search needs) (λ c. search needs) (λ c. search needs) (λ c κs. search needs) returns
+    (λ c. search needs) returns-3)

@@ -7,7 +7,7 @@ use Rattle.book.specs.declared.Answer.the-variants.{OrderNotFound}
 use Rattle.book.specs.Answers.{numberOf}
 use Rattle.judging.proofs.Verdicts.{refused}
 use Rattle.judging.proofs.ByKind.{cancel-answer}
-use Rattle.judging.proofs.Places.{held-ranked, found-order, no-order}
+use Rattle.judging.proofs.Places.{sound-ranked, found-order, no-order}
 use Rattle.judging.proofs.orders.judge_cancel.Statement.{statement}
 use Rattle.judging.proofs.orders.judge_cancel.Tie as tie
 
@@ -25,5 +25,5 @@ returns-2 c =
 
 pub judge-cancel-spec : {M : Type 1} → statement M
 judge-cancel-spec =
-    tie.close
-    (tie.spec (λ c κs. held-ranked _ (c .before .pre)) (λ c. search needs) (λ c. search needs) (λ c κs. search needs) returns returns-2)
+    tie.close (tie.spec (λ c κs. sound-ranked _ (c .before .pre)) (λ c. search needs) (λ c. search needs) (λ c κs. search needs) returns
+    returns-2)

@@ -12,17 +12,19 @@ use Rattle.book.specs.declared.Answer.the-variants.{FigureOutOfRange, OrderNotF
 use Rattle.book.specs.Answers.{numberOf}
 use Rattle.book.specs.Table.{isQuantity}
 use Rattle.layout.specs.View.{openOrders}
-use Rattle.soundness.proofs.Asked.{said-no, said-yes}
-use Rattle.soundness.proofs.SoundDesk.{held-records}
-use Rattle.judging.proofs.Said.{said, quantity-cast}
+use Rattle.soundness.proofs.Asked.{answered-no, answered-yes}
+use Rattle.soundness.proofs.SoundDesk.{sound-records}
+use Rattle.judging.proofs.HandedOn.{test-handed-on, quantity-cast}
 use Rattle.judging.proofs.Verdicts.{refused}
 use Rattle.judging.proofs.ByKind.{fill-answer}
-use Rattle.judging.proofs.Places.{held-ranked, found-order, place-small, no-order}
+use Rattle.judging.proofs.Places.{sound-ranked, found-order, place-small, no-order}
 use Rattle.judging.proofs.orders.judge_fill.Statement.{statement}
 use Rattle.judging.proofs.orders.judge_fill.Tie as tie
 
 whole : (c : tie.Else1) → isQuantity (c .before .before .before .args .quantity) ≡ true
-whole c = said-yes _ _ (said isQuantity (c .before .before .before .fits .quantity) (c .before .is-quantity .ensures)) (c .if1 .left)
+whole c =
+    answered-yes _ _ (test-handed-on isQuantity (c .before .before .before .fits .quantity) (c .before .is-quantity .ensures))
+    (c .if1 .left)
 
 found : (c : tie.After-p) → let a = c .before .before .before .before .before .before .args in
     placeFrom 0 (a .id) (openOrders (a .m .now)) ≡ At (c .p .given .0 .0)
@@ -33,13 +35,14 @@ unfolding numberOf
 returns c =
     let s = c .before .before .before .before in
     refused FigureOutOfRange (c .plain .ensures) (fill-answer _ _ _ false _
-    (said-no _ _ (said isQuantity (s .fits .quantity) (c .before .before .is-quantity .ensures)) (c .before .if1 .taken)) refl)
+    (answered-no _ _ (test-handed-on isQuantity (s .fits .quantity) (c .before .before .is-quantity .ensures)) (c .before .if1 .taken))
+    refl)
     (omega arith)
 
 load-order-requires : tie.Need-load-order-requires
 load-order-requires c κs =
     let s = c .before .before .before .before .before .before .before in
-    (held-records _ (s .pre), place-small _ _ (s .pre) _ (found (c .before)))
+    (sound-records _ (s .pre), place-small _ _ (s .pre) _ (found (c .before)))
 
 cast-filled : tie.Need-cast-filled
 cast-filled c =
@@ -67,7 +70,6 @@ returns-3 c =
 
 pub judge-fill-spec : {M : Type 1} → statement M
 judge-fill-spec =
-    tie.close
-    (tie.spec (λ c κs. search needs) (λ c κs. search needs) returns
-    (λ c κs. held-ranked _ (c .before .before .before .pre)) (λ c. search needs) load-order-requires cast-filled
-    (λ c κs. search needs) (λ c. search needs) (λ c κs. search needs) returns-2 returns-3)
+    tie.close (tie.spec (λ c κs. search needs) (λ c κs. search needs) returns (λ c κs. sound-ranked _ (c .before .before .before .pre))
+    (λ c. search needs) load-order-requires cast-filled (λ c κs. search needs) (λ c. search needs) (λ c κs. search needs) returns-2
+    returns-3)

@@ -5,21 +5,22 @@ use borrow.Author.Needs.{needs}
 use Rattle.book.specs.Market.{derivatives}
 use Rattle.book.specs.Books.{isMinusOne}
 use Rattle.book.specs.Table.{isLimit}
-use Rattle.judging.proofs.Said.{said-both}
+use Rattle.judging.proofs.HandedOn.{tests-handed-on}
 use Rattle.judging.proofs.ranges.group_fits.Statement.{statement}
 use Rattle.judging.proofs.ranges.group_fits.Tie as tie
 
 returns : tie.Need-returns
 returns c =
     let f = c .before .before .fits in
-    rw (sym (said-both (λ x y. isMinusOne x && isMinusOne y) _ _ (f .lcc) (f .lvc) (c .before .both-minus-one .ensures)) ∙ c .if1 .taken)
+    rw (sym (tests-handed-on (λ x y. isMinusOne x && isMinusOne y) _ _ (f .lcc) (f .lvc) (c .before .both-minus-one .ensures))
+    ∙ c .if1 .taken)
 
 returns-2 : tie.Need-returns-2
 returns-2 c =
     let one = c .before in
     let f = one .before .before .fits in
-    said-both (λ x y. isLimit derivatives x && isLimit derivatives y) _ _ (f .lcc) (f .lvc) (c .both-limits .ensures)
-    ∙ rw (sym (said-both (λ x y. isMinusOne x && isMinusOne y) _ _ (f .lcc) (f .lvc) (one .before .both-minus-one .ensures))
+    tests-handed-on (λ x y. isLimit derivatives x && isLimit derivatives y) _ _ (f .lcc) (f .lvc) (c .both-limits .ensures)
+    ∙ rw (sym (tests-handed-on (λ x y. isMinusOne x && isMinusOne y) _ _ (f .lcc) (f .lvc) (one .before .both-minus-one .ensures))
     ∙ one .if1 .left)
 
 pub group-fits-spec : {M : Type 1} → statement M

@@ -2,13 +2,13 @@
 use borrow.Author.Needs.{needs}
 use Rattle.book.specs.Market.{derivatives}
 use Rattle.book.specs.Table.{isLimit}
-use Rattle.judging.proofs.Said.{said}
+use Rattle.judging.proofs.HandedOn.{test-handed-on}
 use Rattle.judging.proofs.ranges.is_limit.Statement.{statement}
 use Rattle.judging.proofs.ranges.is_limit.Tie as tie
 
 returns : tie.Need-returns
 unfolding derivatives
-returns c = said (isLimit derivatives) (c .before .fits .z) (c .in-range .ensures)
+returns c = test-handed-on (isLimit derivatives) (c .before .fits .z) (c .in-range .ensures)
 
 pub is-limit-spec : {M : Type 1} → statement M
 is-limit-spec = tie.close (tie.spec (λ c κs. search needs) returns)

@@ -4,8 +4,8 @@ use mathlib.Core.Bool.{_&&_}
 use borrow.Author.Needs.{needs}
 use Rattle.book.specs.Market.{derivatives}
 use Rattle.book.specs.Table.{isLimit}
-use Rattle.soundness.proofs.Asked.{said-no, said-yes}
-use Rattle.judging.proofs.Said.{said-both}
+use Rattle.soundness.proofs.Asked.{answered-no, answered-yes}
+use Rattle.judging.proofs.HandedOn.{tests-handed-on}
 use Rattle.judging.proofs.ranges.line_fits.Statement.{statement}
 use Rattle.judging.proofs.ranges.line_fits.Tie as tie
 
@@ -19,8 +19,8 @@ returns-2 c =
     let fits = c .before .before .before .struct-told .given in
     rw (
       sym (one .before .unsets .ensures) ∙ one .if1 .left,
-      said-no _ _
-          (said-both (λ x y. isLimit derivatives x && isLimit derivatives y) (f .tci) (f .tvi) (record { sfits = fits .0 .1 })
+      answered-no _ _
+          (tests-handed-on (λ x y. isLimit derivatives x && isLimit derivatives y) (f .tci) (f .tvi) (record { sfits = fits .0 .1 })
           (record { sfits = fits .1 .0 .1 }) (c .before .both-limits .ensures)) (c .if2 .taken),
     )
 
@@ -30,12 +30,12 @@ returns-3 c =
     let one = two .before .before .before .before in
     let f = one .before .before .args .f in
     let fits = two .before .before .before .struct-told .given in
-    said-both (λ x y. isLimit derivatives x && isLimit derivatives y) (f .lci) (f .lvi) (record { sfits = fits .1 .1 .0 .1 })
+    tests-handed-on (λ x y. isLimit derivatives x && isLimit derivatives y) (f .lci) (f .lvi) (record { sfits = fits .1 .1 .0 .1 })
     (record { sfits = fits .1 .1 .1 .0 .1 }) (c .both-limits2 .ensures)
     ∙ rw (
       sym (one .before .unsets .ensures) ∙ one .if1 .left,
-      said-yes _ _
-          (said-both (λ x y. isLimit derivatives x && isLimit derivatives y) (f .tci) (f .tvi) (record { sfits = fits .0 .1 })
+      answered-yes _ _
+          (tests-handed-on (λ x y. isLimit derivatives x && isLimit derivatives y) (f .tci) (f .tvi) (record { sfits = fits .0 .1 })
           (record { sfits = fits .1 .0 .1 }) (two .before .both-limits .ensures)) (two .if2 .left),
     )
 

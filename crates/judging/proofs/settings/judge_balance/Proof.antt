@@ -10,35 +10,36 @@ use Rattle.book.specs.Table.{betweenℤ}
 use Rattle.book.proofs.Tables.{between-numbered}
 use Rattle.layout.specs.View.{rosterOf, tradingOf}
 use Rattle.layout.specs.Judged.{judged}
-use Rattle.soundness.proofs.Asked.{said-no, said-yes}
-use Rattle.judging.proofs.Said.{said}
+use Rattle.soundness.proofs.Asked.{answered-no, answered-yes}
+use Rattle.judging.proofs.HandedOn.{test-handed-on}
 use Rattle.judging.proofs.ByKind.{balance-answer}
 use Rattle.judging.proofs.settings.judge_balance.Statement.{statement}
 use Rattle.judging.proofs.settings.judge_balance.Tie as tie
 
 -- the three tests before the mark's
 known : (c : tie.Else1) → let a = c .before .before .before .args in between 1 (rosterOf (a .m .now) .accounts) (a .account) ≡ true
-known c = said-yes _ _ (c .before .account-known .ensures) (c .if1 .left)
+known c = answered-yes _ _ (c .before .account-known .ensures) (c .if1 .left)
 
 listed : (c : tie.Else2) → let a = c .before .before .before .before .before .args in
     between 1 (rosterOf (a .m .now) .instruments) (a .instrument) ≡ true
-listed c = said-yes _ _ (c .before .instrument-known .ensures) (c .if2 .left)
+listed c = answered-yes _ _ (c .before .instrument-known .ensures) (c .if2 .left)
 
 in-range : (c : tie.Else3) → let a = c .before .before .before .before .before .before .before .args in
     betweenℤ (negsuc 999999999) (pos 1000000000) (a .balance) ≡ true
 in-range c =
     let s = c .before .before .before .before .before .before .before in
-    said-yes _ _ (said (betweenℤ (negsuc 999999999) (pos 1000000000)) (s .fits .balance) (c .before .in-range .ensures)) (c .if3 .left)
+    answered-yes _ _ (test-handed-on (betweenℤ (negsuc 999999999) (pos 1000000000)) (s .fits .balance) (c .before .in-range .ensures))
+    (c .if3 .left)
 
 returns : tie.Need-returns
 unfolding numberOf
-returns c = sym (balance-answer _ _ _ _ false _ _ _ (said-no _ _ (c .before .account-known .ensures) (c .if1 .taken)) refl refl refl)
+returns c = sym (balance-answer _ _ _ _ false _ _ _ (answered-no _ _ (c .before .account-known .ensures) (c .if1 .taken)) refl refl refl)
 
 returns-2 : tie.Need-returns-2
 unfolding numberOf
 returns-2 c =
     sym (balance-answer _ _ _ _ true false _ _ (known (c .before .before))
-    (said-no _ _ (c .before .instrument-known .ensures) (c .if2 .taken)) refl refl)
+    (answered-no _ _ (c .before .instrument-known .ensures) (c .if2 .taken)) refl refl)
 
 returns-3 : tie.Need-returns-3
 unfolding numberOf
@@ -46,7 +47,7 @@ returns-3 c =
     let two = c .before .before in
     let s = two .before .before .before .before .before in
     sym (balance-answer _ _ _ _ true true false _ (known (two .before .before)) (listed two)
-    (said-no _ _ (said (betweenℤ (negsuc 999999999) (pos 1000000000)) (s .fits .balance) (c .before .in-range .ensures))
+    (answered-no _ _ (test-handed-on (betweenℤ (negsuc 999999999) (pos 1000000000)) (s .fits .balance) (c .before .in-range .ensures))
     (c .if3 .taken)) refl)
 
 is-trading-requires : tie.Need-is-trading-requires
@@ -73,6 +74,5 @@ returns-5 c = sym (answered (c .before) false (sym (c .before .is-trading .ensur
 
 pub judge-balance-spec : {M : Type 1} → statement M
 judge-balance-spec =
-    tie.close
-    (tie.spec (λ c κs. search needs) returns (λ c κs. search needs) returns-2 (λ c κs. search needs) returns-3
-    is-trading-requires returns-4 returns-5)
+    tie.close (tie.spec (λ c κs. search needs) returns (λ c κs. search needs) returns-2 (λ c κs. search needs) returns-3 is-trading-requires
+    returns-4 returns-5)

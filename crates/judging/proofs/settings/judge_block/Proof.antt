@@ -8,27 +8,27 @@ use Rattle.book.specs.Answers.{numberOf}
 use Rattle.book.specs.Table.{blockAccountKnown, blockItemKnown, betweenℤ}
 use Rattle.layout.specs.View.{rosterOf}
 use Rattle.layout.specs.Judged.{judged}
-use Rattle.soundness.proofs.Asked.{said-no, said-yes}
-use Rattle.judging.proofs.Said.{said}
+use Rattle.soundness.proofs.Asked.{answered-no, answered-yes}
+use Rattle.judging.proofs.HandedOn.{test-handed-on}
 use Rattle.judging.proofs.ByKind.{block-answer}
 use Rattle.judging.proofs.settings.judge_block.Statement.{statement}
 use Rattle.judging.proofs.settings.judge_block.Tie as tie
 
 known : (c : tie.Else1) → let a = c .before .before .before .args in blockAccountKnown (rosterOf (a .m .now)) (a .what) ≡ true
-known c = said-yes _ _ (c .before .blocked-account-known .ensures) (c .if1 .left)
+known c = answered-yes _ _ (c .before .blocked-account-known .ensures) (c .if1 .left)
 
 listed : (c : tie.Else2) → let a = c .before .before .before .before .before .args in
     blockItemKnown (rosterOf (a .m .now)) (a .what) ≡ true
-listed c = said-yes _ _ (c .before .blocked-item-known .ensures) (c .if2 .left)
+listed c = answered-yes _ _ (c .before .blocked-item-known .ensures) (c .if2 .left)
 
 returns : tie.Need-returns
 unfolding numberOf
-returns c = sym (block-answer _ _ _ false _ _ (said-no _ _ (c .before .blocked-account-known .ensures) (c .if1 .taken)) refl refl)
+returns c = sym (block-answer _ _ _ false _ _ (answered-no _ _ (c .before .blocked-account-known .ensures) (c .if1 .taken)) refl refl)
 
 returns-2 : tie.Need-returns-2
 unfolding numberOf
 returns-2 c =
-    let unlisted = said-no _ _ (c .before .blocked-item-known .ensures) (c .if2 .taken) in
+    let unlisted = answered-no _ _ (c .before .blocked-item-known .ensures) (c .if2 .taken) in
     sym (block-answer _ _ _ true false _ (known (c .before .before)) unlisted refl)
 
 -- the account and the item are known, and z says whether the block's figure fits
@@ -38,18 +38,16 @@ answered c z e = block-answer _ _ _ true true z (known (c .before .before .befor
 
 fits : (c : tie.After-in-range) → let a = c .before .before .before .before .before .before .args in
     c .in-range .result ≡ betweenℤ (pos 0) (pos 1) (a .on)
-fits c = said (betweenℤ (pos 0) (pos 1)) (c .before .before .before .before .before .before .fits .on) (c .in-range .ensures)
+fits c = test-handed-on (betweenℤ (pos 0) (pos 1)) (c .before .before .before .before .before .before .fits .on) (c .in-range .ensures)
 
 returns-3 : tie.Need-returns-3
 unfolding numberOf
-returns-3 c = sym (answered (c .before) false (said-no _ _ (fits (c .before)) (c .if3 .taken)))
+returns-3 c = sym (answered (c .before) false (answered-no _ _ (fits (c .before)) (c .if3 .taken)))
 
 returns-4 : tie.Need-returns-4
 unfolding numberOf
-returns-4 c = sym (answered (c .before) true (said-yes _ _ (fits (c .before)) (c .if3 .left)))
+returns-4 c = sym (answered (c .before) true (answered-yes _ _ (fits (c .before)) (c .if3 .left)))
 
 pub judge-block-spec : {M : Type 1} → statement M
 judge-block-spec =
-    tie.close
-    (tie.spec (λ c κs. search needs) returns (λ c κs. search needs) returns-2 (λ c κs. search needs) returns-3
-    returns-4)
+    tie.close (tie.spec (λ c κs. search needs) returns (λ c κs. search needs) returns-2 (λ c κs. search needs) returns-3 returns-4)

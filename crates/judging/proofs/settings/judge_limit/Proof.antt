@@ -9,25 +9,26 @@ use Rattle.book.specs.Decoding.{between}
 use Rattle.book.specs.Table.{lineKnown, lineFits}
 use Rattle.layout.specs.View.{rosterOf}
 use Rattle.layout.specs.Judged.{judged}
-use Rattle.soundness.proofs.Asked.{said-no, said-yes}
+use Rattle.soundness.proofs.Asked.{answered-no, answered-yes}
 use Rattle.judging.proofs.ByKind.{limit-answer}
 use Rattle.judging.proofs.settings.judge_limit.Statement.{statement}
 use Rattle.judging.proofs.settings.judge_limit.Tie as tie
 
 known : (c : tie.Else1) → let a = c .before .before .before .args in between 1 (rosterOf (a .m .now) .accounts) (a .account) ≡ true
-known c = said-yes _ _ (c .before .account-known .ensures) (c .if1 .left)
+known c = answered-yes _ _ (c .before .account-known .ensures) (c .if1 .left)
 
 listed : (c : tie.Else2) → let a = c .before .before .before .before .before .args in lineKnown (rosterOf (a .m .now)) (a .line) ≡ true
-listed c = said-yes _ _ (c .before .line-known .ensures) (c .if2 .left)
+listed c = answered-yes _ _ (c .before .line-known .ensures) (c .if2 .left)
 
 returns : tie.Need-returns
 unfolding numberOf
-returns c = sym (limit-answer _ _ _ false _ _ (said-no _ _ (c .before .account-known .ensures) (c .if1 .taken)) refl refl)
+returns c = sym (limit-answer _ _ _ false _ _ (answered-no _ _ (c .before .account-known .ensures) (c .if1 .taken)) refl refl)
 
 returns-2 : tie.Need-returns-2
 unfolding numberOf
 returns-2 c =
-    sym (limit-answer _ _ _ true false _ (known (c .before .before)) (said-no _ _ (c .before .line-known .ensures) (c .if2 .taken)) refl)
+    sym (limit-answer _ _ _ true false _ (known (c .before .before)) (answered-no _ _ (c .before .line-known .ensures) (c .if2 .taken))
+    refl)
 
 -- the two questions before the figures are passed, and z says whether those fit
 answered : (c : tie.After-limit-fits) (z : Bool) → let a = c .before .before .before .before .before .before .args in
@@ -36,14 +37,12 @@ answered c z e = limit-answer _ _ _ true true z (known (c .before .before .befor
 
 returns-3 : tie.Need-returns-3
 unfolding numberOf
-returns-3 c = sym (answered (c .before) false (said-no _ _ (c .before .limit-fits .ensures) (c .if3 .taken)))
+returns-3 c = sym (answered (c .before) false (answered-no _ _ (c .before .limit-fits .ensures) (c .if3 .taken)))
 
 returns-4 : tie.Need-returns-4
 unfolding numberOf
-returns-4 c = sym (answered (c .before) true (said-yes _ _ (c .before .limit-fits .ensures) (c .if3 .left)))
+returns-4 c = sym (answered (c .before) true (answered-yes _ _ (c .before .limit-fits .ensures) (c .if3 .left)))
 
 pub judge-limit-spec : {M : Type 1} → statement M
 judge-limit-spec =
-    tie.close
-    (tie.spec (λ c κs. search needs) returns (λ c κs. search needs) returns-2 (λ c κs. search needs) returns-3
-    returns-4)
+    tie.close (tie.spec (λ c κs. search needs) returns (λ c κs. search needs) returns-2 (λ c κs. search needs) returns-3 returns-4)

@@ -14,7 +14,8 @@ returns c =
     let read = near .before .before in
     let known = read .before .before in
     let start = known .before in
-    leaves-before (start .args .m .now) (λ i. known .slice-known .given i .fits) (start .pre .0) (start .args .p) (omega (arith, start .pre .1, start .pre .2)) _
+    leaves-before (start .args .m .now) (λ i. known .slice-known .given i .fits) (start .pre .0) (start .args .p)
+    (omega (arith, start .pre .1, start .pre .2)) _
     _ _ (start .pre .1) (read .first-of .ensures) (near .before .if1 .taken) (near .if2 .taken) (moved .move-up .ensures)
 
 returns-2 : tie.Need-returns-2
@@ -24,22 +25,12 @@ returns-2 c =
     let read = far .before in
     let known = read .before .before in
     let start = known .before in
-    leaves-behind (start .args .m .now) (λ i. known .slice-known .given i .fits) (start .pre .0) (start .args .p) (omega (arith, start .pre .1, start .pre .2)) _
-    _ _ (start .pre .1) (read .first-of .ensures) (⊎-elim (λ w. inl (w .0 .taken, w .1 .left)) (λ w. inr (w .left)) (far .if1 .came)) (moved .move-down .ensures)
+    leaves-behind (start .args .m .now) (λ i. known .slice-known .given i .fits) (start .pre .0) (start .args .p)
+    (omega (arith, start .pre .1, start .pre .2)) _
+    _ _ (start .pre .1) (read .first-of .ensures) (⊎-elim (λ w. inl (w .0 .taken, w .1 .left)) (λ w. inr (w .left)) (far .if1 .came))
+    (moved .move-down .ensures)
 
 pub close-gap-spec : {M : Type 1} → statement M
 close-gap-spec =
-    tie.close
-    (tie.spec
-    (λ c κs. search needs)
-    (λ c. search needs)
-    (λ c κs. search needs)
-    (λ c. search needs)
-    (λ c. search needs)
-    returns
-    (λ c. search needs)
-    (λ c. search needs)
-    (λ c. search needs)
-    (λ c κs. search needs)
-    (λ c. search needs)
-    returns-2)
+    tie.close (tie.spec (λ c κs. search needs) (λ c. search needs) (λ c κs. search needs) (λ c. search needs) (λ c. search needs) returns
+    (λ c. search needs) (λ c. search needs) (λ c. search needs) (λ c κs. search needs) (λ c. search needs) returns-2)

@@ -18,11 +18,14 @@ returns c =
     let read = near .before .before in
     let known = read .before .before in
     let start = known .before in
-    joins-before (start .args .m .now) (λ i. known .slice-known .given i .fits) (start .pre .0) (start .args .p) (omega (arith, start .pre .1, start .pre .2)) _
+    joins-before (start .args .m .now) (λ i. known .slice-known .given i .fits) (start .pre .0) (start .args .p)
+    (omega (arith, start .pre .1, start .pre .2)) _
     _ _ (start .pre .1) (read .first-of .ensures) (near .before .if1 .taken) (near .if2 .taken) (moved .move-down .ensures)
 
 -- the records before the place are not moved
-far : (c : tie.Joined1) → let read = c .before in let start = read .before .before .before in ((start .args .p * 2 < start .args .n) × (ltb 0 (read .first-of .result) ≡ false)) ⊎ (start .args .n ≤ start .args .p * 2)
+far : (c : tie.Joined1) → let read =
+    c .before in let start = read .before .before .before in
+    ((start .args .p * 2 < start .args .n) × (ltb 0 (read .first-of .result) ≡ false)) ⊎ (start .args .n ≤ start .args .p * 2)
 far c = ⊎-elim (λ w. inl (w .0 .taken, w .1 .left)) (λ w. inr (w .left)) (c .if1 .came)
 
 returns-2 : tie.Need-returns-2
@@ -33,8 +36,10 @@ returns-2 c =
     let read = last .before .before in
     let known = read .before .before in
     let start = known .before in
-    joins-again (start .args .m .now) (λ i. known .slice-known .given i .fits) (start .pre .0) (start .args .p) (omega (arith, start .pre .1, start .pre .2)) _
-    _ _ (start .pre .1) (read .first-of .ensures) (start .pre .3) (far (last .before)) (last .if3 .taken) _ (before .copy-down .ensures) (behind .copy-down2 .ensures)
+    joins-again (start .args .m .now) (λ i. known .slice-known .given i .fits) (start .pre .0) (start .args .p)
+    (omega (arith, start .pre .1, start .pre .2)) _
+    _ _ (start .pre .1) (read .first-of .ensures) (start .pre .3) (far (last .before)) (last .if3 .taken) _ (before .copy-down .ensures)
+    (behind .copy-down2 .ensures)
 
 returns-3 : tie.Need-returns-3
 returns-3 c =
@@ -43,29 +48,12 @@ returns-3 c =
     let read = room .before .before in
     let known = read .before .before in
     let start = known .before in
-    joins-behind (start .args .m .now) (λ i. known .slice-known .given i .fits) (start .pre .0) (start .args .p) (omega (arith, start .pre .1, start .pre .2)) _
+    joins-behind (start .args .m .now) (λ i. known .slice-known .given i .fits) (start .pre .0) (start .args .p)
+    (omega (arith, start .pre .1, start .pre .2)) _
     _ _ (start .pre .1) (read .first-of .ensures) (start .pre .3) (far (room .before)) (room .if3 .left) (moved .move-up .ensures)
 
 pub make-room-spec : {M : Type 1} → statement M
 make-room-spec =
-    tie.close
-    (tie.spec
-    (λ c κs. search needs)
-    (λ c. search needs)
-    (λ c. search needs)
-    (λ c κs. search needs)
-    (λ c. search needs)
-    (λ c. search needs)
-    returns
-    (λ c κs. search needs)
-    (λ c. search needs)
-    (λ c. search needs)
-    (λ c. search needs)
-    (λ c κs. search needs)
-    (λ c. search needs)
-    returns-2
-    (λ c. search needs)
-    (λ c. search needs)
-    (λ c κs. search needs)
-    (λ c. search needs)
-    returns-3)
+    tie.close (tie.spec (λ c κs. search needs) (λ c. search needs) (λ c. search needs) (λ c κs. search needs) (λ c. search needs)
+    (λ c. search needs) returns (λ c κs. search needs) (λ c. search needs) (λ c. search needs) (λ c. search needs) (λ c κs. search needs)
+    (λ c. search needs) returns-2 (λ c. search needs) (λ c. search needs) (λ c κs. search needs) (λ c. search needs) returns-3)

@@ -71,17 +71,6 @@ returns c =
 
 pub blocks-before-spec : {M : Type 1} → statement M
 blocks-before-spec =
-    tie.close
-    (tie.spec
-    Inv-loop
-    μ-loop
-    (λ c. (omega arith, (omega arith, λ h. absurd (omega arith), λ less. absurd (omega arith))))
-    (λ c. omega arith)
-    (λ c. omega arith)
-    (λ c κs. (c .before .before .before .pre .0 .0, omega arith))
-    (λ c κs. tt)
-    (λ c. omega arith)
-    (λ c. omega arith)
-    (λ c. omega arith)
-    loop-again
-    returns)
+    tie.close (tie.spec Inv-loop μ-loop (λ c. (omega arith, (omega arith, λ h. absurd (omega arith), λ less. absurd (omega arith))))
+    (λ c. omega arith) (λ c. omega arith) (λ c κs. (c .before .before .before .pre .0 .0, omega arith)) (λ c κs. tt) (λ c. omega arith)
+    (λ c. omega arith) (λ c. omega arith) loop-again returns)

@@ -48,16 +48,6 @@ loop-again c =
 
 pub records-before-spec : {M : Type 1} → statement M
 records-before-spec =
-    tie.close
-    (tie.spec
-    Inv-loop
-    μ-loop
-    (λ c. (omega arith, omega arith, omega arith, (λ h. omega arith, λ h. omega arith)))
-    (λ c κs. (c .before .before .before .pre .0 .0, omega arith))
-    (λ c κs. tt)
-    (λ c. omega arith)
-    (λ c. omega arith)
-    (λ c. omega arith)
-    (λ c. omega arith)
-    loop-again
-    (λ c. c .before .loop .inv .3 .1 (omega arith)))
+    tie.close (tie.spec Inv-loop μ-loop (λ c. (omega arith, omega arith, omega arith, (λ h. omega arith, λ h. omega arith)))
+    (λ c κs. (c .before .before .before .pre .0 .0, omega arith)) (λ c κs. tt) (λ c. omega arith) (λ c. omega arith) (λ c. omega arith)
+    (λ c. omega arith) loop-again (λ c. c .before .loop .inv .3 .1 (omega arith)))

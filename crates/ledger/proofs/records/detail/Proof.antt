@@ -29,12 +29,4 @@ returns c = cc
 
 pub detail-spec : {M : Type 1} → statement M
 detail-spec =
-    tie.close
-    (tie.spec
-    (λ c κs. search needs)
-    (λ c. search needs)
-    add-result
-    (λ c. search needs)
-    mul-result-2
-    add-result-2
-    returns)
+    tie.close (tie.spec (λ c κs. search needs) (λ c. search needs) add-result (λ c. search needs) mul-result-2 add-result-2 returns)

@@ -14,11 +14,4 @@ returns-2 c = c .part2 .ensures ∙ default-part _ _ _ _ _ (word-unset _ (c .bef
 
 pub line-in-force-spec : {M : Type 1} → statement M
 line-in-force-spec =
-    tie.close
-    (tie.spec
-    (λ c. search needs)
-    (λ c κs. search needs)
-    (λ c. search needs)
-    (λ c κs. search needs)
-    returns
-    returns-2)
+    tie.close (tie.spec (λ c. search needs) (λ c κs. search needs) (λ c. search needs) (λ c κs. search needs) returns returns-2)

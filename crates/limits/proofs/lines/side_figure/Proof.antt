@@ -23,11 +23,5 @@ returns c =
 
 pub side-figure-spec : {M : Type 1} → statement M
 side-figure-spec =
-    tie.close
-    (tie.spec
-    (λ c κs. search needs)
-    add-u32-at
-    u32-at-requires
-    (λ c. search needs)
-    (λ c κs. omega (arith, c .u32-at .ok))
+    tie.close (tie.spec (λ c κs. search needs) add-u32-at u32-at-requires (λ c. search needs) (λ c κs. omega (arith, c .u32-at .ok))
     returns)

@@ -13,11 +13,19 @@ returns-2 c r ls o sets =
 
 returns-3 : tie.Need-returns-3
 returns-3 c r ls o sets =
-    sym (existence r ls o _ _ _ sets ∙ simp (word-set _ (c .before .before .if1 .left), word-unset _ (c .before .if2 .left), word-set _ (c .if3 .taken)))
+    sym (existence r ls o _ _ _ sets ∙ simp (
+      word-set _ (c .before .before .if1 .left),
+      word-unset _ (c .before .if2 .left),
+      word-set _ (c .if3 .taken),
+    ))
 
 returns-4 : tie.Need-returns-4
 returns-4 c r ls o sets =
-    sym (existence r ls o _ _ _ sets ∙ simp (word-set _ (c .before .before .if1 .left), word-unset _ (c .before .if2 .left), word-unset _ (c .if3 .left)))
+    sym (existence r ls o _ _ _ sets ∙ simp (
+      word-set _ (c .before .before .if1 .left),
+      word-unset _ (c .before .if2 .left),
+      word-unset _ (c .if3 .left),
+    ))
 
 pub limits-exist-spec : {M : Type 1} → statement M
 limits-exist-spec = tie.close (tie.spec returns returns-2 returns-3 returns-4)

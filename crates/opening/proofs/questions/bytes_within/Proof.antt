@@ -17,15 +17,15 @@ abbrev μ-loop : tie.MeasureT-loop
 μ-loop s a n most k₀ k = n - k
 
 -- the answer is the test's
-said : (c : tie.After-numbered Inv-loop μ-loop)
+tested : (c : tie.After-numbered Inv-loop μ-loop)
     → let at = c .before .before .before in let a = at .before .before .args in
     c .numbered .result ≡ between 1 (a .most) (u8At (a .s .now) (a .a + (at .loop .k + 1)))
-said c = c .numbered .ensures ∙ rw (c .before .u8-at .ensures)
+tested c = c .numbered .ensures ∙ rw (c .before .u8-at .ensures)
 
 pub bytes-within-spec : {M : Type 1} → statement M
 unfolding bytesWithin
 bytes-within-spec =
     tie.close (tie.spec Inv-loop μ-loop (λ c. so-far-none _ _) (λ c. omega arith) (λ c. omega arith) (λ c κs. omega arith)
-    (λ c. search needs) (λ c κs. search needs) (λ c. every-no _ _ _ _ (omega arith) (said (c .before)) (c .if1 .taken)) (λ c. omega arith)
-    (λ c. so-far-on _ _ (c .before .before .before .before .loop .inv) (omega arith) (said (c .before)) (c .if1 .left))
+    (λ c. search needs) (λ c κs. search needs) (λ c. every-no _ _ _ _ (omega arith) (tested (c .before)) (c .if1 .taken)) (λ c. omega arith)
+    (λ c. so-far-on _ _ (c .before .before .before .before .loop .inv) (omega arith) (tested (c .before)) (c .if1 .left))
     (λ c. so-far-all _ (c .before .loop .inv) (omega arith)))

@@ -15,7 +15,8 @@ bytes-within-requires c κs =
 returns : tie.Need-returns
 returns c =
     let read = c .before .before in
-    names-first _ _ _ _ (read .before .u16-at .ensures) (read .u16-at2 .ensures) (c .before .bytes-within .ensures) (not-true _ (c .if1 .taken))
+    names-first _ _ _ _ (read .before .u16-at .ensures) (read .u16-at2 .ensures) (c .before .bytes-within .ensures)
+    (not-true _ (c .if1 .taken))
 
 bytes-within-requires-2 : tie.Need-bytes-within-requires-2
 bytes-within-requires-2 c κs =
@@ -27,20 +28,12 @@ returns-2 c =
     let first = c .before .before in
     let read = first .before .before in
     c .bytes-within2 .ensures
-    ∙ names-second _ _ _ _ _ (read .before .u16-at .ensures) (read .u16-at2 .ensures) (c .before .u16-at3 .ensures) (first .before .bytes-within .ensures) (not-false _ (first .if1 .left))
+    ∙ names-second _ _ _ _ _ (read .before .u16-at .ensures) (read .u16-at2 .ensures) (c .before .u16-at3 .ensures)
+    (first .before .bytes-within .ensures) (not-false _ (first .if1 .left))
 
 pub names-fit-spec : {M : Type 1} → statement M
 names-fit-spec =
-    tie.close
-    (tie.spec
-    (λ c κs. omega (arith, lengths-long _ (c .before .pre)))
-    (λ c. search needs)
-    (λ c κs. omega (arith, lengths-long _ (c .before .before .pre)))
-    (λ c. search needs)
-    bytes-within-requires
-    returns
-    (λ c. search needs)
-    (λ c κs. omega (arith, lengths-long _ (c .before .before .before .before .before .pre)))
-    (λ c. search needs)
-    bytes-within-requires-2
+    tie.close (tie.spec (λ c κs. omega (arith, lengths-long _ (c .before .pre))) (λ c. search needs)
+    (λ c κs. omega (arith, lengths-long _ (c .before .before .pre))) (λ c. search needs) bytes-within-requires returns (λ c. search needs)
+    (λ c κs. omega (arith, lengths-long _ (c .before .before .before .before .before .pre))) (λ c. search needs) bytes-within-requires-2
     returns-2)

@@ -19,10 +19,10 @@ abbrev μ-loop : tie.MeasureT-loop
 μ-loop s a n k₀ k = n - k
 
 -- the answer is the test's
-said : (c : tie.After-weighs Inv-loop μ-loop)
+tested : (c : tie.After-weighs Inv-loop μ-loop)
     → let at = c .before .before .before in let a = at .before .before .args in
     c .weighs .result ≡ leb (natAbs (i32At (a .s .now) (a .a + 4 * (at .loop .k + 1)))) 1000000
-said c =
+tested c =
     let read = c .before in
     sym (weighed (read .i32-at .result) _ (record { sfits = read .i32-at .ok }) (c .weighs .ensures)) ∙ rw (read .i32-at .ensures)
 
@@ -30,6 +30,6 @@ pub weights-within-spec : {M : Type 1} → statement M
 unfolding weightsWithin
 weights-within-spec =
     tie.close (tie.spec Inv-loop μ-loop (λ c. so-far-none _ _) (λ c. omega arith) (λ c. omega arith) (λ c. omega arith)
-    (λ c κs. omega arith) (λ c κs. search needs) (λ c. every-no _ _ _ _ (omega arith) (said (c .before)) (c .if1 .taken)) (λ c. omega arith)
-    (λ c. so-far-on _ _ (c .before .before .before .before .loop .inv) (omega arith) (said (c .before)) (c .if1 .left))
+    (λ c κs. omega arith) (λ c κs. search needs) (λ c. every-no _ _ _ _ (omega arith) (tested (c .before)) (c .if1 .taken))
+    (λ c. omega arith) (λ c. so-far-on _ _ (c .before .before .before .before .loop .inv) (omega arith) (tested (c .before)) (c .if1 .left))
     (λ c. so-far-all _ (c .before .loop .inv) (omega arith)))

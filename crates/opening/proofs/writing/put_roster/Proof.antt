@@ -24,7 +24,9 @@ put-bytes-requires-2 c κs =
 
 put-weights-requires : tie.Need-put-weights-requires
 put-weights-requires c κs =
-    let start = c .before .before .before .before .before .before .before .before .before .before .before .before .before .before .before .before .before in
+    let start =
+    c .before .before .before .before .before .before .before .before .before .before .before .before .before .before .before .before
+    .before in
     let sizes = lengths-out _ (start .pre .1) in
     omega (arith, start .pre .0)
 
@@ -40,18 +42,6 @@ returns c =
 
 pub put-roster-spec : {M : Type 1} → statement M
 put-roster-spec =
-    tie.close
-    (tie.spec
-    (λ c κs. omega (arith, lengths-long _ (c .before .before .pre .1)))
-    (λ c. search needs)
-    (λ c κs. omega (arith, lengths-long _ (c .before .before .before .pre .1)))
-    (λ c. search needs)
-    put-sizes-requires
-    put-bytes-requires
-    (λ c. search needs)
-    put-bytes-requires-2
-    (λ c. search needs)
-    (λ c. search needs)
-    put-weights-requires
-    (λ c. search needs)
-    returns)
+    tie.close (tie.spec (λ c κs. omega (arith, lengths-long _ (c .before .before .pre .1))) (λ c. search needs)
+    (λ c κs. omega (arith, lengths-long _ (c .before .before .before .pre .1))) (λ c. search needs) put-sizes-requires put-bytes-requires
+    (λ c. search needs) put-bytes-requires-2 (λ c. search needs) (λ c. search needs) put-weights-requires (λ c. search needs) returns)

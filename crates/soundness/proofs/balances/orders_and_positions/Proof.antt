@@ -3,12 +3,12 @@ use mathlib.Core.Path.{_∙_}
 use mathlib.Core.Bool.{false≢true}
 use borrow.Author.Needs.{needs}
 use borrow.Author.Tests.{not-false}
-use Rattle.soundness.proofs.Asked.{said-no, said-yes}
+use Rattle.soundness.proofs.Asked.{answered-no, answered-yes}
 use Rattle.soundness.proofs.balances.orders_and_positions.Statement.{statement}
 use Rattle.soundness.proofs.balances.orders_and_positions.Tie as tie
 
 returns : tie.Need-returns
-returns c = (rw (said-no _ _ (c .before .orders-are-sound .ensures .0) (c .if1 .taken)), λ e. absurd (false≢true e))
+returns c = (rw (answered-no _ _ (c .before .orders-are-sound .ensures .0) (c .if1 .taken)), λ e. absurd (false≢true e))
 
 positions-are-sound-requires : tie.Need-positions-are-sound-requires
 positions-are-sound-requires c κs =
@@ -18,7 +18,7 @@ positions-are-sound-requires c κs =
 returns-2 : tie.Need-returns-2
 returns-2 c =
     let at = c .before .before in (
-      c .positions-are-sound .ensures ∙ rw (said-yes _ _ (at .before .orders-are-sound .ensures .0) (at .if1 .left)),
+      c .positions-are-sound .ensures ∙ rw (answered-yes _ _ (at .before .orders-are-sound .ensures .0) (at .if1 .left)),
       λ e. at .before .orders-are-sound .ensures .1 (not-false _ (at .if1 .left)),
     )
 

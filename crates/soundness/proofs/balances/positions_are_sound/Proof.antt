@@ -39,16 +39,5 @@ returns-2 c = every-all _ _ (c .before .loop .j) (omega arith) (omega arith) (c 
 
 pub positions-are-sound-spec : {M : Type 1} → statement M
 positions-are-sound-spec =
-    tie.close
-    (tie.spec
-    Inv-loop
-    μ-loop
-    (λ c κs. search needs)
-    (λ c. (c .accounts .ensures, omega arith, every-none _))
-    (λ c. omega arith)
-    account-is-sound-requires
-    returns
-    (λ c. omega arith)
-    (λ c. omega arith)
-    loop-again
-    returns-2)
+    tie.close (tie.spec Inv-loop μ-loop (λ c κs. search needs) (λ c. (c .accounts .ensures, omega arith, every-none _)) (λ c. omega arith)
+    account-is-sound-requires returns (λ c. omega arith) (λ c. omega arith) loop-again returns-2)

@@ -6,7 +6,7 @@ use Rattle.soundness.proofs.bits.all_in_range.Statement.{statement}
 use Rattle.soundness.proofs.bits.all_in_range.Tie as tie
 
 returns : tie.Need-returns
-returns c e p h l = omega (arith, c .joined .ensures p h l, leb-true (c .joined .result) _ e)
+returns c e p h l = omega (arith, c .bits-of-all .ensures p h l, leb-true (c .bits-of-all .result) _ e)
 
 pub all-in-range-spec : {M : Type 1} → statement M
 all-in-range-spec = tie.close (tie.spec (λ c κs. search needs) returns)

@@ -13,7 +13,7 @@ unfolding signedAt
 returns c e p h l =
     let s = c .before in
     moved-small (wordAt (s .before .args .m .now) p) (word-below _ p (λ i. s .shared-slice-known .given i .fits))
-    (omega (arith, ltb-true (c .joined-moved .result) 1073741824 e, c .joined-moved .ensures p h l))
+    (omega (arith, ltb-true (c .bits-of-all-offset .result) 1073741824 e, c .bits-of-all-offset .ensures p h l))
 
 pub all-small-spec : {M : Type 1} → statement M
 all-small-spec = tie.close (tie.spec (λ c κs. search needs) returns)

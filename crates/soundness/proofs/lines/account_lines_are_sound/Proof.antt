@@ -7,7 +7,7 @@ use Rattle.layout.specs.Rosters.{every}
 use Rattle.limits.specs.InBytes.{lineAt, groupLineAt}
 use Rattle.layout.specs.View.{rosterOf}
 use Rattle.soundness.specs.Soundness.{lineInRange, groupLineInRange, accountLinesSound}
-use Rattle.soundness.proofs.Asked.{said-no, said-yes}
+use Rattle.soundness.proofs.Asked.{answered-no, answered-yes}
 use Rattle.soundness.proofs.LineFacts.{row-within}
 use Rattle.soundness.proofs.lines.account_lines_are_sound.Statement.{statement}
 use Rattle.soundness.proofs.lines.account_lines_are_sound.Tie as tie
@@ -37,13 +37,13 @@ returns c =
 
 returns-2 : tie.Need-returns-2
 unfolding accountLinesSound
-returns-2 c = rw (said-no _ _ (own (c .before)) (c .if2 .taken))
+returns-2 c = rw (answered-no _ _ (own (c .before)) (c .if2 .taken))
 
 returns-3 : tie.Need-returns-3
 unfolding accountLinesSound
 returns-3 c =
     let one = c .before .before .before in
-    rw (said-yes _ _ (own (one .before)) (one .if2 .left), said-no _ _ (default (c .before)) (c .if3 .taken))
+    rw (answered-yes _ _ (own (one .before)) (one .if2 .left), answered-no _ _ (default (c .before)) (c .if3 .taken))
 
 returns-4 : tie.Need-returns-4
 unfolding accountLinesSound
@@ -51,7 +51,7 @@ returns-4 c =
     let two = c .before .before in
     let one = two .before .before .before in
     of-group c
-    ∙ rw (said-yes _ _ (own (one .before)) (one .if2 .left), said-yes _ _ (default (two .before)) (two .if3 .left))
+    ∙ rw (answered-yes _ _ (own (one .before)) (one .if2 .left), answered-yes _ _ (default (two .before)) (two .if3 .left))
 
 pub account-lines-are-sound-spec : {M : Type 1} → statement M
 account-lines-are-sound-spec =

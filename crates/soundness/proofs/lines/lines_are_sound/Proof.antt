@@ -29,6 +29,5 @@ pub lines-are-sound-spec : {M : Type 1} → statement M
 unfolding linesSound
 lines-are-sound-spec =
     tie.close (tie.spec Inv-loop μ-loop (λ c κs. search needs) (λ c. (c .accounts .ensures, so-far-none _ _)) (λ c. omega arith)
-    account-lines-are-sound-requires
-    (λ c. every-no _ _ _ _ (omega arith) (c .before .account-lines-are-sound .ensures) (c .if1 .taken)) (λ c. omega arith)
-    (λ c. omega arith) loop-again (λ c. so-far-all _ (c .before .loop .inv .1) (omega arith)))
+    account-lines-are-sound-requires (λ c. every-no _ _ _ _ (omega arith) (c .before .account-lines-are-sound .ensures) (c .if1 .taken))
+    (λ c. omega arith) (λ c. omega arith) loop-again (λ c. so-far-all _ (c .before .loop .inv .1) (omega arith)))

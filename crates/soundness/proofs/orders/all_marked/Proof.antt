@@ -5,7 +5,8 @@ use native.Mathlib.Omega.{arith}
 use lib.ListN.{length}
 use Rattle.soundness.specs.Each.{Marked}
 use Rattle.soundness.proofs.Details.{record-packable}
-use Rattle.soundness.proofs.Telling.{tells-yes, told-yes, told-no, AskedTo, asked-none, asked-all, asked-long, asked-more, asked-refused}
+use Rattle.soundness.proofs.Telling.{tells-yes, told-yes, told-no, AskedTo, asked-none, asked-all, asked-long, asked-more}
+use Rattle.soundness.proofs.Telling.{asked-refused}
 use Rattle.soundness.proofs.orders.all_marked.Statement.{statement}
 use Rattle.soundness.proofs.orders.all_marked.Tie as tie
 
@@ -31,7 +32,8 @@ returns-2 : tie.Need-returns-2 Inv-loop μ-loop
 returns-2 c =
     let load = c .before .before in
     let at = load .before .before in
-    asked-refused _ _ _ _ _ (at .loop .inv) _ (omega arith) (load .load .ensures) (told-no _ (c .before .is-marked .ensures) (c .if2 .taken))
+    asked-refused _ _ _ _ _ (at .loop .inv) _ (omega arith) (load .load .ensures)
+    (told-no _ (c .before .is-marked .ensures) (c .if2 .taken))
 
 loop-again : tie.Need-loop-again Inv-loop μ-loop
 loop-again c =
@@ -41,19 +43,8 @@ loop-again c =
 
 pub all-marked-spec : {M : Type 1} → statement M
 all-marked-spec =
-    tie.close
-    (tie.spec
-    Inv-loop
-    μ-loop
-    (λ c κs. c .before .pre .0)
-    returns
-    (λ c κs. omega (arith, c .before .before .before .pre .0 .long))
-    (λ c κs. c .before .before .before .before .pre .1)
-    (λ c. asked-none _ _ _ _ (c .before .word .ensures) (c .records .ensures))
-    (λ c κs. omega (arith, long c))
-    (λ c κs. c .before .before .before .before .before .before .before .before .pre .0)
-    returns-2
-    (λ c. omega (arith, long (c .before .before .before)))
-    (λ c. omega arith)
-    loop-again
+    tie.close (tie.spec Inv-loop μ-loop (λ c κs. c .before .pre .0) returns (λ c κs. omega (arith, c .before .before .before .pre .0 .long))
+    (λ c κs. c .before .before .before .before .pre .1) (λ c. asked-none _ _ _ _ (c .before .word .ensures) (c .records .ensures))
+    (λ c κs. omega (arith, long c)) (λ c κs. c .before .before .before .before .before .before .before .before .pre .0) returns-2
+    (λ c. omega (arith, long (c .before .before .before))) (λ c. omega arith) loop-again
     (λ c. asked-all _ _ _ _ _ (c .before .loop .inv) (omega arith)))

@@ -85,7 +85,7 @@ loop-again c =
       at .loop .inv .0,
       at .loop .inv .1,
       passed-more _ _ _ _ _ (at .loop .p) (at .loop .inv .2) _ _ (omega arith) (read .before .id-in .ensures) (read .detail-in .ensures)
-          (one .if1 .left) _ (rest .remaining-of .ensures) (two .if2 .left) (read .detail-in .ok) _ (all .joined .ensures) _ cells,
+          (one .if1 .left) _ (rest .remaining-of .ensures) (two .if2 .left) (read .detail-in .ok) _ (all .bits-of-both .ensures) _ cells,
     )
 
 returns-3 : tie.Need-returns-3 Inv-loop μ-loop

@@ -5,7 +5,7 @@ use borrow.Author.Tests.{not-false}
 use Rattle.ledger.specs.Records.{Within}
 use Rattle.soundness.specs.Each.{Each}
 use Rattle.soundness.proofs.Telling.{told-yes, told-no}
-use Rattle.soundness.proofs.OrdersTold.{refused-order, refused-total, last-told, gathered-small}
+use Rattle.soundness.proofs.OrdersTested.{refused-order, refused-total, last-told, gathered-small}
 use Rattle.soundness.proofs.orders.orders_are_sound.Statement.{statement}
 use Rattle.soundness.proofs.orders.orders_are_sound.Tie as tie
 

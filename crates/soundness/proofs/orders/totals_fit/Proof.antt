@@ -19,7 +19,13 @@ returns : tie.Need-returns Inv-loop μ-loop
 returns c =
     let rest = c .before in
     let s = rest .before .before .before in
-    tells-yes (λ p l. omega (arith, within-total _ _ (s .pre .2 p l), c .if1 .taken, rest .remaining-of .ensures, rest .before .filled-of .ensures))
+    tells-yes (λ p l. omega (
+      arith,
+      within-total _ _ (s .pre .2 p l),
+      c .if1 .taken,
+      rest .remaining-of .ensures,
+      rest .before .filled-of .ensures,
+    ))
 
 -- the records are there
 long : (c : tie.In-loop Inv-loop μ-loop) → let at = c .before in (length (at .before .records .result .now) ≡ 4096) × (at .loop .p < 256)
@@ -42,20 +48,9 @@ loop-again c =
 
 pub totals-fit-spec : {M : Type 1} → statement M
 totals-fit-spec =
-    tie.close
-    (tie.spec
-    Inv-loop
-    μ-loop
-    (λ c κs. tt)
-    (λ c κs. tt)
-    (λ c. omega (arith, c .remaining-of .ensures, c .before .filled-of .ensures, c .before .before .before .fits .details))
-    returns
-    (λ c κs. omega (arith, c .before .before .before .before .pre .0 .long))
-    (λ c κs. c .before .before .before .before .before .pre .1)
-    (λ c. asked-none _ _ _ _ (c .before .word .ensures) (c .records .ensures))
-    (λ c κs. omega (arith, long c))
-    returns-2
-    (λ c. omega (arith, long (c .before .before .before)))
-    (λ c. omega arith)
-    loop-again
+    tie.close (tie.spec Inv-loop μ-loop (λ c κs. tt) (λ c κs. tt)
+    (λ c. omega (arith, c .remaining-of .ensures, c .before .filled-of .ensures, c .before .before .before .fits .details)) returns
+    (λ c κs. omega (arith, c .before .before .before .before .pre .0 .long)) (λ c κs. c .before .before .before .before .before .pre .1)
+    (λ c. asked-none _ _ _ _ (c .before .word .ensures) (c .records .ensures)) (λ c κs. omega (arith, long c)) returns-2
+    (λ c. omega (arith, long (c .before .before .before))) (λ c. omega arith) loop-again
     (λ c. asked-all _ _ _ _ _ (c .before .loop .inv) (omega arith)))

@@ -16,14 +16,14 @@ abbrev μ-loop : tie.MeasureT-loop
 μ-loop s k n most j₀ j = n - j
 
 -- the answer is the test's
-said : (c : tie.After-between Inv-loop μ-loop)
+tested : (c : tie.After-between Inv-loop μ-loop)
     → let at = c .before .before .before in let a = at .before .before .args in
     c .between .result ≡ between 1 (a .most) (wordAt (a .s .now) (a .k + (at .loop .j + 1)))
-said c = c .between .ensures ∙ rw (c .before .word .ensures)
+tested c = c .between .ensures ∙ rw (c .before .word .ensures)
 
 pub all-between-spec : {M : Type 1} → statement M
 all-between-spec =
     tie.close (tie.spec Inv-loop μ-loop (λ c. so-far-none _ _) (λ c. omega arith) (λ c. omega arith) (λ c κs. omega arith)
-    (λ c κs. search needs) (λ c. every-no _ _ _ _ (omega arith) (said (c .before)) (c .if1 .taken)) (λ c. omega arith) (λ c. omega arith)
-    (λ c. so-far-on _ _ (c .before .before .before .before .loop .inv) (omega arith) (said (c .before)) (c .if1 .left))
+    (λ c κs. search needs) (λ c. every-no _ _ _ _ (omega arith) (tested (c .before)) (c .if1 .taken)) (λ c. omega arith) (λ c. omega arith)
+    (λ c. so-far-on _ _ (c .before .before .before .before .loop .inv) (omega arith) (tested (c .before)) (c .if1 .left))
     (λ c. so-far-all _ (c .before .loop .inv) (omega arith)))

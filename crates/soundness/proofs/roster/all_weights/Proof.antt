@@ -19,16 +19,16 @@ abbrev μ-loop : tie.MeasureT-loop
 μ-loop s k n j₀ j = n - j
 
 -- the answer is the test's
-said : (c : tie.After-is-weight Inv-loop μ-loop)
+tested : (c : tie.After-is-weight Inv-loop μ-loop)
     → let at = c .before .before .before in let a = at .before .before .args in
     c .is-weight .result ≡ leb (natAbs (signedAt (a .s .now) (a .k + (at .loop .j + 1)))) 1000000
-said c =
+tested c =
     c .is-weight .ensures
     ∙ rw (toZ-ofZ w64 (c .before .signed-word .result) (record { sfits = c .before .signed-word .ok }), c .before .signed-word .ensures)
 
 pub all-weights-spec : {M : Type 1} → statement M
 all-weights-spec =
     tie.close (tie.spec Inv-loop μ-loop (λ c. so-far-none _ _) (λ c. omega arith) (λ c. omega arith) (λ c κs. omega arith)
-    (λ c κs. search needs) (λ c. every-no _ _ _ _ (omega arith) (said (c .before)) (c .if1 .taken)) (λ c. omega arith) (λ c. omega arith)
-    (λ c. so-far-on _ _ (c .before .before .before .before .loop .inv) (omega arith) (said (c .before)) (c .if1 .left))
+    (λ c κs. search needs) (λ c. every-no _ _ _ _ (omega arith) (tested (c .before)) (c .if1 .taken)) (λ c. omega arith) (λ c. omega arith)
+    (λ c. so-far-on _ _ (c .before .before .before .before .loop .inv) (omega arith) (tested (c .before)) (c .if1 .left))
     (λ c. so-far-all _ (c .before .loop .inv) (omega arith)))

@@ -5,7 +5,7 @@ use borrow.Author.Needs.{needs}
 use Rattle.book.specs.Decoding.{between}
 use Rattle.layout.specs.Rosters.{sizesFit}
 use Rattle.layout.specs.View.{rosterOf}
-use Rattle.soundness.proofs.Asked.{said-no, said-yes}
+use Rattle.soundness.proofs.Asked.{answered-no, answered-yes}
 use Rattle.soundness.proofs.roster.sizes_fit.Statement.{statement}
 use Rattle.soundness.proofs.roster.sizes_fit.Tie as tie
 
@@ -13,31 +13,39 @@ use Rattle.soundness.proofs.roster.sizes_fit.Tie as tie
 first : (c : tie.After-between) → c .between .result ≡ between 1 16 (rosterOf (c .before .before .before .args .m .now) .accounts)
 first c = c .between .ensures ∙ ap (λ (n : ℕ). between 1 16 n) (c .before .accounts .ensures)
 
-second : (c : tie.After-between2) → c .between2 .result ≡ between 1 4 (rosterOf (c .before .before .before .before .before .before .args .m .now) .groups)
+second : (c : tie.After-between2) → c .between2 .result ≡ between 1 4
+    (rosterOf (c .before .before .before .before .before .before .args .m .now) .groups)
 second c = c .between2 .ensures ∙ ap (λ (n : ℕ). between 1 4 n) (c .before .groups .ensures)
 
-third : (c : tie.After-between3) → c .between3 .result ≡ between 1 8 (rosterOf (c .before .before .before .before .before .before .before .before .before .args .m .now) .contracts)
+third : (c : tie.After-between3) → c .between3 .result ≡ between 1 8
+    (rosterOf (c .before .before .before .before .before .before .before .before .before .args .m .now) .contracts)
 third c = c .between3 .ensures ∙ ap (λ (n : ℕ). between 1 8 n) (c .before .contracts .ensures)
 
-fourth : (c : tie.After-between4) → c .between4 .result ≡ between 1 32 (rosterOf (c .before .before .before .before .before .before .before .before .before .before .before .before .args .m .now) .instruments)
+fourth : (c : tie.After-between4) → c .between4 .result ≡ between 1 32
+    (rosterOf
+    (c .before .before .before .before .before .before .before .before .before .before .before .before .args .m .now) .instruments)
 fourth c = c .between4 .ensures ∙ ap (λ (n : ℕ). between 1 32 n) (c .before .instruments .ensures)
 
 returns : tie.Need-returns
 unfolding sizesFit
-returns c = rw (said-no _ _ (first (c .before)) (c .if1 .taken))
+returns c = rw (answered-no _ _ (first (c .before)) (c .if1 .taken))
 
 returns-2 : tie.Need-returns-2
 unfolding sizesFit
 returns-2 c =
     let one = c .before .before .before in
-    rw (said-yes _ _ (first (one .before)) (one .if1 .left), said-no _ _ (second (c .before)) (c .if2 .taken))
+    rw (answered-yes _ _ (first (one .before)) (one .if1 .left), answered-no _ _ (second (c .before)) (c .if2 .taken))
 
 returns-3 : tie.Need-returns-3
 unfolding sizesFit
 returns-3 c =
     let two = c .before .before .before in
     let one = two .before .before .before in
-    rw (said-yes _ _ (first (one .before)) (one .if1 .left), said-yes _ _ (second (two .before)) (two .if2 .left), said-no _ _ (third (c .before)) (c .if3 .taken))
+    rw (
+      answered-yes _ _ (first (one .before)) (one .if1 .left),
+      answered-yes _ _ (second (two .before)) (two .if2 .left),
+      answered-no _ _ (third (c .before)) (c .if3 .taken),
+    )
 
 returns-4 : tie.Need-returns-4
 unfolding sizesFit
@@ -46,21 +54,13 @@ returns-4 c =
     let two = three .before .before .before in
     let one = two .before .before .before in
     fourth c
-    ∙ rw (said-yes _ _ (first (one .before)) (one .if1 .left), said-yes _ _ (second (two .before)) (two .if2 .left), said-yes _ _ (third (three .before)) (three .if3 .left))
+    ∙ rw (
+      answered-yes _ _ (first (one .before)) (one .if1 .left),
+      answered-yes _ _ (second (two .before)) (two .if2 .left),
+      answered-yes _ _ (third (three .before)) (three .if3 .left),
+    )
 
 pub sizes-fit-spec : {M : Type 1} → statement M
 sizes-fit-spec =
-    tie.close
-    (tie.spec
-    (λ c κs. search needs)
-    (λ c κs. search needs)
-    returns
-    (λ c κs. search needs)
-    (λ c κs. search needs)
-    returns-2
-    (λ c κs. search needs)
-    (λ c κs. search needs)
-    returns-3
-    (λ c κs. search needs)
-    (λ c κs. search needs)
-    returns-4)
+    tie.close (tie.spec (λ c κs. search needs) (λ c κs. search needs) returns (λ c κs. search needs) (λ c κs. search needs) returns-2
+    (λ c κs. search needs) (λ c κs. search needs) returns-3 (λ c κs. search needs) (λ c κs. search needs) returns-4)

@@ -12,11 +12,4 @@ returns-2 c = c .less .ensures ∙ rw (c .before .enum-told2 .given .1)
 
 pub balance-after-spec : {M : Type 1} → statement M
 balance-after-spec =
-    tie.close
-    (tie.spec
-    (λ c. search needs)
-    (λ c κs. search needs)
-    (λ c. search needs)
-    (λ c κs. search needs)
-    returns
-    returns-2)
+    tie.close (tie.spec (λ c. search needs) (λ c κs. search needs) (λ c. search needs) (λ c κs. search needs) returns returns-2)

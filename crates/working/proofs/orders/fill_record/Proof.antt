@@ -15,31 +15,26 @@ replace-order-requires : tie.Need-replace-order-requires
 replace-order-requires c κs =
     let tested = c .before in
     let made = tested .before .before in
-    filled-storable (λ i. made .before .slice-known .given i .fits) (made .before .before .pre) (made .filled-by .ensures) (tested .before .remaining .ensures) (tested .if1 .left)
+    filled-storable (λ i. made .before .slice-known .given i .fits) (made .before .before .pre) (made .filled-by .ensures)
+    (tested .before .remaining .ensures) (tested .if1 .left)
 
 returns : tie.Need-returns
 returns c =
     let tested = c .before .before .before .before in
     let made = tested .before .before in
     c .before .before .remove-order .ensures
-    ∙ filled-leaves (λ i. made .before .slice-known .given i .fits) (made .before .before .pre) (made .filled-by .ensures) (tested .before .remaining .ensures) (tested .if1 .taken)
+    ∙ filled-leaves (λ i. made .before .slice-known .given i .fits) (made .before .before .pre) (made .filled-by .ensures)
+    (tested .before .remaining .ensures) (tested .if1 .taken)
 
 returns-2 : tie.Need-returns-2
 returns-2 c =
     let tested = c .before .before .before .before in
     let made = tested .before .before in
     c .before .before .replace-order .ensures
-    ∙ filled-stays (λ i. made .before .slice-known .given i .fits) (made .before .before .pre) (made .filled-by .ensures) (tested .before .remaining .ensures) (tested .if1 .left)
+    ∙ filled-stays (λ i. made .before .slice-known .given i .fits) (made .before .before .pre) (made .filled-by .ensures)
+    (tested .before .remaining .ensures) (tested .if1 .left)
 
 pub fill-record-spec : {M : Type 1} → statement M
 fill-record-spec =
-    tie.close
-    (tie.spec
-    (λ c κs. search needs)
-    (λ c κs. search needs)
-    remove-order-requires
-    replace-order-requires
-    (λ c. search needs)
-    returns
-    (λ c. search needs)
-    returns-2)
+    tie.close (tie.spec (λ c κs. search needs) (λ c κs. search needs) remove-order-requires replace-order-requires (λ c. search needs)
+    returns (λ c. search needs) returns-2)

@@ -1,6 +1,6 @@
 -- The order at the place is the one that the id names, so removing that record is the book's `change` to no order (`cancelled`).
 use borrow.Author.Needs.{needs}
-use Rattle.working.proofs.Told.{records}
+use Rattle.working.proofs.AcceptedFacts.{records}
 use Rattle.working.proofs.Changing.{at-place, cancelled}
 use Rattle.working.proofs.orders.work_cancel.Statement.{statement}
 use Rattle.working.proofs.orders.work_cancel.Tie as tie

@@ -2,7 +2,7 @@
 use native.Mathlib.Omega.{arith}
 use borrow.Author.Needs.{needs}
 use Rattle.ledger.specs.declared.order.Side.the-variants.{Buy, Sell}
-use Rattle.working.proofs.Told.{records}
+use Rattle.working.proofs.AcceptedFacts.{records}
 use Rattle.working.proofs.Changing.{loadable}
 use Rattle.working.proofs.Filling.{fill-cast, fill-room, fill-stands, fill-small, fill-worked, fill-moved}
 use Rattle.working.proofs.orders.work_fill.Statement.{statement}

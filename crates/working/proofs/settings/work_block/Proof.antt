@@ -35,17 +35,5 @@ returns-3 c =
 
 pub work-block-spec : {M : Type 1} → statement M
 work-block-spec =
-    tie.close
-    (tie.spec
-    (λ c. search needs)
-    block-account-requires
-    (λ c. search needs)
-    block-instrument-requires
-    (λ c. search needs)
-    block-group-requires
-    (λ c. search needs)
-    returns
-    (λ c. search needs)
-    returns-2
-    (λ c. search needs)
-    returns-3)
+    tie.close (tie.spec (λ c. search needs) block-account-requires (λ c. search needs) block-instrument-requires (λ c. search needs)
+    block-group-requires (λ c. search needs) returns (λ c. search needs) returns-2 (λ c. search needs) returns-3)

@@ -2,7 +2,7 @@
 use mathlib.Core.Path.{_∙_}
 use native.Mathlib.Omega.{arith}
 use borrow.Author.Needs.{needs}
-use Rattle.working.proofs.Told.{told}
+use Rattle.working.proofs.AcceptedFacts.{accepted-facts}
 use Rattle.working.proofs.Rooms.{room}
 use Rattle.working.proofs.LineFigures.{ready-line, worked-line, group-handed}
 use Rattle.working.proofs.settings.work_limit.Statement.{statement}
@@ -16,7 +16,7 @@ own-line-requires c κs =
 work-line-requires : tie.Need-work-line-requires
 work-line-requires c κs =
     let ready = ready-line (c .before .before .before .line .given .1) (c .before .before .before .before .before .before .pre) in
-    (omega (arith, room ready), omega (arith, room ready), told _ (ready .held) _ (ready .accepted) .2)
+    (omega (arith, room ready), omega (arith, room ready), accepted-facts _ (ready .held) _ (ready .accepted) .2)
 
 default-line-requires : tie.Need-default-line-requires
 default-line-requires c κs =
@@ -26,7 +26,7 @@ default-line-requires c κs =
 work-line-requires-2 : tie.Need-work-line-requires-2
 work-line-requires-2 c κs =
     let ready = ready-line (c .before .before .before .line2 .given .1) (c .before .before .before .before .before .before .pre) in
-    (omega (arith, room ready), omega (arith, room ready), told _ (ready .held) _ (ready .accepted) .2)
+    (omega (arith, room ready), omega (arith, room ready), accepted-facts _ (ready .held) _ (ready .accepted) .2)
 
 work-of-group-requires : tie.Need-work-of-group-requires
 work-of-group-requires c κs =
@@ -48,9 +48,10 @@ returns-2 c =
 
 returns-3 : tie.Need-returns-3
 returns-3 c =
-    let told = c .before .before .before .before in
-    let f = told .known-told3 .given in
-    worked-line _ _ (group-handed (told .before .line3 .given .1) (record { sfits = f .1 .0 .1 }) (record { sfits = f .1 .1 .0 .1 }))
+    let accepted-facts = c .before .before .before .before in
+    let f = accepted-facts .known-told3 .given in
+    worked-line _ _ (group-handed (accepted-facts .before .line3 .given .1) (record { sfits = f .1 .0 .1 })
+    (record { sfits = f .1 .1 .0 .1 }))
     (c .before .before .work-of-group .ensures)
 
 pub work-limit-spec : {M : Type 1} → statement M

@@ -35,18 +35,10 @@ returns-2 c =
     let tested = c .before .before .before .before in
     let start = tested .before .before .before in
     c .before .before .set-of-group .ensures
-    ∙ ap (storeOfGroup _ _ _) (group-set (start .pre) (start .fits .lcc) (tested .before .is-minus-one .ensures) (tested .if1 .left) (start .fits .lvc))
+    ∙ ap (storeOfGroup _ _ _) (group-set (start .pre) (start .fits .lcc) (tested .before .is-minus-one .ensures) (tested .if1 .left)
+    (start .fits .lvc))
 
 pub work-of-group-spec : {M : Type 1} → statement M
 work-of-group-spec =
-    tie.close
-    (tie.spec
-    (λ c κs. search needs)
-    unset-of-group-requires
-    cast-set-of-group
-    cast-set-of-group-2
-    set-of-group-requires
-    (λ c. search needs)
-    returns
-    (λ c. search needs)
-    returns-2)
+    tie.close (tie.spec (λ c κs. search needs) unset-of-group-requires cast-set-of-group cast-set-of-group-2 set-of-group-requires
+    (λ c. search needs) returns (λ c. search needs) returns-2)

@@ -1,0 +1,25 @@
+-- Figures handed on: what a test said of one or of two, and that a quantity is a whole number.
+use mathlib.Core.Path.{_≡_, _∙_, ap}
+use mathlib.Core.Bool.{Bool, true}
+use lib.Dec.{T}
+use lib.IntN.{ℤ, pos, natAbs}
+use lib.Signed.{nonNeg}
+use mir.Syntax.{w64}
+use mir.Val.{Fits, SFits, toZ, ofZ}
+use mir.ValLaws.{toZ-ofZ}
+use Rattle.integers.specs.Parts.{signed, magnitude-parts}
+use Rattle.book.specs.Table.{isQuantity}
+use Rattle.book.proofs.Tables.{betweenℤ-both}
+
+pub test-handed-on : (test : ℤ → Bool) {t : Bool} {z : ℤ} → SFits w64 z → t ≡ test (toZ w64 (ofZ w64 z)) → t ≡ test z
+test-handed-on test {z = z} f e = e ∙ ap test (toZ-ofZ w64 z f)
+
+pub tests-handed-on : (test : ℤ → ℤ → Bool) {t : Bool} (x y : ℤ) → SFits w64 x → SFits w64 y
+    → t ≡ test (toZ w64 (ofZ w64 x)) (toZ w64 (ofZ w64 y)) → t ≡ test x y
+tests-handed-on test x y f g e = test-handed-on (λ z. test z y) f (test-handed-on (test (toZ w64 (ofZ w64 x))) g e)
+
+-- it is not negative, and fits
+pub quantity-cast : (n : ℤ) → SFits w64 n → isQuantity n ≡ true → T (nonNeg (toZ w64 (ofZ w64 n))) × Fits w64 (natAbs (toZ w64 (ofZ w64 n)))
+quantity-cast n f e =
+    let h = betweenℤ-both (pos 1) (pos 1000000) n e in
+    rw (toZ-ofZ w64 n f) (omega signed, omega (signed, magnitude-parts n))

@@ -1,0 +1,45 @@
+-- The questions that are left of a NEW and of a REPLACE, once those before them are answered yes.
+use Prim.Native.Nat.{ℕ, _≤_}
+use mathlib.Core.Path.{_≡_}
+use mathlib.Core.Bool.{not, cond}
+use mathlib.Core.List.{List, [], _∷_, _++_}
+use mathlib.Core.Option.{some}
+use lib.Dec.{ltb}
+use lib.ListN.{length}
+use Rattle.ledger.specs.declared.order.Order.{Order}
+use Rattle.ledger.specs.Orders.{replacedTotal}
+use Rattle.limits.specs.Lines.{isSet}
+use Rattle.limits.specs.Questions.{Question}
+use Rattle.book.specs.OpenOrders.{find, insert, change}
+use Rattle.book.specs.Table.{q}
+use Rattle.layout.specs.View.{openOrders}
+use Rattle.soundness.specs.SoundMemory.{SoundMemory}
+use Rattle.order_checks.specs.Questions.{admission, withinLimits, OnRoster}
+
+-- ---- of a NEW of order o: 18 to 24, and 13 to 24
+unfoldable pub newFrom18 : List ℕ → Order → List Question
+newFrom18 m o = q 18 (ltb (length (openOrders m)) 256) ∷ withinLimits m (insert o (openOrders m)) o
+
+unfoldable pub newFrom13 : List ℕ → Order → List Question
+newFrom13 m o = q 13 (not (isSet (find (o .id) (openOrders m)))) ∷ (admission m o ++ newFrom18 m o)
+
+-- its order: nothing of it is filled
+pub record Fresh (m : List ℕ) (o : Order) : Type 0 where
+  pub on : OnRoster m o
+  pub small : o .total ≤ 1000000
+  pub unfilled : o .filled ≡ 0
+
+-- ---- of a REPLACE of order o to a new total: 14 to 24 where it rises, and 12 to 24
+unfoldable pub raisedFrom14 : List ℕ → Order → ℕ → List Question
+raisedFrom14 m o total =
+    admission m (replacedTotal o total)
+    ++ withinLimits m (change (o .id) (λ x. replacedTotal x total ∷ []) (openOrders m)) (replacedTotal o total)
+
+unfoldable pub replaceFrom12 : List ℕ → Order → ℕ → List Question
+replaceFrom12 m o total = q 12 (ltb (o .filled) total) ∷ cond (ltb (o .total) total) (raisedFrom14 m o total) []
+
+-- its order is open, at a sound desk
+pub record Replaceable (m : List ℕ) (o : Order) (total : ℕ) : Type 0 where
+  pub held : SoundMemory m
+  pub found : find (o .id) (openOrders m) ≡ some o
+  pub small : total ≤ 1000000

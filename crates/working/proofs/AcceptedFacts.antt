@@ -1,0 +1,176 @@
+-- What an acceptance tells of the event, kind by kind: its numbers are on the roster, its figures in range, its order open.
+use Prim.Native.Nat.{ℕ, _≤_, _<_}
+use mathlib.Core.Path.{_≡_}
+use mathlib.Core.Bool.{true}
+use mathlib.Core.List.{List}
+use mathlib.Core.Option.{some}
+use native.Mathlib.Omega.{arith}
+use lib.Dec.{leb, ltb}
+use lib.IntN.{ℤ, pos, negℤ, natAbs}
+use lib.ListN.{length}
+use lib.Signed.{_≤ℤ_}
+use borrow.Author.Tests.{leb-true, ltb-true}
+use Rattle.integers.specs.Parts.{signed}
+use Rattle.integers.specs.Magnitude.{within-in}
+use Rattle.words.specs.Words.{wordAt}
+use Rattle.ledger.specs.declared.order.Order.{Order}
+use Rattle.ledger.specs.Orders.{remaining}
+use Rattle.ledger.specs.Roster.{Roster, Numbered}
+use Rattle.ledger.specs.Records.{Storable}
+use Rattle.limits.specs.Lines.{isSet}
+use Rattle.book.specs.declared.LimitLine.{LimitLine}
+use Rattle.book.specs.declared.LimitLine.the-variants.{Own, Default, OfGroup}
+use Rattle.book.specs.declared.Blocked.{Blocked}
+use Rattle.book.specs.declared.Blocked.the-variants.{Account, Instrument, GroupFor}
+use Rattle.book.specs.declared.Event.{Event}
+use Rattle.book.specs.declared.Event.the-variants.{Limit, Balance, Block, New, Replace, Cancel, Fill, Junk}
+use Rattle.book.specs.Market.{derivatives}
+use Rattle.book.specs.OpenOrders.{find}
+use Rattle.book.specs.Sound.{OrderFits, Sound}
+use Rattle.book.specs.Table.{accountKnown, itemKnown, lineKnown, blockAccountKnown, blockItemKnown, isQuantity, lineFits, figuresFit}
+use Rattle.book.specs.Table.{idOpen, quantityFits, placeFree}
+use Rattle.book.proofs.Accepted.{Passed, accepted}
+use Rattle.book.proofs.Cuts.{standing, standing-member}
+use Rattle.book.proofs.Tables.{between-numbered, betweenℤ-both, quantity-numbered}
+use Rattle.book.proofs.Within.{found-order, test-found}
+use Rattle.layout.specs.Layout.{countWord}
+use Rattle.layout.specs.View.{rosterOf, openOrders, bookOf, tradingOf, view}
+use Rattle.layout.specs.Stores.{Records}
+use Rattle.layout.specs.Judged.{judged}
+use Rattle.layout.proofs.SameFields as layout
+use Rattle.soundness.specs.SoundMemory.{SoundMemory}
+use Rattle.soundness.proofs.SoundDesk.{sound-count, sound-records, open-count}
+
+-- the item of a line is on the roster
+abbrev pub LineOnRoster : Roster → LimitLine → Type 0
+LineOnRoster r (Own i f) = Numbered (r .instruments) i
+LineOnRoster r (Default c f) = Numbered (r .contracts) c
+LineOnRoster r (OfGroup g x y) = Numbered (r .groups) g
+
+abbrev pub BlockOnRoster : Roster → Blocked → Type 0
+BlockOnRoster r (Account a) = Numbered (r .accounts) a
+BlockOnRoster r (Instrument i) = Numbered (r .instruments) i
+BlockOnRoster r (GroupFor a g) = Numbered (r .accounts) a × Numbered (r .groups) g
+
+-- the order with an id is open, and in range
+pub record Found (m : List ℕ) (id : ℕ) : Type 0 where
+  pub order : Order
+  pub found : find id (openOrders m) ≡ some order
+  pub fits : OrderFits (rosterOf m) order
+
+abbrev pub Quantity : ℤ → Type 0
+Quantity n = (pos 0 ≤ℤ n) × Numbered 1000000 (natAbs n)
+
+abbrev pub AcceptedFacts : List ℕ → Event → Type 0
+AcceptedFacts m (Limit a l) =
+    Numbered (rosterOf m .accounts) a × LineOnRoster (rosterOf m) l × (lineFits derivatives l ≡ true)
+AcceptedFacts m (Balance a i z) =
+    Numbered (rosterOf m .accounts) a × Numbered (rosterOf m .instruments) i × (natAbs z ≤ 1000000000)
+AcceptedFacts m (Block what z) = BlockOnRoster (rosterOf m) what
+AcceptedFacts m (New s a i id n) =
+    Numbered (rosterOf m .accounts) a × Numbered (rosterOf m .instruments) i × Quantity n × (wordAt m countWord < 256)
+AcceptedFacts m (Replace id n) = (f : Found m id) × Quantity n × (f .order .filled < natAbs n)
+AcceptedFacts m (Cancel id) = Found m id
+AcceptedFacts m (Fill id n) = (f : Found m id) × Quantity n × (natAbs n ≤ remaining (f .order))
+AcceptedFacts m Junk = Unit
+
+-- ---- a sound desk
+module _ (m : List ℕ) (held : SoundMemory m) where
+  pub sound : Sound derivatives (rosterOf m) (bookOf m) (tradingOf m)
+  unfolding view
+  sound = held .book
+
+  pub laid : layout.InBounds m
+  laid =
+      let f = held .book .roster in
+      record {
+        long = held .long;
+        sized = record { accounts = f .accounts .1; groups = f .groups .1; contracts = f .contracts .1; instruments = f .instruments .1 };
+        count = sound-count m held;
+        first = held .first;
+      }
+
+  -- its records can be worked on
+  pub records : Records m
+  records = sound-records m held
+
+  -- a record can hold an order in range
+  pub storable : (o : Order) → OrderFits (rosterOf m) o → Storable o
+  unfolding remaining
+  storable o fits =
+      let sized = laid .sized in
+      record {
+        packable = ((fits .account .0, omega arith), (fits .instrument .0, omega arith));
+        part = omega arith;
+        filled = omega arith;
+        remaining = omega arith;
+      }
+
+pub passed : (m : List ℕ) (e : Event) → judged m e ≡ 0 → Passed derivatives (rosterOf m) (bookOf m) (tradingOf m) e
+unfolding judged
+passed m e passes = accepted derivatives (rosterOf m) (bookOf m) (tradingOf m) e passes .passed
+
+-- ---- an accepted event
+line-told : (r : Roster) (l : LimitLine) → lineKnown r l ≡ true → LineOnRoster r l
+line-told r (Own i f) h = between-numbered (r .instruments) i h
+line-told r (Default c f) h = between-numbered (r .contracts) c h
+line-told r (OfGroup g x y) h = between-numbered (r .groups) g h
+
+block-told : (r : Roster) (what : Blocked) → blockAccountKnown r what ≡ true → blockItemKnown r what ≡ true → BlockOnRoster r what
+block-told r (Account a) h k = between-numbered (r .accounts) a h
+block-told r (Instrument i) h k = between-numbered (r .instruments) i k
+block-told r (GroupFor a g) h k = (between-numbered (r .accounts) a h, between-numbered (r .groups) g k)
+
+quantity : (n : ℤ) → isQuantity n ≡ true → Quantity n
+quantity n e =
+    let h = betweenℤ-both (pos 1) (pos 1000000) n e in
+    (omega signed, quantity-numbered n e)
+
+module _ (m : List ℕ) (held : SoundMemory m) where
+  found-open : (id : ℕ) → isSet (find id (openOrders m)) ≡ true → Found m id
+  unfolding bookOf
+  found-open id e =
+      let f = found-order id (bookOf m) e in
+      record { order = f .0; found = f .1; fits = sound m held .fits (f .0) (standing-member (standing id (openOrders m) (f .0) (f .1))) }
+
+  pub accepted-facts : (e : Event) → judged m e ≡ 0 → AcceptedFacts m e
+  unfolding accountKnown itemKnown figuresFit idOpen quantityFits placeFree bookOf derivatives
+  accepted-facts (Limit a l) passes =
+      let ok = passed m (Limit a l) passes in
+      (between-numbered (rosterOf m .accounts) a (ok .account), line-told (rosterOf m) l (ok .item), ok .figures)
+  accepted-facts (Balance a i z) passes =
+      let ok = passed m (Balance a i z) passes in
+      let z-in = betweenℤ-both (negℤ (pos 1000000000)) (pos 1000000000) z (ok .figures) in (
+        between-numbered (rosterOf m .accounts) a (ok .account),
+        between-numbered (rosterOf m .instruments) i (ok .item),
+        within-in z 1000000000 (z-in .0) (z-in .1),
+      )
+  accepted-facts (Block what z) passes =
+      let ok = passed m (Block what z) passes in
+      block-told (rosterOf m) what (ok .account) (ok .item)
+  accepted-facts (New s a i id n) passes =
+      let ok = passed m (New s a i id n) passes in
+      let few = ltb-true (length (openOrders m)) 256 (ok .room) in (
+        between-numbered (rosterOf m .accounts) a (ok .account),
+        between-numbered (rosterOf m .instruments) i (ok .item),
+        quantity n (ok .figures),
+        omega (arith, open-count m),
+      )
+  accepted-facts (Replace id n) passes =
+      let ok = passed m (Replace id n) passes in
+      let f = found-open id (ok .found) in (
+        f,
+        quantity n (ok .figures),
+        ltb-true (f .order .filled) (natAbs n)
+            (test-found (λ o. ltb (o .filled) (natAbs n)) (find id (openOrders m)) (f .order) (f .found) (ok .quantity)),
+      )
+  accepted-facts (Cancel id) passes = found-open id (passed m (Cancel id) passes .found)
+  accepted-facts (Fill id n) passes =
+      let ok = passed m (Fill id n) passes in
+      let f = found-open id (ok .found) in (
+        f,
+        quantity n (ok .figures),
+        leb-true (natAbs n) (remaining (f .order))
+            (test-found (λ o. leb (natAbs n) (remaining o)) (find id (openOrders m)) (f .order) (f .found) (ok .quantity)),
+      )
+  accepted-facts Junk passes = tt
