@@ -1,7 +1,7 @@
 -- The claim: the user's three demands in the order of their words, each with its whole type. m is a memory, s the bytes of a roster and e
 -- those of an event: any lists of numbers, of any length. The contracts of the exported functions (include/exported.txt) say that the code
--- computes the functions named here: openingAnswer and afterOpening (desk_open), answerTo and after (desk_event), instrumentAnswer,
--- groupAnswer, their reports and `reported` (the readers), and answerTo and after along a list of events (desk_run).
+-- computes the functions named here: openingAnswer and afterOpening (desk_open), answerTo and afterEvent (desk_event), instrumentAnswer,
+-- groupAnswer, their reports and `reported` (the readers), and answerTo and afterEvent along a list of events (desk_run).
 use Prim.Native.Nat.{ℕ, _≤_, _<_}
 use mathlib.Core.Path.{_≡_}
 use mathlib.Core.Logic.{_⊎_, _↔_, _≢_}

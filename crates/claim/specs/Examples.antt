@@ -104,5 +104,6 @@ pub record LimitSetAgain (m s : List ℕ) (events : List (List ℕ)) (n : List �
   pub set-again : NoneSetsAgain m s (events ++ (n ∷ [])) later (o .account) p → ⊥
   pub past :
       (f : Filling (stateAt m s (events ++ (n ∷ later)) .book .orders))
-      × (figure <ℤ position (rosterFrom s) (balanceAfter one (o .account) (stateAt m s (events ++ (n ∷ later)) .book .balanceOf (o .account))
+      × (figure <ℤ position (rosterFrom s) (balanceAfter one (o .account)
+      (stateAt m s (events ++ (n ∷ later)) .book .balanceOf (o .account))
       f) p w)

@@ -77,27 +77,27 @@ pub fn block_group(m: &mut [u8], a: usize, g: usize, on: bool)
     set_bit(m, GROUP_BLOCKS + a * 4 + g, on);
 }
 
-// Where a line stands: the word that says whether it is set, and the first of the two words of its figures.
-pub struct LinePlace(pub usize, pub usize);
+// The words of a line: the one that says whether it is set, and the first of the two words of its figures.
+pub struct LineWords(pub usize, pub usize);
 
-// The place of an instrument's own line.
-pub fn own_line(a: usize, i: usize) -> LinePlace
+// Those of an instrument's own line.
+pub fn own_line(a: usize, i: usize) -> LineWords
     requires { ⌜ (a ≤ 16) × (i ≤ 32) ⌝ }
     ensures { λ r. ⌜ (r .0 ≡ ownSetRow a + i) × (r .1 ≡ ownRow a + i * 2) ⌝ }
 {
-    LinePlace(OWN_SET + a * 32 + i, OWN_LINES + a * 84 + i * 2)
+    LineWords(OWN_SET + a * 32 + i, OWN_LINES + a * 84 + i * 2)
 }
 
-// The place of a contract's default line.
-pub fn default_line(a: usize, c: usize) -> LinePlace
+// Those of a contract's default line.
+pub fn default_line(a: usize, c: usize) -> LineWords
     requires { ⌜ (a ≤ 16) × (c ≤ 8) ⌝ }
     ensures { λ r. ⌜ (r .0 ≡ defaultSetRow a + c) × (r .1 ≡ defaultRow a + c * 2) ⌝ }
 {
-    LinePlace(DEFAULT_SET + a * 8 + c, DEFAULT_LINES + a * 84 + c * 2)
+    LineWords(DEFAULT_SET + a * 8 + c, DEFAULT_LINES + a * 84 + c * 2)
 }
 
-// Sets the line at a place.
-pub fn set_line(m: &mut [u8], at: LinePlace, tci: u32, tvi: u32, lci: u32, lvi: u32)
+// Sets a line.
+pub fn set_line(m: &mut [u8], at: LineWords, tci: u32, tvi: u32, lci: u32, lvi: u32)
     requires { ⌜ (at .0 * 8 + 8 ≤ length (now m)) × (at .1 * 8 + 16 ≤ length (now m)) ⌝ }
     ensures { λ r. ⌜ now (m .exit) ≡ storeLine (now (m .entry)) (at .0) (at .1) (some (lineWith tci tvi lci lvi)) ⌝ }
 {
@@ -107,8 +107,8 @@ pub fn set_line(m: &mut [u8], at: LinePlace, tci: u32, tvi: u32, lci: u32, lvi: 
     set_word(m, at.0, 1);
 }
 
-// The line at a place is set no more.
-pub fn unset_line(m: &mut [u8], at: LinePlace)
+// A line is set no more.
+pub fn unset_line(m: &mut [u8], at: LineWords)
     requires { ⌜ at .0 * 8 + 8 ≤ length (now m) ⌝ }
     ensures { λ r. ⌜ now (m .exit) ≡ storeLine (now (m .entry)) (at .0) (at .1) none ⌝ }
 {

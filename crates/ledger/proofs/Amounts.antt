@@ -82,7 +82,7 @@ pub amount-alike : {unit : Order → ℕ} {o o′ : Order} → Alike unit o o′
 unfolding amount standsIn
 amount-alike e s a i n = rw (e .same-unit, e .same-account, e .same-instrument, e .same-side)
 
--- ---- a fill moves the balance of the place where the order stands
+-- ---- a fill moves the balance of the account and instrument where the order stands
 module _ (unit : Order → ℕ) (a i : ℕ) (o : Order) (n : ℕ) where
   pub fill-here : o .account ≡ a → o .instrument ≡ i → fillMoves unit a i o n ≡ toward (wayOf (o .side)) (pos (unit o * n))
   unfolding fillMoves

@@ -75,7 +75,7 @@ pub left : (unit : Order → ℕ) (o : Order) (orders orders′ : List Order) �
     → CountChanged unit o (remaining o) 0 orders orders′
 left unit o orders orders′ joined = shifted-back (entered unit o orders′ orders joined)
 
--- ---- what a shift does, at any account, place and side
+-- ---- what a shift does, at any account, scope and side
 module _ {unit : Order → ℕ} {o : Order} {m m′ : ℕ} {orders orders′ : List Order} (shift : CountChanged unit o m m′ orders orders′) (a : ℕ)
     (S : ℕ → ℤ) where
   pub shift-instrument : (i : ℕ) (v : Way) → ofInstrument unit orders′ a S i v +ℤ amount unit (sideTo v) a i o m

@@ -24,7 +24,7 @@ moves? r o (group g) w =
     (Dec·and (ℕ-discrete (groupOfInstrument r (o .instrument)) g)
     (Dec·and (Dec·not (ℤ-discrete K (pos 0))) (Way-discrete (wayBy K (wayOf (o .side))) w)))
 
--- ---- `Moves` by the way on which the order's instrument moves the place
+-- ---- `Moves` by the way on which the order's instrument moves the scope
 module _ (r : Roster) (o : Order) (w : Way) where
   pub moves-bears : (p : Scope) → Numbered (r .instruments) (o .instrument) → Moves r o p w → Bears r p (o .instrument)
   moves-bears (instrument j) b m = m .0
@@ -40,14 +40,14 @@ module _ (r : Roster) (o : Order) (w : Way) where
       (rw e (b .0 .1), rw e (b .1), cc (weight-way (r .weight i) w))
 
   module _ (p : Scope) (unit : Order → ℕ) (a n i : ℕ) where
-    -- where it moves a place it counts on no instrument the other way
+    -- where it moves a scope it counts on no instrument the other way
     pub moves-against : Moves r o p w → amount unit (sideTo (opposite (wayTo r p w i))) a i o n ≡ pos 0
     moves-against m =
         amount-apart unit (sideTo (opposite (wayTo r p w i))) a i o n
         (λ h. opposite-apart (wayTo r p w i) (sym (ap wayOf (h .0) ∙ side-there (opposite (wayTo r p w i)))
         ∙ (rw (h .2) at (moves-way p m))))
 
-    -- and where it does not, it counts on no instrument of the place that way
+    -- and where it does not, it counts on no instrument of the scope that way
     pub unmoved-amount : ¬ Moves r o p w → Bears r p i → amount unit (sideTo (wayTo r p w i)) a i o n ≡ pos 0
     unmoved-amount out b =
         amount-apart unit (sideTo (wayTo r p w i)) a i o n

@@ -1,5 +1,5 @@
 -- Every potential position is reached by a filling: the one that fills wholly the orders that move their instrument the
--- way that the place wants, and no other. So a potential position is past a bound exactly where some filling is.
+-- way that the scope wants, and no other. So a potential position is past a bound exactly where some filling is.
 use Prim.Native.Nat.{ℕ, _≤_}
 use mathlib.Core.Path.{_≡_, refl, sym, ap, _∙_}
 use mathlib.Core.Logic.{_↔_, _≢_, by-cases}

@@ -1,6 +1,6 @@
--- The figure that a place makes of an amount for each instrument: an instrument's own amount, or the sum over a group of
+-- What a scope makes of an amount for each instrument: an instrument's own amount, or the sum over a group of
 -- |K| times the amounts. Potential positions and positions are both such figures, of amounts taken on the way in which
--- each instrument moves the place. So every law of places and ways is a law of `weightedAt`, stated once.
+-- each instrument moves the scope. So every law of scopes and ways is a law of `weightedAt`, stated once.
 use Prim.Native.Nat.{ℕ, suc}
 use mathlib.Core.Path.{_≡_, refl, sym, ap, _∙_}
 use mathlib.Core.Logic.{_≢_, by-cases}
@@ -38,12 +38,12 @@ weight-way (negsuc k) long = refl
 weight-way (negsuc k) short = refl
 
 -- ---- places
--- the way on which instrument i moves place p on side w
+-- the way on which instrument i moves scope p on side w
 abbrev pub wayTo : Roster → Scope → Way → ℕ → Way
 wayTo r (instrument j) w i = w
 wayTo r (group g) w i = wayBy (r .weight i) w
 
--- instrument i counts at place p
+-- instrument i counts at scope p
 abbrev pub Bears : Roster → Scope → ℕ → Type 0
 Bears r (instrument j) i = i ≡ j
 Bears r (group g) i = Of r g i × (r .weight i ≢ pos 0)
@@ -90,7 +90,7 @@ weighted-same r f h p same =
     let y = weighted-mono r h f p (λ i b. let e = same i b in omega signed) in
     omega signed
 
--- ---- potential positions follow those of the instruments that bear on the place, on the ways that count
+-- ---- potential positions follow those of the instruments that bear on the scope, on the ways that count
 module _ (unit : Order → ℕ) (r : Roster) (a : ℕ) (orders orders′ : List Order) (S S′ : ℕ → ℤ) where
   pub potential-≤ : (p : Scope) (w : Way) → ((i : ℕ) → Bears r p i
       → ofInstrument unit orders a S i (wayTo r p w i) ≤ℤ ofInstrument unit orders′ a S′ i (wayTo r p w i))

@@ -1,4 +1,4 @@
--- No filling passes a potential position, at any place and on any side.
+-- No filling passes a potential position, of any instrument or group and on any side.
 use Prim.Native.Nat.{ℕ}
 use mathlib.Core.List.{List, [], _∷_}
 use native.Mathlib.Omega.{arith}

@@ -17,7 +17,7 @@ pub data Way : Type 0 where
   long : Way
   short : Way
 
--- where a position stands: an instrument, counted in contracts, or a group, in weighted ten-thousandths
+-- what a position is of: an instrument, counted in contracts, or a group, in weighted ten-thousandths
 pub data Scope : Type 0 where
   instrument : ℕ → Scope
   group : ℕ → Scope
@@ -75,13 +75,13 @@ unfoldable pub sumGroup : Roster → ℕ → (ℕ → ℤ) → ℤ
 sumGroup r g f =
     sumTo (λ j. cond (eqb (groupOfInstrument r (suc j)) g) (f (suc j)) (pos 0)) (r .instruments)
 
--- the potential position of a place on a side: PCI, PVI, PCC, PVC
+-- the potential position of a scope on a side: PCI, PVI, PCC, PVC
 unfoldable pub potential : (Order → ℕ) → Roster → List Order → ℕ → (ℕ → ℤ) → Scope → Way → ℤ
 potential unit r orders a S (instrument i) w = ofInstrument unit orders a S i w
 potential unit r orders a S (group g) w =
     sumGroup r g (λ i. groupPart w (r .weight i) (ofInstrument unit orders a S i))
 
--- the position of a place on a side with the balances as they stand: a balance, or the sum of K times the balances
+-- the position of a scope on a side with the balances as they stand: a balance, or the sum of K times the balances
 unfoldable pub position : Roster → (ℕ → ℤ) → Scope → Way → ℤ
 position r S (instrument i) w = toward w (S i)
 position r S (group g) w = toward w (sumGroup r g (λ i. r .weight i *ℤ S i))

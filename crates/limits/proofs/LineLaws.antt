@@ -19,7 +19,7 @@ module _ (r : Roster) (ls : Lines) where
   unfolding lineInForce
   default-in-force i e = rw e
 
-  -- the limit that a line sets, in the place's unit
+  -- the limit that a line sets, in the scope's unit
   pub limit-of-instrument : (i : ℕ) (w : Way) (l : Line) → lineInForce r ls i ≡ some l
       → limit r ls (instrument i) w ≡ pos (largestPosition w l)
   unfolding limit

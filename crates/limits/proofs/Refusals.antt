@@ -60,12 +60,12 @@ module _ (unit : Order → ℕ) (r : Roster) (ls : Lines) (orders : List Order) 
       (p : Scope) × (w : Way) × Moves r o p w × ((f : Filling orders)
       × (limit r ls p w <ℤ position r (balanceAfter unit (o .account) S f) p w))
 
-  -- the test of one question, of a place that the order moves where `moves`
+  -- the test of one question, of a scope that the order moves where `moves`
   abbrev passes : Bool → Scope → Way → Bool
   passes moves p w = not moves || within unit r ls orders S o p w
 
-  abbrev ownPlace : Scope
-  ownPlace = instrument (o .instrument)
+  abbrev ownScope : Scope
+  ownScope = instrument (o .instrument)
 
   abbrev ownGroup : Scope
   ownGroup = group (groupOfInstrument r (o .instrument))
@@ -85,7 +85,7 @@ module _ (unit : Order → ℕ) (r : Roster) (ls : Lines) (orders : List Order) 
 
   -- the tests of the four questions
   abbrev instrumentPasses : Way → Bool
-  instrumentPasses w = passes (movesInstrument o w) ownPlace w
+  instrumentPasses w = passes (movesInstrument o w) ownScope w
 
   abbrev groupPasses : Way → Bool
   groupPasses w = passes (movesGroup r o w) ownGroup w
@@ -99,7 +99,7 @@ module _ (unit : Order → ℕ) (r : Roster) (ls : Lines) (orders : List Order) 
   all-within : ((w : Way) → instrumentPasses w ≡ true) → ((w : Way) → groupPasses w ≡ true) → (p : Scope) (w : Way) → Moves r o p w
       → potential unit r orders (o .account) S p w ≤ℤ limit r ls p w
   all-within yi yg (instrument i) w m =
-      rw (← m .0) (within-le ownPlace w (asked-true (movesInstrument o w) (within unit r ls orders S o ownPlace w) (yi w)
+      rw (← m .0) (within-le ownScope w (asked-true (movesInstrument o w) (within unit r ls orders S o ownScope w) (yi w)
       (moves-instrument r o w .1 (refl, m .1))))
   all-within yi yg (group g) w m =
       rw (← m .0) (within-le ownGroup w (asked-true (movesGroup r o w) (within unit r ls orders S o ownGroup w) (yg w)
@@ -120,7 +120,7 @@ module _ (unit : Order → ℕ) (r : Roster) (ls : Lines) (orders : List Order) 
       some-past p w h = (p, w, h .0, past-iff unit r orders (o .account) S p w (limit r ls p w) .0 (h .1))
 
       instrument-no : (w : Way) → instrumentPasses w ≡ false → SomePasses
-      instrument-no w e = some-past ownPlace w (no-past (movesInstrument o w) ownPlace w (moves-instrument r o w .0) e)
+      instrument-no w e = some-past ownScope w (no-past (movesInstrument o w) ownScope w (moves-instrument r o w .0) e)
 
       group-no : (w : Way) → groupPasses w ≡ false → SomePasses
       group-no w e = some-past ownGroup w (no-past (movesGroup r o w) ownGroup w (moves-group r o w .0) e)

@@ -40,7 +40,7 @@ unfoldable pub movesGroup : Roster → Order → Way → Bool
 movesGroup r o w =
     not (isZero (r .weight (o .instrument))) && sameWay (wayBy (r .weight (o .instrument)) (wayOf (o .side))) w
 
--- is the potential position of a place of the order's account, with the event applied, at most its limit on that side
+-- is the potential position of a scope of the order's account, with the event applied, at most its limit on that side
 unfoldable pub within : (Order → ℕ) → Roster → Lines → List Order → (ℕ → ℤ) → Order → Scope → Way → Bool
 within unit r ls orders S o p w = leZ (potential unit r orders (o .account) S p w) (limit r ls p w)
 

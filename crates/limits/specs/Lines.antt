@@ -57,7 +57,7 @@ abbrev pub isSet : {A : Type 0} → Option A → Bool
 isSet (some l) = true
 isSet none = false
 
--- the limit of a place on a side, in the place's unit: a group limit is multiplied by 10,000
+-- the limit of a scope on a side, in the scope's unit: a group limit is multiplied by 10,000
 unfoldable pub limit : Roster → Lines → Scope → Way → ℤ
 limit r ls (instrument i) w = figure (largestPosition w) (lineInForce r ls i)
 limit r ls (group g) w = pos 10000 *ℤ figure (largestOfGroup w) (ls .lineOfGroup g)

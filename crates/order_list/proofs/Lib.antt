@@ -1,3 +1,4 @@
+-- Laws of the list of order structs: an order in memory, a loop that counts up, a list made in a local and lent.
 mod Orders
 mod CountingUp
 mod Local

@@ -25,7 +25,7 @@ use Rattle.layout.specs.View.{rosterOf, balancesOf, recordsOf, openOrders, book
 use Rattle.layout.proofs.OrderRecords.{records-long}
 use Rattle.soundness.specs.Cells.{Readable}
 use Rattle.soundness.specs.SoundMemory.{SoundMemory}
-use Rattle.soundness.proofs.Places.{balance-word}
+use Rattle.soundness.proofs.PositionTests.{balance-word}
 use Rattle.soundness.proofs.Records.{remaining-small}
 use Rattle.soundness.proofs.RosterLaws.{roster-long, contract-word, weight-word}
 use Rattle.soundness.proofs.SoundDesk.{all-fit, sound-count, sound-records}

@@ -6,7 +6,7 @@ pub mod Records
 mod Details
 mod Telling
 pub mod Gathering
-mod Places
+mod PositionTests
 mod Whole
 pub mod Questions
 pub mod RosterFacts

@@ -16,7 +16,7 @@ use Rattle.book.specs.Market.{derivatives}
 use Rattle.book.specs.Sound.{OrderFits}
 use Rattle.book.proofs.Tables.{between-numbered}
 use Rattle.layout.specs.View.{rosterOf, balancesOf, openOrders}
-use Rattle.soundness.specs.Soundness.{positionSound, placeSound, accountSound, positionsSound}
+use Rattle.soundness.specs.Soundness.{positionSound, instrumentSound, accountSound, positionsSound}
 use Rattle.soundness.proofs.Asked.{numbered-between}
 use Rattle.layout.proofs.Every.{every-out, every-in}
 
@@ -31,11 +31,11 @@ toward-zero short = refl
 module _ (m : List ℕ) where
   on-roster : positionsSound m ≡ true → (a i : ℕ) → Numbered (rosterOf m .accounts) a → Numbered (rosterOf m .instruments) i → (w : Way)
       → positionOf m a i w ≤ℤ pos 1000000000
-  unfolding positionsSound accountSound placeSound positionSound
+  unfolding positionsSound accountSound instrumentSound positionSound
   on-roster e a i h l w =
       by w
       (both-true (positionSound m a i long) (positionSound m a i short)
-      (every-out (placeSound m a) (rosterOf m .instruments) (every-out (accountSound m) (rosterOf m .accounts) e a h) i l))
+      (every-out (instrumentSound m a) (rosterOf m .instruments) (every-out (accountSound m) (rosterOf m .accounts) e a h) i l))
     where
       by : (w : Way) → (positionSound m a i long ≡ true) × (positionSound m a i short ≡ true) → positionOf m a i w ≤ℤ pos 1000000000
       by long both = let h = both .0 in omega signed
@@ -73,9 +73,9 @@ module _ (m : List ℕ) where
       by false d = rw (off-roster fits a i d w) (omega signed)
 
   pub positions-in : ((a i : ℕ) (w : Way) → positionOf m a i w ≤ℤ pos 1000000000) → positionsSound m ≡ true
-  unfolding positionsSound accountSound placeSound positionSound
+  unfolding positionsSound accountSound instrumentSound positionSound
   positions-in h =
       every-in (accountSound m) (rosterOf m .accounts)
-      (λ a _. every-in (placeSound m a) (rosterOf m .instruments)
+      (λ a _. every-in (instrumentSound m a) (rosterOf m .instruments)
       (λ i _. and-true (positionSound m a i long) (positionSound m a i short) (let k = h a i long in omega signed)
       (let k = h a i short in omega signed)))

@@ -94,11 +94,11 @@ positionSound m a i w =
     leZ (ofInstrument (derivatives .unit) (openOrders m) a (balancesOf m a) i w) (pos 1000000000)
 
 -- both of account a and instrument i
-unfoldable pub placeSound : List ℕ → ℕ → ℕ → Bool
-placeSound m a i = positionSound m a i long && positionSound m a i short
+unfoldable pub instrumentSound : List ℕ → ℕ → ℕ → Bool
+instrumentSound m a i = positionSound m a i long && positionSound m a i short
 
 unfoldable pub accountSound : List ℕ → ℕ → Bool
-accountSound m a = every (rosterOf m .instruments) (placeSound m a)
+accountSound m a = every (rosterOf m .instruments) (instrumentSound m a)
 
 unfoldable pub positionsSound : List ℕ → Bool
 positionsSound m = every (rosterOf m .accounts) (accountSound m)

@@ -4,7 +4,7 @@ ghost use mathlib.Core.Bool.{true, _&&_};
 ghost use Rattle.ledger.specs.Roster.{Numbered};
 ghost use Rattle.layout.specs.View.{rosterOf, openOrders};
 ghost use Rattle.layout.specs.Stores.{Records};
-ghost use Rattle.soundness.specs.Soundness.{ascend, ordersSound, placeSound, accountSound, positionsSound};
+ghost use Rattle.soundness.specs.Soundness.{ascend, ordersSound, instrumentSound, accountSound, positionsSound};
 ghost use Rattle.soundness.specs.Cells.{Readable, Empty, SmallSums};
 use crate::bits::all_small;
 use crate::orders::orders_are_sound;
@@ -15,14 +15,14 @@ use ledger::units::Contracts;
 use words::signed_word;
 
 // Of account `a` and instrument `i`. No sum with the balance, which may be any word, is computed.
-fn place_is_sound(m: &[u8], cells: &[u64; 1089], a: usize, i: usize) -> bool
+fn instrument_is_sound(m: &[u8], cells: &[u64; 1089], a: usize, i: usize) -> bool
     requires { ⌜
         Readable (now m)
         × SmallSums (now cells) (openOrders (now m))
         × Numbered (rosterOf (now m) .accounts) a
         × Numbered (rosterOf (now m) .instruments) i
         ⌝ }
-    ensures { λ r. ⌜ r ≡ placeSound (now (m .entry)) a i ⌝ }
+    ensures { λ r. ⌜ r ≡ instrumentSound (now (m .entry)) a i ⌝ }
 {
     let s = Contracts(signed_word(m, BALANCES + a * 32 + i));
     let b = Contracts::of(cells[a * 64 + i]);
@@ -46,7 +46,7 @@ fn account_is_sound(m: &[u8], cells: &[u64; 1089], a: usize) -> bool
     }
     let n = instruments(m) as usize;
     for j in 0..n {
-        if !place_is_sound(m, cells, a, j + 1) {
+        if !instrument_is_sound(m, cells, a, j + 1) {
             return false;
         }
     }

@@ -15,7 +15,7 @@ use book::Blocked;
 use book::Figures;
 use book::LimitLine;
 use book::is_minus_one;
-use layout::stores::LinePlace;
+use layout::stores::LineWords;
 use layout::stores::block_account;
 use layout::stores::block_group;
 use layout::stores::block_instrument;
@@ -48,7 +48,7 @@ fn limits_of(figures: Figures) -> Limits
 }
 
 // A line of four figures: −1 throughout and it is set no more.
-fn work_line(m: &mut [u8], at: LinePlace, figures: Figures)
+fn work_line(m: &mut [u8], at: LineWords, figures: Figures)
     requires { ⌜ (at .0 * 8 + 8 ≤ length (now m)) × (at .1 * 8 + 16 ≤ length (now m)) × (figuresOfLineFit derivatives figures ≡ true) ⌝ }
     ensures { λ r. ⌜ now (m .exit) ≡ storeLine (now (m .entry)) (at .0) (at .1) (lineOf figures) ⌝ }
 {

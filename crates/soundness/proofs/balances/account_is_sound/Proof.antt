@@ -8,14 +8,14 @@ use borrow.Author.Needs.{needs}
 use lib.ListN.{length}
 use Rattle.layout.specs.Rosters.{every}
 use Rattle.layout.specs.View.{rosterOf}
-use Rattle.soundness.specs.Soundness.{placeSound, accountSound}
+use Rattle.soundness.specs.Soundness.{instrumentSound, accountSound}
 use Rattle.layout.proofs.Every.{every-none, every-no, every-on, every-all}
-use Rattle.soundness.proofs.Places.{row-small}
+use Rattle.soundness.proofs.PositionTests.{row-small}
 use Rattle.soundness.proofs.balances.account_is_sound.Statement.{statement}
 use Rattle.soundness.proofs.balances.account_is_sound.Tie as tie
 
 abbrev Inv-loop : tie.InvT-loop
-Inv-loop m cells a n j₀ j = (n ≡ rosterOf m .instruments) × (j ≤ n) × (every j (placeSound m a) ≡ true)
+Inv-loop m cells a n j₀ j = (n ≡ rosterOf m .instruments) × (j ≤ n) × (every j (instrumentSound m a) ≡ true)
 
 abbrev μ-loop : tie.MeasureT-loop
 μ-loop m cells a n j₀ j = n - j
@@ -26,8 +26,8 @@ inside c =
     let s = c .before in
     (omega (arith, s .pre .2, s .pre .0 .accounts), s .pre .0 .long)
 
-place-is-sound-requires : tie.Need-place-is-sound-requires Inv-loop μ-loop
-place-is-sound-requires c κs =
+instrument-is-sound-requires : tie.Need-instrument-is-sound-requires Inv-loop μ-loop
+instrument-is-sound-requires c κs =
     let s = c .before .before .before .before .before .before in
     (s .pre .0, s .pre .1, s .pre .2, (omega arith, omega arith))
 
@@ -41,12 +41,12 @@ returns-2 : tie.Need-returns-2 Inv-loop μ-loop
 unfolding accountSound
 returns-2 c =
     let at = c .before .before .before in
-    every-no _ _ (at .loop .j) _ (omega arith) (c .before .place-is-sound .ensures) (c .if2 .taken)
+    every-no _ _ (at .loop .j) _ (omega arith) (c .before .instrument-is-sound .ensures) (c .if2 .taken)
 
 loop-again : tie.Need-loop-again Inv-loop μ-loop
 loop-again c =
     let at = c .before .before .before in
-    (at .loop .inv .0, omega arith, every-on _ (at .loop .j) _ (at .loop .inv .2) (c .before .place-is-sound .ensures) (c .if2 .left))
+    (at .loop .inv .0, omega arith, every-on _ (at .loop .j) _ (at .loop .inv .2) (c .before .instrument-is-sound .ensures) (c .if2 .left))
 
 returns-3 : tie.Need-returns-3 Inv-loop μ-loop
 unfolding accountSound
@@ -56,4 +56,4 @@ pub account-is-sound-spec : {M : Type 1} → statement M
 account-is-sound-spec =
     tie.close (tie.spec Inv-loop μ-loop (λ c. omega (arith, inside c)) (λ c. omega (arith, inside c)) (λ c. omega (arith, inside c))
     (λ c κs. omega (arith, inside c)) returns (λ c κs. search needs) (λ c. (c .instruments .ensures, omega arith, every-none _))
-    (λ c. omega arith) place-is-sound-requires returns-2 (λ c. omega arith) (λ c. omega arith) loop-again returns-3)
+    (λ c. omega arith) instrument-is-sound-requires returns-2 (λ c. omega arith) (λ c. omega arith) loop-again returns-3)

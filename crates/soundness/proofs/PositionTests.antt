@@ -20,7 +20,7 @@ use Rattle.book.specs.Market.{derivatives}
 use Rattle.layout.specs.Layout.{balanceRow}
 use Rattle.layout.specs.Rosters.{every}
 use Rattle.layout.specs.View.{rosterOf, balancesOf, openOrders}
-use Rattle.soundness.specs.Soundness.{positionSound, placeSound}
+use Rattle.soundness.specs.Soundness.{positionSound, instrumentSound}
 use Rattle.soundness.specs.Cells.{Readable, row, SmallSums}
 use Rattle.soundness.proofs.Asked.{same-test, numbered-between}
 use Rattle.layout.proofs.Every.{every-in}
@@ -74,18 +74,18 @@ module _ (m cells : List ℕ) (a i : ℕ) (readable : Readable m) (gathered : Sm
       )
 
   -- s is the balance, b and v what the two cells hold
-  pub place-tested : (s b v : ℤ) → s ≡ signedAt m (balanceRow a + i) → b ≡ pos (getD cells (row a + cell Buy i) 0) →
+  pub instrument-tested : (s b v : ℤ) → s ≡ signedAt m (balanceRow a + i) → b ≡ pos (getD cells (row a + cell Buy i) 0) →
       v ≡ pos (getD cells (row a + cell Sell i) 0) →
-      (leZ s (pos 1000000000 +ℤ negℤ b) && leZ (v +ℤ negℤ (pos 1000000000)) s) ≡ placeSound m a i
-  unfolding placeSound
-  place-tested s b v read buys sells =
+      (leZ s (pos 1000000000 +ℤ negℤ b) && leZ (v +ℤ negℤ (pos 1000000000)) s) ≡ instrumentSound m a i
+  unfolding instrumentSound
+  instrument-tested s b v read buys sells =
       let x = getD cells (row a + cell Buy i) 0 in
       let y = getD cells (row a + cell Sell i) 0 in
       rw (position-cell long, position-cell short, ← read, buys, sells, ← long-same s x, ← short-same s y)
 
   -- where it is small, whatever the cells hold
-  pub place-small : natAbs (signedAt m (balanceRow a + i)) ≤ 536870912 → placeSound m a i ≡ true
-  unfolding placeSound
+  pub place-small : natAbs (signedAt m (balanceRow a + i)) ≤ 536870912 → instrumentSound m a i ≡ true
+  unfolding instrumentSound
   place-small small =
       let s = signedAt m (balanceRow a + i) in
       let within : (w : Way) → leZ (toward w s +ℤ pos (getD cells (row a + cell (sideTo w) i) 0)) (pos 1000000000) ≡ true =
@@ -96,8 +96,8 @@ module _ (m cells : List ℕ) (a i : ℕ) (readable : Readable m) (gathered : Sm
 -- ---- the row of account a, all of it small
 pub row-small : (m cells : List ℕ) (a : ℕ) → Readable m → SmallSums cells (openOrders m) → Numbered (rosterOf m .accounts) a
     → ((p : ℕ) → balanceRow a + 1 ≤ p → p < balanceRow a + 1 + 32 → natAbs (signedAt m p) ≤ 536870912)
-    → true ≡ every (rosterOf m .instruments) (placeSound m a)
+    → true ≡ every (rosterOf m .instruments) (instrumentSound m a)
 row-small m cells a readable gathered h small =
-    sym (every-in (placeSound m a) (rosterOf m .instruments)
+    sym (every-in (instrumentSound m a) (rosterOf m .instruments)
     (λ i l. place-small m cells a i readable gathered h l
     (small (balanceRow a + i) (omega arith) (omega (arith, readable .instruments)))))

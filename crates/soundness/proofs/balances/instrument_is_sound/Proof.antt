@@ -10,10 +10,10 @@ use mir.Syntax.{w64}
 use mir.ValLaws.{toZ-ofZ}
 use Rattle.ledger.specs.declared.order.Side.the-variants.{Buy, Sell}
 use Rattle.ledger.proofs.Fits.{again}
-use Rattle.soundness.specs.Soundness.{placeSound}
-use Rattle.soundness.proofs.Places.{cell-small, place-tested}
-use Rattle.soundness.proofs.balances.place_is_sound.Statement.{statement}
-use Rattle.soundness.proofs.balances.place_is_sound.Tie as tie
+use Rattle.soundness.specs.Soundness.{instrumentSound}
+use Rattle.soundness.proofs.PositionTests.{cell-small, instrument-tested}
+use Rattle.soundness.proofs.balances.instrument_is_sound.Statement.{statement}
+use Rattle.soundness.proofs.balances.instrument_is_sound.Tie as tie
 
 of-requires : tie.Need-of-requires
 of-requires c κs =
@@ -42,14 +42,14 @@ tests : (c : tie.After-at-most) →
     let s = c .before .before .before .before .before .before .before .before in
     (z : ℤ) → z ≡ c .before .before .of2 .result .0 +ℤ negℤ (pos 1000000000) →
     (c .at-most .result && leZ z (again (c .before .before .before .before .before .before .signed-word .result)))
-    ≡ placeSound (s .args .m .now) (s .args .a) (s .args .i)
+    ≡ instrumentSound (s .args .m .now) (s .args .a) (s .args .i)
 tests c z e =
     let v = c .before .before in
     let b = v .before .before in
     let w = b .before .before in
     let s = w .before .before in
     rw (c .at-most .ensures, c .before .less .ensures, e, toZ-ofZ w64 (w .signed-word .result) (record { sfits = w .signed-word .ok }))
-    (place-tested _ _ _ _ (s .pre .0) (s .pre .1) (s .pre .2) (s .pre .3) _ _ _ (w .signed-word .ensures) (b .of .ensures)
+    (instrument-tested _ _ _ _ (s .pre .0) (s .pre .1) (s .pre .2) (s .pre .3) _ _ _ (w .signed-word .ensures) (b .of .ensures)
     (v .of2 .ensures))
 
 returns : tie.Need-returns
@@ -61,8 +61,8 @@ returns-2 c =
     c .at-most2 .ensures ∙ rw (not-false (at .before .at-most .result) (at .if1 .left)) at (tests (at .before) _
     (c .before .less2 .ensures))
 
-pub place-is-sound-spec : {M : Type 1} → statement M
-place-is-sound-spec =
+pub instrument-is-sound-spec : {M : Type 1} → statement M
+instrument-is-sound-spec =
     tie.close (tie.spec (λ c. search needs) (λ c. search needs) (λ c. search needs) (λ c κs. search needs) (λ c. search needs)
     (λ c. search needs) (λ c. search needs) (λ c. search needs) of-requires (λ c. search needs) (λ c. search needs) (λ c. search needs)
     (λ c. search needs) (λ c. search needs) of-requires-2 less-requires (λ c κs. search needs) returns less-requires-2
