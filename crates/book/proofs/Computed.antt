@@ -23,7 +23,7 @@ use Rattle.book.specs.SetAgain.{lineSet, lineOver}
 use Rattle.book.specs.EventBytes.{bytesOf, figureBytes, eventBytes}
 use Rattle.book.specs.Written.{asBytes}
 use Rattle.book.specs.Positions.{potentialIn, instrumentIn, groupIn}
-use Rattle.book.specs.Rosters.{rosterIn}
+use Rattle.book.specs.Rosters.{rosterOfTables}
 use Rattle.book.specs.Edges.{edgeTables, starredEdges}
 use Rattle.book.specs.Listing.{listingTables, listingEvents}
 use Rattle.book.specs.LongerDay.{longerTables, morning, afternoon, evening}
@@ -36,6 +36,6 @@ unfolding
     movesGroup within positionQuestions derivatives one named wellFormed eventOf decode find insert change kept emptyBook unsets lineOf
     groupLineOf setLine setBlock newOrder work mark isEvent accountKnown itemKnown figuresFit notYetTrading idOpen quantityFits entered
     idFree placeFree questionsBefore limitQuestions answer begun keep memoryAfter stateAfter lineSet lineOver asBytes bytesOf figureBytes
-    eventBytes bitsOf potentialIn instrumentIn groupIn rosterIn edgeTables starredEdges listingTables listingEvents longerTables morning
+    eventBytes bitsOf potentialIn instrumentIn groupIn rosterOfTables edgeTables starredEdges listingTables listingEvents longerTables morning
     afternoon evening
 computes = tt

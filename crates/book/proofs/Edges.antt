@@ -2,12 +2,15 @@
 use Prim.Native.Nat.{ℕ, zero, suc}
 use mathlib.Core.Path.{_≡_, refl}
 use mathlib.Core.Bool.{true, cond}
-use mathlib.Core.List.{List, [], _∷_, map}
+use mathlib.Core.List.{List, [], _∷_, _++_, map}
 use lib.Dec.{eqb}
 use lib.IntN.{ℤ, pos, negℤ}
 use Rattle.ledger.specs.declared.order.Order.{Order}
-use Rattle.ledger.specs.declared.order.Side.the-variants.{Buy}
+use Rattle.ledger.specs.declared.order.Side.the-variants.{Buy, Sell}
 use Rattle.ledger.specs.Roster.{Roster}
+use Rattle.book.specs.declared.LimitLine.the-variants.{Default, OfGroup}
+use Rattle.book.specs.declared.Event.{Event}
+use Rattle.book.specs.declared.Event.the-variants.{Limit, Balance, New}
 use Rattle.book.specs.Market.{derivatives}
 use Rattle.book.specs.Decoding.{decode}
 use Rattle.book.specs.Books.{Book, withOrders, newOrder, work}
@@ -17,13 +20,16 @@ use Rattle.book.specs.Positions.{instrumentIn}
 use Rattle.book.specs.Days.{answersTo, endOf, decoded}
 use Rattle.book.specs.EventBytes.{line, groupLine, balance, buy}
 use Rattle.book.specs.EventBytes.{limitBytes, balanceBytes, blockBytes, replaceBytes, cancelBytes, fillBytes}
-use Rattle.book.specs.Rosters.{rosterIn}
+use Rattle.book.specs.Rosters.{rosterOfTables}
 use Rattle.book.specs.Edges.{edgeTables, starredEdges, outcome, expected}
 use Rattle.book.proofs.Computed.{computes}
 
 -- one account, group and contract; instruments 1, 2 and 3 of weight 10000, −5000 and 0
 abbrev roster : Roster
-roster = rosterIn edgeTables
+roster = rosterOfTables edgeTables
+
+abbrev minus : ℕ → ℤ
+minus n = negℤ (pos n)
 
 -- each starred edge comes to what its case says
 pub edges : map (outcome roster) starredEdges ≡ map expected starredEdges
@@ -35,21 +41,71 @@ pub starred-answers : map (λ c. c .answer) starredEdges ≡ 20 ∷ 22 ∷ 0 ∷
 unfolding computes
 starred-answers = refl
 
--- ---- the other examples
-abbrev minus : ℕ → ℤ
-minus n = negℤ (pos n)
+-- and these S, PCI and PVI at the end
+pub starred-positions : map (λ c. c .positions) starredEdges
+    ≡ (minus 10000 ∷ minus 5000 ∷ pos 15000 ∷ [])
+    ∷ (minus 10000 ∷ minus 5000 ∷ pos 15000 ∷ [])
+    ∷ (minus 10000 ∷ minus 5000 ∷ pos 25000 ∷ [])
+    ∷ (pos 100000 ∷ pos 150000 ∷ pos 100000 ∷ [])
+    ∷ (minus 5000 ∷ minus 4000 ∷ pos 5000 ∷ [])
+    ∷ (minus 2 ∷ pos 0 ∷ pos 2 ∷ [])
+    ∷ (minus 2 ∷ minus 2 ∷ pos 2 ∷ [])
+    ∷ (pos 0 ∷ pos 0 ∷ pos 0 ∷ [])
+    ∷ (pos 0 ∷ pos 0 ∷ pos 1 ∷ [])
+    ∷ []
+unfolding computes
+starred-positions = refl
 
--- what is kept of a day
-abbrev after : List (List ℕ) → State
-after es = endOf roster begun (decoded es)
+-- their events, N the last, as document 01 has them: limits that are not named bind nothing
+abbrev lineSet : (tci tvi lci lvi : ℕ) → Event
+lineSet tci tvi lci lvi = Limit 1 (Default 1 (record { tci = pos tci; tvi = pos tvi; lci = pos lci; lvi = pos lvi }))
+
+abbrev groupSet : (lcc lvc : ℕ) → Event
+groupSet lcc lvc = Limit 1 (OfGroup 1 (pos lcc) (pos lvc))
+
+abbrev anyLine : Event
+anyLine = lineSet 1000000 1000000 1000000000 1000000000
+
+abbrev anyGroup : Event
+anyGroup = groupSet 1000000000 1000000000
+
+abbrev tableFive : (tvi lvi : ℕ) → List Event
+tableFive tvi lvi =
+    anyLine
+    ∷ anyGroup
+    ∷ Balance 1 1 (minus 10000)
+    ∷ New Buy 1 1 1 (pos 5000)
+    ∷ New Sell 1 1 2 (pos 5000)
+    ∷ lineSet 10000 tvi 1000000 lvi
+    ∷ New Sell 1 1 3 (pos 10000)
+    ∷ []
+
+pub starred-events : map (λ c. decoded (c .events ++ (c .order ∷ []))) starredEdges
+    ≡ tableFive 2500 21000
+    ∷ tableFive 10000 21000
+    ∷ tableFive 10000 25000
+    ∷ (anyLine ∷ anyGroup ∷ Balance 1 1 (pos 100000) ∷ New Buy 1 1 1 (pos 50000) ∷ New Sell 1 1 2 (pos 200000) ∷ [])
+    ∷ (anyLine ∷ anyGroup ∷ Balance 1 1 (minus 5000) ∷ New Buy 1 1 1 (pos 1000) ∷ [])
+    ∷ (lineSet 1000000 1000000 0 1000000000 ∷ anyGroup ∷ Balance 1 1 (minus 2) ∷ New Buy 1 1 1 (pos 2) ∷ [])
+    ∷ (lineSet 1000000 1000000 0 1000000000 ∷ anyGroup ∷ Balance 1 1 (minus 2) ∷ New Buy 1 1 1 (pos 3) ∷ [])
+    ∷ (anyLine ∷ anyGroup ∷ groupSet 0 1000000 ∷ New Sell 1 2 1 (pos 1) ∷ [])
+    ∷ (anyLine ∷ anyGroup ∷ groupSet 0 0 ∷ New Sell 1 3 1 (pos 1) ∷ [])
+    ∷ []
+unfolding computes
+starred-events = refl
+
+-- ---- the other examples
+-- the state at the end of a day
+abbrev endState : List (List ℕ) → State
+endState es = endOf roster begun (decoded es)
 
 -- the answer to N after events that are accepted; 1000 where one is not
-abbrev zeros : List ℕ → ℕ → ℕ
-zeros [] n = n
-zeros (m ∷ ms) n = cond (eqb m 0) (zeros ms n) 1000
+abbrev accepted : List ℕ → ℕ → ℕ
+accepted [] n = n
+accepted (m ∷ ms) n = cond (eqb m 0) (accepted ms n) 1000
 
 abbrev judged : List (List ℕ) → List ℕ → ℕ
-judged es n = zeros (answersTo roster begun (decoded es)) (answer derivatives roster (after es .book) (after es .trading) (decode n))
+judged es n = accepted (answersTo roster begun (decoded es)) (answer derivatives roster (endState es .book) (endState es .trading) (decode n))
 
 -- limits that bind nothing; the default line; a group's line of 10 and 10, and an order of id 7, to buy 6
 abbrev wide : List ℕ
@@ -67,7 +123,7 @@ small = line 100 100 10 10 ∷ groupLine 10 10 ∷ buy 1 7 6 ∷ []
 
 pub replaces : (judged small (replaceBytes 7 10) ≡ 0)
     × (judged small (replaceBytes 7 11) ≡ 21)
-    × (instrumentIn roster (after (with-buy (fillBytes 7 2 ∷ replaceBytes 7 10 ∷ [])) .book) 1 1 ≡ pos 2 ∷ pos 10 ∷ minus 2 ∷ [])
+    × (instrumentIn roster (endState (with-buy (fillBytes 7 2 ∷ replaceBytes 7 10 ∷ [])) .book) 1 1 ≡ pos 2 ∷ pos 10 ∷ minus 2 ∷ [])
     × (judged (with-buy (blockBytes 1 1 0 1 ∷ line 1 1 0 0 ∷ [])) (replaceBytes 7 5) ≡ 0)
     × (judged (with-buy (blockBytes 1 1 0 1 ∷ line 1 1 0 0 ∷ [])) (replaceBytes 7 6) ≡ 0)
     × (judged (with-buy (blockBytes 1 1 0 1 ∷ [])) (replaceBytes 7 7) ≡ 14)
@@ -127,9 +183,9 @@ openBuys zero = []
 openBuys (suc n) = newOrder Buy 1 3 (suc n) (pos 1) ∷ openBuys n
 
 abbrev crowded : ℕ → Book
-crowded n = withOrders (after (wide ∷ groupLine 10 10 ∷ []) .book) (openBuys n)
+crowded n = withOrders (endState (wide ∷ groupLine 10 10 ∷ []) .book) (openBuys n)
 
-pub open-orders : (ids (after (wide ∷ groupLine 10 10 ∷ buy 1 8 1 ∷ buy 1 7 1 ∷ buy 1 9 1 ∷ []) .book .orders) ≡ 7 ∷ 8 ∷ 9 ∷ [])
+pub open-orders : (ids (endState (wide ∷ groupLine 10 10 ∷ buy 1 8 1 ∷ buy 1 7 1 ∷ buy 1 9 1 ∷ []) .book .orders) ≡ 7 ∷ 8 ∷ 9 ∷ [])
     × (answer derivatives roster (crowded 255) (λ a. true) (decode (buy 3 300 1)) ≡ 0)
     × (answer derivatives roster (crowded 256) (λ a. true) (decode (buy 3 300 1)) ≡ 18)
     × (answer derivatives roster (work (λ o. 1) (crowded 256) (decode (cancelBytes 200))) (λ a. true) (decode (buy 3 300 1)) ≡ 0)

@@ -18,14 +18,14 @@ use Rattle.book.specs.Decoding.{decode}
 use Rattle.book.specs.Books.{Book, work}
 use Rattle.book.specs.EventLists.{State, begun}
 use Rattle.book.specs.Positions.{instrumentIn, groupIn}
-use Rattle.book.specs.Rosters.{rosterIn}
+use Rattle.book.specs.Rosters.{rosterOfTables}
 use Rattle.book.specs.Listing.{listingTables, listingEvents}
 use Rattle.book.specs.Demand3.{SomeFillingPasses}
 use Rattle.book.specs.Days.{answersTo, endOf, decoded}
 use Rattle.book.proofs.Computed.{computes}
 
 abbrev pub listingRoster : Roster
-listingRoster = rosterIn listingTables
+listingRoster = rosterOfTables listingTables
 
 abbrev pub listingEnd : State
 listingEnd = endOf listingRoster begun (decoded listingEvents)

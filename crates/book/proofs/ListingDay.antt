@@ -11,7 +11,7 @@ use Rattle.ledger.specs.Roster.{Numbered}
 use Rattle.ledger.specs.Positions.{instrument, group, long}
 use Rattle.ledger.specs.Fillings.{none, fill}
 use Rattle.book.specs.Sound.{RosterFits}
-use Rattle.book.specs.Rosters.{rosterIn}
+use Rattle.book.specs.Rosters.{rosterOfTables}
 use Rattle.book.specs.Listing.{listingTables, listingEvents}
 use Rattle.book.proofs.Listing.{listingRoster}
 use Rattle.book.proofs.PlainPromise.{Refused, Past, both-ways, Within, promised}
@@ -20,7 +20,7 @@ use Rattle.book.proofs.Rosters.{at-each-number}
 use Rattle.book.proofs.Computed.{computes}
 
 pub listing-fits : RosterFits listingRoster
-unfolding rosterIn listingTables
+unfolding rosterOfTables listingTables
 listing-fits =
     record {
       accounts = omega arith;

@@ -16,7 +16,7 @@ use Rattle.book.specs.Market.{derivatives}
 use Rattle.book.specs.Sound.{RosterFits, Sound}
 use Rattle.book.specs.EventLists.{Desk, State, begun, memoryAfter}
 use Rattle.book.specs.Written.{written, writtenAll}
-use Rattle.book.specs.Rosters.{rosterIn}
+use Rattle.book.specs.Rosters.{rosterOfTables}
 use Rattle.book.specs.LongerDay.{longerTables, morning, tooLong, tooShort, putSold, putBought, raisedTooFar, afternoon, evening}
 use Rattle.book.specs.LongerDay.{putSoldToTheLimit, putBoughtToTheLimit, raisedToTheLimit}
 use Rattle.book.proofs.Plain.{derivatives-unit, plain-sound}
@@ -25,7 +25,7 @@ use Rattle.book.proofs.Rosters.{at-each-number}
 use Rattle.book.proofs.Computed.{computes}
 
 abbrev pub longerRoster : Roster
-longerRoster = rosterIn longerTables
+longerRoster = rosterOfTables longerTables
 
 pub longer-fits : RosterFits longerRoster
 unfolding computes

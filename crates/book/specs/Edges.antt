@@ -64,7 +64,7 @@ starredEdges =
 
 -- ---- what a case comes to: are its events bytes, and account 1 and the instrument on the roster, the answers to the events and to N,
 -- the positions at the end
-pub record Outcome : Type 0 where
+pub record CaseOutcome : Type 0 where
   pub bytes : Bool
   pub account : Bool
   pub instrument : Bool
@@ -73,7 +73,7 @@ pub record Outcome : Type 0 where
   pub positions : List ℤ
 
 -- at the plain book of roster r
-abbrev pub outcome : Roster → Case → Outcome
+abbrev pub outcome : Roster → Case → CaseOutcome
 outcome r c =
     let before = endOf r begun (decoded (c .events)) in
     let all = c .events ++ (c .order ∷ []) in
@@ -86,18 +86,18 @@ outcome r c =
       positions = instrumentIn r (endOf r begun (decoded all) .book) 1 (c .instrument);
     }
 
-abbrev pub zeros : List (List ℕ) → List ℕ
-zeros [] = []
-zeros (e ∷ es) = 0 ∷ zeros es
+abbrev pub allAccepted : List (List ℕ) → List ℕ
+allAccepted [] = []
+allAccepted (e ∷ es) = 0 ∷ allAccepted es
 
 -- as the case says
-abbrev pub expected : Case → Outcome
+abbrev pub expected : Case → CaseOutcome
 expected c =
     record {
       bytes = true;
       account = true;
       instrument = true;
-      answers = zeros (c .events);
+      answers = allAccepted (c .events);
       answer = c .answer;
       positions = c .positions;
     }

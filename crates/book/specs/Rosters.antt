@@ -16,8 +16,8 @@ pub record Tables : Type 0 where
   pub weights : List ℤ
 
 -- 0 of what is not on it
-unfoldable pub rosterIn : Tables → Roster
-rosterIn t =
+unfoldable pub rosterOfTables : Tables → Roster
+rosterOfTables t =
     record {
       accounts = t .accounts;
       groups = t .groups;

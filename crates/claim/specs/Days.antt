@@ -2,7 +2,7 @@
 use Prim.Native.Nat.{ℕ, _≤_}
 use mathlib.Core.Path.{_≡_}
 use mathlib.Core.List.{List, [], _∷_, _++_, map}
-use lib.IntN.{ℤ, pos, negsuc}
+use lib.IntN.{ℤ, pos, negsuc, negℤ}
 use lib.ListN.{length, take, drop, replicate}
 use Rattle.words.specs.Bytes.{Bytes}
 use Rattle.ledger.specs.declared.order.Order.{Order}
@@ -19,11 +19,12 @@ use Rattle.book.specs.Written.{writtenAll}
 use Rattle.opening.specs.Questions.{openingAnswer}
 use Rattle.opening.specs.Opening.{afterOpening}
 use Rattle.reading.specs.Reading.{instrumentAnswer, groupAnswer, instrumentReport, groupReport, reported}
+use Rattle.desk.specs.Step.{answerTo}
 use Rattle.desk.specs.Days.{answersOver, memoryOver}
 use Rattle.desk.specs.Run.{eventsFor, answered, concatenated}
 use Rattle.desk.specs.Listing.{listingRoster}
 use Rattle.book.specs.Edges.{starredEdges}
-use Rattle.desk.specs.Edges.{AllHold, edgeRoster}
+use Rattle.desk.specs.Edges.{edgeRoster}
 use Rattle.claim.specs.Examples.{memoryAt, OrderRefused, OrderAccepted, LimitSetAgain}
 
 abbrev pub orderOf : (account id item : ℕ) → Side → (total filled : ℕ) → Order
@@ -121,13 +122,33 @@ abbrev pub InEveryMemory : (List ℕ → Type 0) → Type 0
 InEveryMemory Holds = (m : List ℕ) → Bytes m → 65536 ≤ length m → Holds m
 
 -- in one memory: with nothing left to assume
-unfoldable pub zeros : List ℕ
-zeros = replicate 65536 0
+unfoldable pub zeroMemory : List ℕ
+zeroMemory = replicate 65536 0
 
--- both days, and document 01's starred edges (crates/book/specs/Edges.antt), nine of them, with these answers
+-- document 01's starred edges (crates/book/specs/Edges.antt), nine of them: the events before N are accepted, N gets this answer, and S, PCI
+-- and PVI are these after it
+abbrev pub edgeMemory : List (List ℕ) → List ℕ
+edgeMemory = memoryOver (afterOpening zeroMemory edgeRoster)
+
+pub record EdgesHold : Type 0 where
+  pub opens : openingAnswer zeroMemory edgeRoster ≡ 0
+  pub accepted :
+      map (λ c. answersOver (afterOpening zeroMemory edgeRoster) (c .events)) starredEdges
+      ≡ map (λ n. replicate n 0) (6 ∷ 6 ∷ 6 ∷ 4 ∷ 3 ∷ 3 ∷ 3 ∷ 3 ∷ 3 ∷ [])
+  pub answered : map (λ c. answerTo (edgeMemory (c .events)) (c .order)) starredEdges ≡ 20 ∷ 22 ∷ 0 ∷ 0 ∷ 0 ∷ 0 ∷ 21 ∷ 23 ∷ 0 ∷ []
+  pub reported :
+      map (λ c. instrumentReport (edgeMemory (c .events ++ (c .order ∷ []))) 1 (c .instrument)) starredEdges
+      ≡ (negℤ (pos 10000) ∷ negℤ (pos 5000) ∷ pos 15000 ∷ [])
+      ∷ (negℤ (pos 10000) ∷ negℤ (pos 5000) ∷ pos 15000 ∷ [])
+      ∷ (negℤ (pos 10000) ∷ negℤ (pos 5000) ∷ pos 25000 ∷ [])
+      ∷ (pos 100000 ∷ pos 150000 ∷ pos 100000 ∷ [])
+      ∷ (negℤ (pos 5000) ∷ negℤ (pos 4000) ∷ pos 5000 ∷ [])
+      ∷ (negℤ (pos 2) ∷ pos 0 ∷ pos 2 ∷ [])
+      ∷ (negℤ (pos 2) ∷ negℤ (pos 2) ∷ pos 2 ∷ [])
+      ∷ (pos 0 ∷ pos 0 ∷ pos 0 ∷ [])
+      ∷ (pos 0 ∷ pos 0 ∷ pos 1 ∷ [])
+      ∷ []
+
+-- both days, and the edges
 abbrev pub Drawn : Type 0
-Drawn =
-    ListingDay zeros
-    × LongerDay zeros
-    × AllHold zeros edgeRoster starredEdges
-    × (map (λ c. c .answer) starredEdges ≡ 20 ∷ 22 ∷ 0 ∷ 0 ∷ 0 ∷ 0 ∷ 21 ∷ 23 ∷ 0 ∷ [])
+Drawn = ListingDay zeroMemory × LongerDay zeroMemory × EdgesHold

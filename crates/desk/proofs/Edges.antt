@@ -5,7 +5,7 @@ use mathlib.Core.List.{List, [], _∷_, _++_, map}
 use lib.ListN.{length}
 use Rattle.words.specs.Bytes.{Bytes}
 use Rattle.book.specs.EventLists.{begun}
-use Rattle.book.specs.Rosters.{rosterIn}
+use Rattle.book.specs.Rosters.{rosterOfTables}
 use Rattle.book.specs.Edges.{Case, edgeTables, starredEdges, outcome, expected}
 use Rattle.book.proofs.Edges.{edges}
 use Rattle.opening.specs.Questions.{rosterFrom, openingAnswer}
@@ -39,7 +39,7 @@ module _ (m s : List ℕ) (bytes : Bytes m) (opens : openingAnswer m s ≡ 0) wh
   all-carried [] h = tt
   all-carried (c ∷ cs) h = (case-carried c cc, all-carried cs cc)
 
-edge-roster : (rosterFrom edgeRoster ≡ rosterIn edgeTables)
+edge-roster : (rosterFrom edgeRoster ≡ rosterOfTables edgeTables)
     × ((m : List ℕ) → 65536 ≤ length m → openingAnswer m edgeRoster ≡ 0)
 unfolding reads edgeRoster
 edge-roster = (roster-read edgeRoster, λ m long. roster-opens m edgeRoster long refl)

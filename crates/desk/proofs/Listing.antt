@@ -7,7 +7,7 @@ use lib.ListN.{length}
 use Rattle.book.specs.Decoding.{between}
 use Rattle.book.specs.EventLists.{begun}
 use Rattle.book.specs.Days.{allBytes}
-use Rattle.book.specs.Rosters.{rosterIn}
+use Rattle.book.specs.Rosters.{rosterOfTables}
 use Rattle.book.specs.Listing.{listingTables, listingEvents}
 use Rattle.book.proofs.Listing.{listing as computed}
 use Rattle.opening.specs.Questions.{rosterFrom, openingAnswer}
@@ -17,7 +17,7 @@ use Rattle.desk.proofs.Readings.{instrument-read, group-read, shown-ope
 use Rattle.desk.proofs.Carried.{answers-carried, shown-over}
 use Rattle.desk.proofs.Rosters.{roster-read, roster-opens, reads}
 
-listing-roster : (rosterFrom listingRoster ≡ rosterIn listingTables)
+listing-roster : (rosterFrom listingRoster ≡ rosterOfTables listingTables)
     × ((m : List ℕ) → 65536 ≤ length m → openingAnswer m listingRoster ≡ 0)
 unfolding reads listingRoster
 listing-roster = (roster-read listingRoster, λ m long. roster-opens m listingRoster long refl)

@@ -13,7 +13,7 @@ use Rattle.ledger.specs.Roster.{Roster}
 use Rattle.limits.specs.Questions.{Question, firstNo}
 use Rattle.book.specs.Decoding.{between}
 use Rattle.book.specs.Table.{q}
-use Rattle.book.specs.Rosters.{Tables, rosterIn, weightBytes, rosterBytes}
+use Rattle.book.specs.Rosters.{Tables, rosterOfTables, weightBytes, rosterBytes}
 use Rattle.book.proofs.Computed.{computes}
 use Rattle.layout.specs.Rosters.{listed, every, sizesFit, namesFit, weightsFit, longEnough}
 use Rattle.opening.specs.Questions.{rosterFrom, rosterLength, lengthsFit, openingQuestions, openingAnswer}
@@ -72,8 +72,8 @@ module _ (a g : ℕ) where
       → roster c i f f′ w ≡ roster d j g g′ w′
   same-roster contracts instruments groupOf contractOf weight = rw (contracts, instruments, groupOf, contractOf, weight)
 
-pub roster-read : (s : List ℕ) → rosterFrom s ≡ rosterIn (tablesFrom s)
-unfolding rosterFrom listed rosterIn tablesFrom
+pub roster-read : (s : List ℕ) → rosterFrom s ≡ rosterOfTables (tablesFrom s)
+unfolding rosterFrom listed rosterOfTables tablesFrom
 roster-read s =
     let contracts = u16At s 4 in
     let instruments = u16At s 6 in

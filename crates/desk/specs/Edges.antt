@@ -5,7 +5,7 @@ use mathlib.Core.List.{List, [], _∷_, _++_}
 use lib.ListN.{length}
 use Rattle.words.specs.Bytes.{Bytes}
 use Rattle.book.specs.Rosters.{rosterBytes}
-use Rattle.book.specs.Edges.{Case, edgeTables, starredEdges, zeros}
+use Rattle.book.specs.Edges.{Case, edgeTables, starredEdges, allAccepted}
 use Rattle.opening.specs.Questions.{openingAnswer}
 use Rattle.opening.specs.Opening.{afterOpening}
 use Rattle.reading.specs.Reading.{instrumentAnswer, instrumentReport}
@@ -15,7 +15,7 @@ use Rattle.desk.specs.Days.{answersOver, memoryOver}
 -- of a memory m, opened with the bytes of a roster
 pub record CaseHolds (m roster : List ℕ) (c : Case) : Type 0 where
   pub opens : openingAnswer m roster ≡ 0
-  pub accepted : answersOver (afterOpening m roster) (c .events) ≡ zeros (c .events)
+  pub accepted : answersOver (afterOpening m roster) (c .events) ≡ allAccepted (c .events)
   pub answered : answerTo (memoryOver (afterOpening m roster) (c .events)) (c .order) ≡ c .answer
   pub readable : instrumentAnswer (memoryOver (afterOpening m roster) (c .events ++ (c .order ∷ []))) 1 (c .instrument) ≡ 0
   pub reported : instrumentReport (memoryOver (afterOpening m roster) (c .events ++ (c .order ∷ []))) 1 (c .instrument) ≡ c .positions
