@@ -1,4 +1,4 @@
--- Laws of `storeFrom`: the view's list is the stored one, and the words outside the count, the first place and the records are as they
+-- Laws of `storeFrom`: the view's list is the stored one, and the words outside the count, the first record and the records are as they
 -- were.
 use Prim.Native.Nat.{ℕ, zero, suc, _+_, _≤_, _<_}
 use mathlib.Core.Path.{_≡_, refl, _∙_, ap}
@@ -65,14 +65,14 @@ module _ (m : List ℕ) (f : ℕ) (os : List Order) where
   unfolding storeFrom
   length-store = length-put placed countWord (length os) ∙ length-placed
 
-  -- a word of neither count nor first place is as the records leave it
+  -- a word of neither count nor first record is as the records leave it
   word-records : (j : ℕ) → j ≢ countWord → j ≢ firstWord → wordAt (storeFrom m f os) j ≡ wordAt (putOrders m f os) j
   unfolding storeFrom
   word-records j other apart =
       word-put-other placed countWord (length os) j other ∙ word-put-other (putOrders m f os) firstWord f j apart
 
   module _ (low : f ≤ 256) (few : length os ≤ 256) where
-    -- a word outside the count, the first place and the records is as it was
+    -- a word outside the count, the first record and the records is as it was
     pub word-store : (j : ℕ) → j ≢ countWord → j ≢ firstWord → (recordWord 0 ≤ j → j < recordWord 512 → ⊥)
         → wordAt (storeFrom m f os) j ≡ wordAt m j
     word-store j other apart outside =

@@ -11,17 +11,17 @@ use Rattle.words.proofs.Bits.{or-left, or-right}
 use Rattle.soundness.specs.Cells.{offsetWord}
 
 -- one number more: r is at least f of the j numbers from k on, x at least f of the next
-pub joined-more : (f : ℕ → ℕ) (k j r x : ℕ) → ((p : ℕ) → k ≤ p → p < k + j → f p ≤ r) → f (k + j) ≤ x → (p : ℕ) → k ≤ p → p < k + (j + 1)
+pub bits-more : (f : ℕ → ℕ) (k j r x : ℕ) → ((p : ℕ) → k ≤ p → p < k + j → f p ≤ r) → f (k + j) ≤ x → (p : ℕ) → k ≤ p → p < k + (j + 1)
     → f p ≤ bitOr r x
-joined-more f k j r x was here p h l = by (ℕ-discrete p (k + j))
+bits-more f k j r x was here p h l = by (ℕ-discrete p (k + j))
   where
     by : Dec (p ≡ k + j) → f p ≤ bitOr r x
     by (yes same) = rw same (omega (arith, here, or-right r x))
     by (no apart) = omega (arith, was p h (omega (arith, apart)), or-left r x)
 
--- ---- a signed number of 64 bits that is small when moved
-pub moved-small : (n : ℕ) → n < 2 ^ 64 → offsetWord n < 1073741824 → natAbs (signedOf 64 n) ≤ 536870912
-moved-small n word h = by (decLe 9223372036854775808 n)
+-- ---- a signed number of 64 bits that is small with the offset added
+pub offset-small : (n : ℕ) → n < 2 ^ 64 → offsetWord n < 1073741824 → natAbs (signedOf 64 n) ≤ 536870912
+offset-small n word h = by (decLe 9223372036854775808 n)
   where
     by : Dec (9223372036854775808 ≤ n) → natAbs (signedOf 64 n) ≤ 536870912
     by (yes large) =

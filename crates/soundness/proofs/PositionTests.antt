@@ -31,7 +31,7 @@ pub unit-one : derivatives .unit ≡ one
 unfolding derivatives one
 unit-one = refl
 
--- the balance of a place on the roster
+-- the balance of an account and instrument on the roster
 pub balance-word : (m : List ℕ) (a i : ℕ) → Numbered (rosterOf m .accounts) a → Numbered (rosterOf m .instruments) i
     → balancesOf m a i ≡ signedAt m (balanceRow a + i)
 unfolding balancesOf

@@ -27,7 +27,7 @@ Cast z = T (nonNeg (toZ w64 (ofZ w64 z))) × Fits w64 (natAbs (toZ w64 (ofZ w64 
 pub cast-fits : (z : ℤ) → SFits w64 z → pos 0 ≤ℤ z → Cast z
 cast-fits z fits low = let e = toZ-ofZ w64 z fits in simp e (omega signed, omega sized)
 
--- an account or an item is in its place's range
+-- an account or an item is in its row's range
 abbrev pub Room : List ℕ → Event → Type 0
 Room m (Limit a (Own i f)) = (memoryBytes ≤ length m) × (a ≤ 16) × (i ≤ 32)
 Room m (Limit a (Default c f)) = (memoryBytes ≤ length m) × (a ≤ 16) × (c ≤ 8)

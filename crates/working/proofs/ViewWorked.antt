@@ -38,7 +38,7 @@ use Rattle.working.proofs.Writes.{few-after}
 use Rattle.working.proofs.Filling.{fill-one}
 use Rattle.working.proofs.Small.{Sized, small-line, small-group-line, small-after}
 
--- a fill moves the balance of its order's place alone
+-- a fill moves the balance of its order's account and instrument alone
 fill-moves : (unit : Order → ℕ) (o : Order) (n : ℕ) (S : ℕ → ℕ → ℤ)
     → at (o .account) (at (o .instrument) (S (o .account) (o .instrument) +ℤ fillMoves unit (o .account) (o .instrument) o n)
     (S (o .account))) S ≡ (λ b k. S b k +ℤ fillMoves unit b k o n)

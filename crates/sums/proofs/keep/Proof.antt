@@ -1,4 +1,5 @@
--- The order's cell is small and holds what counted of it: with the shift it holds what counts of it then, and no other cell moves.
+-- The order's cell holds B or V, which is small and at least what counted of the order: what counts then is put in and what counted
+-- taken out; no other cell moves.
 use Prim.Native.Nat.{_+_, _*_, _-_, _≤_, _<_}
 use mathlib.Core.Path.{_≡_, _∙_}
 use native.Mathlib.Omega.{arith}

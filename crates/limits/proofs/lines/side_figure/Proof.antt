@@ -1,4 +1,4 @@
--- The four bytes at the side's place in the word, which fit as contracts.
+-- The four bytes of the side in the word, which fit as contracts.
 use Prim.Native.Nat.{ℕ, _+_}
 use mathlib.Core.Path.{_∙_, ap}
 use native.Mathlib.Omega.{arith}

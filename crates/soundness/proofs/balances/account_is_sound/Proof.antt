@@ -1,5 +1,5 @@
 -- Where the whole row is small, each position is in range whatever the orders (`row-small`), B and V being bounded; else the
--- loop asks place by place, the first j being sound.
+-- loop asks instrument by instrument, the first j being sound.
 use Prim.Native.Nat.{_-_, _≤_}
 use mathlib.Core.Path.{_≡_}
 use mathlib.Core.Bool.{true}

@@ -1,4 +1,4 @@
--- Every number is at most the joined one, so where that is at most 1,000,000,000 each is; a no says nothing.
+-- Every number is at most the bits of all, so where that is at most 1,000,000,000 each is; a no says nothing.
 use native.Mathlib.Omega.{arith}
 use borrow.Author.Needs.{needs}
 use borrow.Author.Tests.{leb-true}

@@ -1,8 +1,8 @@
--- After j numbers each of them is at most `all`: a number with the bits of others is at least each (`joined-more`).
+-- After j numbers each of them is at most `all`: a number with the bits of others is at least each (`bits-more`).
 use Prim.Native.Nat.{ℕ, _+_, _*_, _-_, _≤_, _<_}
 use native.Mathlib.Omega.{arith}
 use Rattle.words.specs.Fields.{u32At}
-use Rattle.soundness.proofs.Joining.{joined-more}
+use Rattle.soundness.proofs.Joining.{bits-more}
 use Rattle.soundness.proofs.bits.bits_of_all.Statement.{statement}
 use Rattle.soundness.proofs.bits.bits_of_all.Tie as tie
 
@@ -17,7 +17,7 @@ loop-again c =
     let at = c .before .before in
     let s = at .before .before .args in (
       omega arith,
-      joined-more (λ p. u32At (s .m .now) (p * 4)) (s .k) (at .loop .j) (at .loop .all) _ (at .loop .inv .1)
+      bits-more (λ p. u32At (s .m .now) (p * 4)) (s .k) (at .loop .j) (at .loop .all) _ (at .loop .inv .1)
           (omega (arith, c .u32-at .ensures)),
     )
 

@@ -1,10 +1,10 @@
--- After j words each of them, moved up, is at most `all`: a number with the bits of others is at least each (`joined-more`).
+-- After j words each of them, with the offset added, is at most `all`: a number with the bits of others is at least each (`bits-more`).
 use Prim.Native.Nat.{ℕ, _+_, _-_, _≤_, _<_}
 use native.Mathlib.Omega.{arith}
 use borrow.Author.Needs.{needs}
 use Rattle.words.specs.Words.{wordAt}
 use Rattle.soundness.specs.Cells.{offsetWord}
-use Rattle.soundness.proofs.Joining.{joined-more}
+use Rattle.soundness.proofs.Joining.{bits-more}
 use Rattle.soundness.proofs.bits.bits_of_all_offset.Statement.{statement}
 use Rattle.soundness.proofs.bits.bits_of_all_offset.Tie as tie
 
@@ -19,7 +19,7 @@ loop-again c =
     let at = c .before .before .before in
     let s = at .before .before .args in (
       omega arith,
-      joined-more (λ p. offsetWord (wordAt (s .m .now) p)) (s .k) (at .loop .j) (at .loop .all) _ (at .loop .inv .1)
+      bits-more (λ p. offsetWord (wordAt (s .m .now) p)) (s .k) (at .loop .j) (at .loop .all) _ (at .loop .inv .1)
           (omega (arith, c .before .word .ensures, c .wrapping-add-u64 .ensures)),
     )
 

@@ -1,4 +1,4 @@
--- No total exceeds filled plus remaining of the joined details; where that does not tell, the loop asks record by record.
+-- No total exceeds filled plus remaining of the details' bits taken together; where that does not tell, the loop asks record by record.
 use Prim.Native.Nat.{_-_, _<_}
 use mathlib.Core.Path.{_≡_}
 use native.Mathlib.Omega.{arith}

@@ -1,4 +1,4 @@
--- A number below half of the words is the same as a signed one.
+-- A number of at most 9·10^18 is below 2^63, so that as a signed word it is itself.
 use native.Mathlib.Omega.{arith}
 use borrow.Author.Needs.{needs}
 use mir.Syntax.{w64}
