@@ -34,7 +34,7 @@ use Rattle.book.proofs.Potentials.{potentialOf}
 use Rattle.book.proofs.Within.{SetsNoBalance, kept-within}
 use Rattle.book.proofs.Marks.{marks-stay}
 use Rattle.book.proofs.LimitsStay.{limit-stays}
-use Rattle.book.proofs.Entering.{enters-lines, enters-marked}
+use Rattle.book.proofs.OrdersEntered.{enters-lines, enters-marked}
 use Rattle.book.proofs.Runs.{Holds, answers, holds-worked, holds-after, keep-accepted, keep-refused}
 
 -- an accepted event sets no balance of an account that is trading

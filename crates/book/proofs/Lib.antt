@@ -20,7 +20,7 @@ pub mod SoundOrders
 pub mod SoundSteps
 pub mod LimitsStay
 pub mod SetAgainLaws
-pub mod Entering
+pub mod OrdersEntered
 pub mod Runs
 pub mod StateLaws
 pub mod NotSetAgainLaws

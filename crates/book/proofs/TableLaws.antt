@@ -19,7 +19,7 @@ use Rattle.book.specs.Market.{Market}
 use Rattle.book.specs.OpenOrders.{find}
 use Rattle.book.specs.Books.{Book, newOrder, work}
 use Rattle.book.specs.Table.{raised, entered, questionsBefore, positionsAfter, limitQuestions, questions}
-use Rattle.book.proofs.Entering.{none-enters, raised-found}
+use Rattle.book.proofs.OrdersEntered.{none-enters, raised-found}
 
 abbrev pub numbersOf : List Question → List ℕ
 numbersOf qs = map (λ q. q .number) qs

@@ -11,5 +11,5 @@ pub mod Edges
 pub mod Listing
 mod Cutting
 mod SoundAfter
-mod Turns
+mod RunLoop
 pub mod RunList

@@ -12,7 +12,7 @@ use Rattle.soundness.specs.Soundness.{soundDesk}
 use Rattle.soundness.specs.Cells.{Sums}
 use Rattle.soundness.proofs.Gathering.{empty-cells}
 use Rattle.desk.proofs.Cutting.{event-within}
-use Rattle.desk.proofs.Turns.{Running, begins, turns, events-end, room-ends}
+use Rattle.desk.proofs.RunLoop.{Running, begins, turns, events-end, room-ends}
 use Rattle.desk.proofs.run.desk_run.Statement.{statement}
 use Rattle.desk.proofs.run.desk_run.Tie as tie
 
