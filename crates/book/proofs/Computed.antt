@@ -36,6 +36,7 @@ unfolding
     movesGroup within positionQuestions derivatives one named wellFormed eventOf decode find insert change kept emptyBook unsets lineOf
     groupLineOf setLine setBlock newOrder work mark isEvent accountKnown itemKnown figuresFit notYetTrading idOpen quantityFits entered
     idFree placeFree questionsBefore limitQuestions answer begun keep memoryAfter stateAfter lineSet lineOver asBytes bytesOf figureBytes
-    eventBytes bitsOf potentialIn instrumentIn groupIn rosterOfTables edgeTables starredEdges listingTables listingEvents longerTables morning
+    eventBytes bitsOf potentialIn instrumentIn groupIn rosterOfTables edgeTables starredEdges listingTables listingEvents longerTables
+    morning
     afternoon evening
 computes = tt

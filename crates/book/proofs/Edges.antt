@@ -105,7 +105,8 @@ accepted [] n = n
 accepted (m ∷ ms) n = cond (eqb m 0) (accepted ms n) 1000
 
 abbrev judged : List (List ℕ) → List ℕ → ℕ
-judged es n = accepted (answersTo roster begun (decoded es)) (answer derivatives roster (endState es .book) (endState es .trading) (decode n))
+judged es n =
+    accepted (answersTo roster begun (decoded es)) (answer derivatives roster (endState es .book) (endState es .trading) (decode n))
 
 -- limits that bind nothing; the default line; a group's line of 10 and 10, and an order of id 7, to buy 6
 abbrev wide : List ℕ

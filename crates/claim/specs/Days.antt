@@ -125,8 +125,8 @@ InEveryMemory Holds = (m : List ℕ) → Bytes m → 65536 ≤ length m → Hold
 unfoldable pub zeroMemory : List ℕ
 zeroMemory = replicate 65536 0
 
--- document 01's starred edges (crates/book/specs/Edges.antt), nine of them: the events before N are accepted, N gets this answer, and S, PCI
--- and PVI are these after it
+-- document 01's starred edges (crates/book/specs/Edges.antt), nine of them: the events before N are accepted, N gets this answer, and S,
+-- PCI and PVI are these after it
 abbrev pub edgeMemory : List (List ℕ) → List ℕ
 edgeMemory = memoryOver (afterOpening zeroMemory edgeRoster)
 

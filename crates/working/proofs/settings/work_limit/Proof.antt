@@ -1,4 +1,5 @@
--- Each level's line, by the name that the match gives it, is judged, so its words are inside the memory; what is stored there is what `worked` stores.
+-- Each level's line, by the name that the match gives it, is judged, so its words are inside the memory; what is stored there is what
+-- `worked` stores.
 use mathlib.Core.Path.{_∙_}
 use native.Mathlib.Omega.{arith}
 use borrow.Author.Needs.{needs}
