@@ -34,6 +34,9 @@ const PARTS: [i64; 2] = [4, 6];
 const SHORT: Limits = [0, 5, FAR, FAR];
 const LONG: Limits = [65_534, 0, 65_534, FAR];
 
+/// The question that a BALANCE of an account that trades is refused by.
+const TRADING: u8 = 10;
+
 /// A row as it was worked.
 struct Worked {
     name: &'static str,
@@ -231,6 +234,7 @@ fn balances(run: &mut Run) {
         ("H5", balance(6, 3, -2), 0, "−2 0 0 −2 2 0 0"),
         ("H6", balance(7, 3, 2), 0, "2 0 0 2 −2 0 0"),
     ]);
+    run.trial.refuse(TRADING, balance(1, 1, 2));
     assert_eq!(all_figures(&run.trial, 1), of_account_1);
 }
 

@@ -1,6 +1,6 @@
 //! docs/SIGNS.md as the rows of its day give it: the tables, whole, and the sentences that have figures.
 
-use super::{roster, Worked, FAR, GROUP, LONG, OPEN, OWN, PARTS, SHORT};
+use super::{roster, Worked, FAR, GROUP, LONG, OPEN, OWN, PARTS, SHORT, TRADING};
 use wire::{kind, Fields, BUY, SELL};
 
 const PAGE: &str = include_str!("../../../../docs/SIGNS.md");
@@ -451,27 +451,27 @@ fn of_limits(rows: &[Worked]) -> [String; 3] {
     ]
 }
 
-/// Positions where no order is open.
-fn of_balances(rows: &[Worked]) -> String {
+/// Positions where no order is open, and until when a balance is taken.
+fn of_balances(rows: &[Worked]) -> [String; 2] {
     let in_s = |figure: usize| {
         let of_row = |row: &Worked| in_terms_of_s(row.after[figure], row.after[0]);
         same(balances_of(rows).map(of_row))
     };
     balances_of(rows).for_each(|row| assert_eq!(row.after[6], -row.after[5], "{}", row.name));
-    format!("PCI = {}, PVI = {},", in_s(PCI), in_s(PVI))
+    [
+        format!("PCI = {}, PVI = {},", in_s(PCI), in_s(PVI)),
+        format!("is refused once the account trades (question {TRADING})."),
+    ]
 }
 
 /// What rows J begin with.
 fn of_fills(rows: &[Worked]) -> String {
     let j = block(rows, 'J');
     let own = same(j.chunks(4).map(|rows| rows[0].before[..=PVI].to_vec()));
-    let of_order = |row: &&&Worked| (row.of.side, row.of.item, row.of.id);
     let ids = (1..=3).map(|instrument| {
         let id = |side: u8| {
-            let order = j
-                .iter()
-                .find(|row| of_order(row).0 == side && of_order(row).1 == instrument);
-            order.expect("an order").of.id
+            let wanted = |row: &&&Worked| (row.of.side, row.of.item) == (side, instrument);
+            j.iter().find(wanted).expect("an order").of.id
         };
         let are = if instrument == 1 {
             " are the buy and the sell"
@@ -547,10 +547,13 @@ fn of_slips(rows: &[Worked]) -> Vec<String> {
     };
     let [s, b] = [short, long].map(written);
     let mut sentences = vec![format!(
+        "## 5. A balance of {s} read as {b}, and the opposite"
+    )];
+    sentences.push(format!(
         "Account 9 opens with {s}, {}; account 10 with {b}, {}.",
         limits(SHORT),
         limits(LONG)
-    )];
+    ));
     let (mut away, mut through) = (Vec::new(), Vec::new());
     for (account, was, read_as, limits) in [(9, short, long, SHORT), (10, long, short, LONG)] {
         let (was, read) = (written(was), written(read_as));
@@ -584,9 +587,10 @@ fn of_slips(rows: &[Worked]) -> Vec<String> {
 /// The page has the sentences whose figures the day gives.
 pub fn assert_has_sentences(rows: &[Worked]) {
     let page = PAGE.split_whitespace().collect::<Vec<_>>().join(" ");
-    let mut sentences = vec![of_roster(), of_balances(rows), of_fills(rows)];
+    let mut sentences = vec![of_roster(), of_fills(rows)];
     sentences.extend(of_orders(rows));
     sentences.extend(of_limits(rows));
+    sentences.extend(of_balances(rows));
     sentences.extend(of_slips(rows));
     for sentence in sentences {
         assert!(
