@@ -16,9 +16,10 @@ const EVENTS: usize = 88_000;
 /// How many of a kind whose rosters or lists of orders are the largest.
 const EVENTS_OF_THE_LARGEST: usize = 24_000;
 
-const LARGEST: [&str; 5] = [
+const LARGEST: [&str; 6] = [
     "ladder",
     "full list",
+    "sixteens",
     "largest roster",
     "largest figures",
     "rosters",

@@ -11,6 +11,7 @@ mod ladder;
 mod lines;
 mod rosters;
 mod shape;
+mod sixteens;
 mod sizes;
 mod small;
 mod traffic;
@@ -50,6 +51,7 @@ pub fn kinds() -> Vec<Kind> {
         edges::KIND,
         ladder::KIND,
         full::KIND,
+        sixteens::KIND,
         lines::KIND,
         blocks::KIND,
         balances::KIND,

@@ -110,6 +110,60 @@ fn a_full_list_says_18_and_takes_an_order_when_a_place_is_free() {
     assert!(count_pairs(&days, taken) >= 6);
 }
 
+/// The place of the id of an order's event: how many open ids are below it.
+fn place(step: &Step) -> Option<usize> {
+    let (Event::New { id, .. }
+    | Event::Replace { id, .. }
+    | Event::Cancel { id }
+    | Event::Fill { id, .. }) = step.event()?
+    else {
+        return None;
+    };
+    let below = step.before.orders.iter().filter(|order| order.id < id);
+    Some(below.count())
+}
+
+#[test]
+fn the_ends_of_each_sixteen_are_asked_for_and_the_ids_beside_them() {
+    let days = all("sixteens");
+    let raise = |class: &Class| matches!(class, Class::Raise(..));
+    let part = |class: &Class| matches!(class, Class::Fill(_, Quantity::Part));
+    let whole = |class: &Class| matches!(class, Class::Fill(_, Quantity::Whole));
+    let new = |class: &Class| matches!(class, Class::New(..));
+    let lower = |class: &Class| *class == Class::Lower;
+    let to_filled = |class: &Class| *class == Class::LowerToFilled;
+    let cancel = |class: &Class| *class == Class::Cancel;
+    let not_open: [fn(&Class) -> bool; 3] = [
+        |class| *class == Class::ReplaceNotOpen,
+        |class| *class == Class::CancelNotOpen,
+        |class| *class == Class::FillNotOpen,
+    ];
+    for open in [16, 32, 240, 256] {
+        let times = |wanted: fn(&Class) -> bool, at: usize, answer: u8| {
+            count(&days, |step| {
+                step.before.orders.len() == open
+                    && step.answer == answer
+                    && wanted(&step.class)
+                    && place(step) == Some(at)
+            })
+        };
+        for at in (0..open).step_by(16).flat_map(|first| [first, first + 15]) {
+            for class in [raise, lower, part, whole, cancel] as [fn(&Class) -> bool; 5] {
+                assert_eq!(times(class, at, 0), days.len(), "{at} of {open}");
+            }
+            assert_eq!(times(to_filled, at, 12), days.len(), "{at} of {open}");
+            assert_eq!(times(new, at, 13), days.len(), "{at} of {open}");
+        }
+        // before the first block, between two, and behind the last
+        for at in (0..=open).step_by(16) {
+            let blocks = if at % open == 0 { 1 } else { 2 };
+            for class in not_open {
+                assert_eq!(times(class, at, 11), blocks * days.len(), "{at} of {open}");
+            }
+        }
+    }
+}
+
 #[test]
 fn blocks_stop_orders_and_raises_and_nothing_else() {
     let days = all("blocks");
