@@ -2,8 +2,8 @@
 
 use super::super::{roster, Worked, FAR, GROUP, LONG, OPEN, OWN, PARTS, SHORT, TRADING};
 use super::{
-    balances_of, block, in_terms_of_s, names, order, question, same, side, weight, written, NAMES,
-    PAGE, PCI, PVI,
+    balances_of, block, in_terms_of_s, names, question, same, side, weight, written, NAMES, PAGE,
+    PCI, PVI,
 };
 use wire::{kind, BUY, SELL};
 
