@@ -15,14 +15,15 @@ use Rattle.limits.specs.Asked.{limitsSet, sizeFits, movesInstrument, movesGroup
 use Rattle.book.specs.Market.{derivatives}
 use Rattle.book.specs.Decoding.{named, wellFormed, eventOf, decode}
 use Rattle.book.specs.OpenOrders.{find, insert, change, kept}
-use Rattle.book.specs.Books.{emptyBook, unsets, lineOf, groupLineOf, setLine, setBlock, newOrder, work, mark}
+use Rattle.book.specs.Books.{emptyBook, unsets, lineOf, groupLineOf, setLine, setBlock, newOrder, changed, changedBalances, bookAfter}
+use Rattle.book.specs.States.{mark}
 use Rattle.book.specs.Table.{isEvent, accountKnown, itemKnown, figuresFit, notYetTrading, idOpen, quantityFits, entered}
 use Rattle.book.specs.Table.{idFree, placeFree, questionsBefore, limitQuestions, answer}
-use Rattle.book.specs.EventLists.{begun, keep, memoryAfter, stateAfter}
+use Rattle.book.specs.EventLists.{keep, memoryAfter, stateAfter}
 use Rattle.book.specs.SetAgain.{lineSet, lineOver}
 use Rattle.book.specs.EventBytes.{bytesOf, figureBytes, eventBytes}
 use Rattle.book.specs.Written.{asBytes}
-use Rattle.book.specs.Positions.{potentialIn, instrumentIn, groupIn}
+use Rattle.book.specs.Positions.{instrumentIn, groupIn}
 use Rattle.book.specs.Rosters.{rosterOfTables}
 use Rattle.book.specs.Edges.{edgeTables, starredEdges}
 use Rattle.book.specs.Listing.{listingTables, listingEvents}
@@ -34,9 +35,9 @@ unfolding
     ofInstrument groupPart sumGroup potential position fillMoves balanceAfter lineInForce limit firstNo allPass limitsSet sizeFits
     movesInstrument
     movesGroup within positionQuestions derivatives one named wellFormed eventOf decode find insert change kept emptyBook unsets lineOf
-    groupLineOf setLine setBlock newOrder work mark isEvent accountKnown itemKnown figuresFit notYetTrading idOpen quantityFits entered
-    idFree placeFree questionsBefore limitQuestions answer begun keep memoryAfter stateAfter lineSet lineOver asBytes bytesOf figureBytes
-    eventBytes bitsOf potentialIn instrumentIn groupIn rosterOfTables edgeTables starredEdges listingTables listingEvents longerTables
+    groupLineOf setLine setBlock newOrder changed changedBalances bookAfter mark isEvent accountKnown itemKnown figuresFit notYetTrading idOpen quantityFits entered
+    idFree placeFree questionsBefore limitQuestions answer keep memoryAfter stateAfter lineSet lineOver asBytes bytesOf figureBytes
+    eventBytes bitsOf instrumentIn groupIn rosterOfTables edgeTables starredEdges listingTables listingEvents longerTables
     morning
     afternoon evening
 computes = tt

@@ -10,7 +10,7 @@ use borrow.Author.Tests.{not-true, eqb-false}
 use Rattle.limits.specs.Asked.{isZero}
 use Rattle.limits.proofs.Answers.{both-true}
 use Rattle.book.specs.declared.Event.{Event}
-use Rattle.book.specs.declared.Event.the-variants.{Limit, Balance, Block, New, Replace, Cancel, Fill, Junk}
+use Rattle.book.specs.declared.Event.the-variants.{Limit, Balance, Block, New, Change, Junk}
 use Rattle.book.specs.Decoding.{kindOf, sideField, accountField, itemField, levelField, zeroField, idField, figureField, between}
 use Rattle.book.specs.Decoding.{byKind, Named, named, wellFormed, eventOf, decode}
 
@@ -20,9 +20,7 @@ HasId (Limit a l) = Unit
 HasId (Balance a i z) = Unit
 HasId (Block what z) = Unit
 HasId (New s a i id n) = 1 ≤ id
-HasId (Replace id n) = Unit
-HasId (Cancel id) = Unit
-HasId (Fill id n) = Unit
+HasId (Change id c) = Unit
 HasId Junk = Unit
 
 eighth : (a b c d e f g h i j k l : Bool) → a && b && c && d && e && f && g && h && i && j && k && l ≡ true → h ≡ true

@@ -13,9 +13,9 @@ use Rattle.book.specs.declared.Event.{Event}
 use Rattle.book.specs.declared.Event.the-variants.{Limit, Balance, New}
 use Rattle.book.specs.Market.{derivatives}
 use Rattle.book.specs.Decoding.{decode}
-use Rattle.book.specs.Books.{Book, withOrders, newOrder, work}
+use Rattle.book.specs.Books.{withOrders, newOrder}
+use Rattle.book.specs.States.{State, begun, work}
 use Rattle.book.specs.Table.{answer}
-use Rattle.book.specs.EventLists.{State, begun}
 use Rattle.book.specs.Positions.{instrumentIn}
 use Rattle.book.specs.Days.{answersTo, endOf, decoded}
 use Rattle.book.specs.EventBytes.{line, groupLine, balance, buy}
@@ -97,7 +97,7 @@ starred-events = refl
 -- ---- the other examples
 -- the state at the end of a day
 abbrev endState : List (List ℕ) → State
-endState es = endOf roster begun (decoded es)
+endState es = endOf (begun derivatives roster) (decoded es)
 
 -- the answer to N after events that are accepted; 1000 where one is not
 abbrev accepted : List ℕ → ℕ → ℕ
@@ -106,7 +106,7 @@ accepted (m ∷ ms) n = cond (eqb m 0) (accepted ms n) 1000
 
 abbrev judged : List (List ℕ) → List ℕ → ℕ
 judged es n =
-    accepted (answersTo roster begun (decoded es)) (answer derivatives roster (endState es .book) (endState es .trading) (decode n))
+    accepted (answersTo (begun derivatives roster) (decoded es)) (answer (endState es) (decode n))
 
 -- limits that bind nothing; the default line; a group's line of 10 and 10, and an order of id 7, to buy 6
 abbrev wide : List ℕ
@@ -124,7 +124,7 @@ small = line 100 100 10 10 ∷ groupLine 10 10 ∷ buy 1 7 6 ∷ []
 
 pub replaces : (judged small (replaceBytes 7 10) ≡ 0)
     × (judged small (replaceBytes 7 11) ≡ 21)
-    × (instrumentIn roster (endState (with-buy (fillBytes 7 2 ∷ replaceBytes 7 10 ∷ [])) .book) 1 1 ≡ pos 2 ∷ pos 10 ∷ minus 2 ∷ [])
+    × (instrumentIn (endState (with-buy (fillBytes 7 2 ∷ replaceBytes 7 10 ∷ []))) 1 1 ≡ pos 2 ∷ pos 10 ∷ minus 2 ∷ [])
     × (judged (with-buy (blockBytes 1 1 0 1 ∷ line 1 1 0 0 ∷ [])) (replaceBytes 7 5) ≡ 0)
     × (judged (with-buy (blockBytes 1 1 0 1 ∷ line 1 1 0 0 ∷ [])) (replaceBytes 7 6) ≡ 0)
     × (judged (with-buy (blockBytes 1 1 0 1 ∷ [])) (replaceBytes 7 7) ≡ 14)
@@ -183,12 +183,18 @@ abbrev openBuys : ℕ → List Order
 openBuys zero = []
 openBuys (suc n) = newOrder Buy 1 3 (suc n) (pos 1) ∷ openBuys n
 
-abbrev crowded : ℕ → Book
-crowded n = withOrders (endState (wide ∷ groupLine 10 10 ∷ []) .book) (openBuys n)
+abbrev crowded : ℕ → State
+crowded n =
+    record {
+      market = derivatives;
+      roster = roster;
+      book = withOrders (endState (wide ∷ groupLine 10 10 ∷ []) .book) (openBuys n);
+      beside = record { trading = λ a. true };
+    }
 
 pub open-orders : (ids (endState (wide ∷ groupLine 10 10 ∷ buy 1 8 1 ∷ buy 1 7 1 ∷ buy 1 9 1 ∷ []) .book .orders) ≡ 7 ∷ 8 ∷ 9 ∷ [])
-    × (answer derivatives roster (crowded 255) (λ a. true) (decode (buy 3 300 1)) ≡ 0)
-    × (answer derivatives roster (crowded 256) (λ a. true) (decode (buy 3 300 1)) ≡ 18)
-    × (answer derivatives roster (work (λ o. 1) (crowded 256) (decode (cancelBytes 200))) (λ a. true) (decode (buy 3 300 1)) ≡ 0)
+    × (answer (crowded 255) (decode (buy 3 300 1)) ≡ 0)
+    × (answer (crowded 256) (decode (buy 3 300 1)) ≡ 18)
+    × (answer (work (crowded 256) (decode (cancelBytes 200))) (decode (buy 3 300 1)) ≡ 0)
 unfolding computes
 open-orders = (refl, refl, refl, refl)

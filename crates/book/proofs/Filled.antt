@@ -8,7 +8,7 @@ use mathlib.Core.List.{List, [], _∷_, _++_, List·Memᴰ, List·Memᴰ·head, 
 use mathlib.Core.Option.{some}
 use native.Mathlib.Decide.{ℕ-discrete}
 use native.Mathlib.Omega.{arith}
-use lib.Dec.{eqb, leb}
+use lib.Dec.{eqb}
 use lib.IntN.{ℤ, pos, negℤ, natAbs, _+ℤ_, +ℤ-idr}
 use borrow.Author.Tests.{leb-true}
 use Rattle.integers.specs.Parts.{signed, sum-parts, negation-parts}
@@ -16,20 +16,21 @@ use Rattle.ledger.specs.declared.order.Order.{Order}
 use Rattle.ledger.specs.declared.order.Side.{Side}
 use Rattle.ledger.specs.declared.order.Side.the-variants.{Buy, Sell}
 use Rattle.ledger.specs.Orders.{remaining, filledBy}
-use Rattle.ledger.specs.Roster.{Roster}
 use Rattle.ledger.specs.Positions.{toward, wayOf, standsIn}
 use Rattle.ledger.specs.Fillings.{Filling, none, fill, fillMoves, balanceAfter}
-use Rattle.book.specs.declared.Event.the-variants.{Fill}
-use Rattle.book.specs.Market.{Market, UnitKept}
+use Rattle.book.specs.declared.OrderChange.the-variants.{Fill}
+use Rattle.book.specs.declared.Event.{Event}
+use Rattle.book.specs.Market.{Market}
 use Rattle.book.specs.OpenOrders.{find, change, kept}
-use Rattle.book.specs.Books.{Book, work, mark}
-use Rattle.book.specs.Table.{idOpen, quantityFits, answer}
+use Rattle.book.specs.Books.{changed, bookAfter}
+use Rattle.book.specs.States.{State, work}
+use Rattle.book.specs.Table.{answer}
 use Rattle.book.specs.Sound.{Sound}
 use Rattle.book.proofs.Accepted.{accepted}
-use Rattle.book.proofs.Shifts.{filled-remaining, kept-none, kept-some, fill-balances}
-use Rattle.book.proofs.Within.{found-order, test-found}
+use Rattle.book.proofs.Shifts.{filled-remaining, kept-none, kept-some, no-fill, change-balances}
+use Rattle.book.proofs.Within.{named-order}
 use Rattle.book.proofs.SoundSteps.{sound-step}
-use Rattle.book.proofs.Fills.{leaves, no-fill, kept-whole, after-moved, Fills, done, then}
+use Rattle.book.proofs.Fills.{leaves, kept-whole, after-moved, fillOf, Fills, done, then}
 
 -- ---- a filling by nothing, and of one order
 -- a filling f that moves each balance as `moved` says, and leaves `rest` open
@@ -158,50 +159,50 @@ module _ (unit : Order → ℕ) (same-unit : (o : Order) (n : ℕ) → unit (fil
           )
 
 -- ---- accepted FILLs are a filling
--- of a book's open orders, with the balances and the orders that another book has
-pub record FilledTo (mk : Market) (b b′ : Book) : Type 0 where
-  pub filling : Filling (b .orders)
-  pub balances : (a i : ℕ) → b′ .balanceOf a i ≡ balanceAfter (mk .unit) a (b .balanceOf a) filling i
-  pub orders : b′ .orders ≡ leaves filling
+-- of a state's open orders, with the balances and the orders that another has
+pub record FilledTo (k k′ : State) : Type 0 where
+  pub filling : Filling (k .book .orders)
+  pub balances : (a i : ℕ) → k′ .book .balanceOf a i ≡ balanceAfter (k .market .unit) a (k .book .balanceOf a) filling i
+  pub orders : k′ .book .orders ≡ leaves filling
 
-module _ (mk : Market) (keeps : UnitKept mk) (r : Roster) (trading : ℕ → Bool) where
-  -- one accepted FILL is a filling of the order that it names, by its quantity
-  pub fill-filling : (b : Book) → Sound mk r b trading → (id : ℕ) (n : ℤ) → answer mk r b trading (Fill id n) ≡ 0
-      → FilledTo mk b (work (mk .unit) b (Fill id n))
-  unfolding work idOpen quantityFits
-  fill-filling b sound id n zero =
-      let ok = accepted mk r b trading (Fill id n) zero .passed in
-      let f = found-order id b (ok .found) in
-      let o = f .0 in
-      let most = leb-true (natAbs n) (remaining o)
-      (test-found (λ x. leb (natAbs n) (remaining x)) (find id (b .orders)) o (f .1) (ok .quantity)) in
-      let h = of-one (mk .unit) (b .orders) (λ x m. sound .fits x m .remains) id (natAbs n) o (f .1) most in
-      record {
-        filling = h .0;
-        balances = λ a i. fill-balances mk b keeps id o (f .1) n a i ∙ sym (h .1 a (b .balanceOf a) i);
-        orders = sym (h .2);
-      }
+-- one accepted FILL is a filling of the order that it names, by its quantity
+pub fill-filling : (k : State) → Sound k → (id : ℕ) (n : ℤ) → answer k (fillOf id n) ≡ 0 → FilledTo k (work k (fillOf id n))
+unfolding bookAfter changed
+fill-filling k sound id n zero =
+    let x = named-order k id (Fill n) (accepted k (fillOf id n) zero .passed) in
+    let o = x .order in
+    let most = leb-true (natAbs n) (remaining o) (x .fits) in
+    let h = of-one (k .market .unit) (k .book .orders) (λ y m. sound .fits y m .remains) id (natAbs n) o (x .found) most in
+    record {
+      filling = h .0;
+      balances = λ a i. change-balances k id o (x .found) (Fill n) a i ∙ sym (h .1 a (k .book .balanceOf a) i);
+      orders = sym (h .2);
+    }
 
-  joined-to : {os : List Order} (f : Filling os) (rest : List Order) → leaves f ≡ rest → (g : Filling rest) → Joins (mk .unit) f g
-  joined-to f rest e = subst (λ l. (g : Filling l) → Joins (mk .unit) f g) e (joined (mk .unit) (keeps .filled) f)
+joined-to : (mk : Market) {os : List Order} (f : Filling os) (rest : List Order) → leaves f ≡ rest → (g : Filling rest)
+    → Joins (mk .unit) f g
+joined-to mk f rest e = subst (λ l. (g : Filling l) → Joins (mk .unit) f g) e (joined (mk .unit) (mk .unit-filled) f)
 
-  then-filled : (b b₁ b′ : Book) → FilledTo mk b b₁ → FilledTo mk b₁ b′ → FilledTo mk b b′
-  then-filled b b₁ b′ first second =
-      let h = joined-to (first .filling) (b₁ .orders) (sym (first .orders)) (second .filling) in
-      record {
-        filling = h .0;
-        balances = λ a i.
-            second .balances a i
-            ∙ ap (λ S. balanceAfter (mk .unit) a S (second .filling) i) (fun-ext (first .balances a))
-            ∙ sym (h .1 a (b .balanceOf a) i);
-        orders = second .orders ∙ sym (h .2);
-      }
+then-filled : (k : State) (e : Event) (k′ : State) → FilledTo k (work k e) → FilledTo (work k e) k′ → FilledTo k k′
+then-filled k e k′ first second =
+    let h = joined-to (k .market) (first .filling) (work k e .book .orders) (sym (first .orders)) (second .filling) in
+    record {
+      filling = h .0;
+      balances = λ a i.
+          second .balances a i
+          ∙ ap (λ S. balanceAfter (k .market .unit) a S (second .filling) i) (fun-ext (first .balances a))
+          ∙ sym (h .1 a (k .book .balanceOf a) i);
+      orders = second .orders ∙ sym (h .2);
+    }
 
-  pub filling-of : {b b′ : Book} → Fills mk r trading b b′ → Sound mk r b trading → FilledTo mk b b′
-  unfolding mark
-  filling-of (done {b}) sound =
-      let h = by-nothing (mk .unit) (b .orders) (λ x m. sound .fits x m .remains) in
-      record { filling = h .0; balances = λ a i. sym (h .1 a (b .balanceOf a) i ∙ +ℤ-idr (b .balanceOf a i)); orders = sym (h .2) }
-  filling-of (then {b} {b′} id n zero rest) sound =
-      then-filled b (work (mk .unit) b (Fill id n)) b′ (fill-filling b sound id n zero)
-      (filling-of rest (sound-step mk keeps r b trading sound (Fill id n) tt zero))
+pub filling-of : {k k′ : State} → Fills k k′ → Sound k → FilledTo k k′
+filling-of (done {k}) sound =
+    let h = by-nothing (k .market .unit) (k .book .orders) (λ x m. sound .fits x m .remains) in
+    record {
+      filling = h .0;
+      balances = λ a i. sym (h .1 a (k .book .balanceOf a) i ∙ +ℤ-idr (k .book .balanceOf a i));
+      orders = sym (h .2);
+    }
+filling-of (then {k} {k′} id n zero rest) sound =
+    then-filled k (fillOf id n) k′ (fill-filling k sound id n zero)
+    (filling-of rest (sound-step k sound (fillOf id n) tt zero))

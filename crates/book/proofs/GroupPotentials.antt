@@ -21,12 +21,14 @@ use Rattle.ledger.proofs.Ways.{by-number}
 use Rattle.ledger.proofs.Groups.{groupTerm, group-sum}
 use Rattle.ledger.proofs.Scopes.{weight-way, wayTo, weightedAt, potential-weighted, potential-same}
 use Rattle.ledger.proofs.Changes.{CountChanged, shift-own, shift-unmoved, fill-level}
-use Rattle.book.specs.declared.Event.the-variants.{New, Replace, Cancel, Fill}
-use Rattle.book.specs.Market.{Market, UnitKept}
+use Rattle.book.specs.declared.OrderChange.the-variants.{Replace, Cancel, Fill}
+use Rattle.book.specs.declared.Event.the-variants.{New, Change}
 use Rattle.book.specs.OpenOrders.{find}
-use Rattle.book.specs.Books.{Book, withOrders, newOrder, work}
-use Rattle.book.proofs.Shifts.{replace-shift, cancel-shift, fill-shift, fill-balances}
-use Rattle.book.proofs.Potentials.{potentialOf, new-unmoved, new-own, fill-own, fill-other-side}
+use Rattle.book.specs.Books.{newOrder, changedBalances, bookAfter}
+use Rattle.book.specs.States.{State, work}
+use Rattle.book.specs.Positions.{potentialOf}
+use Rattle.book.proofs.Shifts.{change-shift, change-balances}
+use Rattle.book.proofs.Potentials.{new-unmoved, new-own, fill-own, fill-other-side}
 
 -- ---- a sum over a group, where one instrument's term moves by d
 group-term : (r : Roster) (f : ℕ → ℤ) (k : ℕ) → groupTerm r (groupOfInstrument r (suc k)) f k ≡ f (suc k)
@@ -93,42 +95,47 @@ against-way (negsuc k) w v e = sym (opposite-twice v) ∙ ap opposite e
     opposite-twice short = refl
 
 -- ---- NEW, REPLACE, CANCEL and FILL, at the group of the order's instrument
-module _ (mk : Market) (r : Roster) (b : Book) where
+module _ (k : State) where
+  abbrev r : Roster
+  r = k .roster
+
   -- the side to which the order's fills move its group rises by |K| times the quantity
   pub new-group : (s : Side) (a i id : ℕ) (n : ℤ) (w : Way)
       → Numbered (r .instruments) i
       → Moves r (newOrder s a i id n) (group (groupOfInstrument r i)) w
-      → potentialOf mk r (work (mk .unit) b (New s a i id n)) a (group (groupOfInstrument r i)) w
-      ≡ potentialOf mk r b a (group (groupOfInstrument r i)) w
-      +ℤ pos (natAbs (r .weight i)) *ℤ pos (mk .unit (newOrder s a i id n) * natAbs n)
-  unfolding work potential newOrder
+      → potentialOf (work k (New s a i id n)) a (group (groupOfInstrument r i)) w
+      ≡ potentialOf k a (group (groupOfInstrument r i)) w
+      +ℤ pos (natAbs (r .weight i)) *ℤ pos (k .market .unit (newOrder s a i id n) * natAbs n)
+  unfolding bookAfter potential newOrder
   new-group s a i id n w numbered moves =
       let K = r .weight i in
       let way : wayBy K w ≡ wayOf s = ap (wayBy K) (sym (moves .2)) ∙ weight-way K (wayOf s) in
-      group-moved (mk .unit) r a (b .orders) (work (mk .unit) b (New s a i id n) .orders) (b .balanceOf a) (b .balanceOf a) w i numbered
-      (λ j apart v. sym (new-unmoved mk r b a (instrument j) v s a i id n (λ m. apart (sym (m .0)))))
-      (pos (mk .unit (newOrder s a i id n) * natAbs n))
-      (rw way (new-own mk r b s a i id n))
+      group-moved (k .market .unit) r a (k .book .orders) (work k (New s a i id n) .book .orders) (k .book .balanceOf a) (k .book .balanceOf a) w i
+      numbered
+      (λ j apart v. sym (new-unmoved k a (instrument j) v s a i id n (λ m. apart (sym (m .0)))))
+      (pos (k .market .unit (newOrder s a i id n) * natAbs n))
+      (rw way (new-own k s a i id n))
 
   -- a REPLACE moves that side by |K| times what comes to remain less what remained, a CANCEL lowers it by |K| times what remained
-  module _ (keeps : UnitKept mk) (id : ℕ) (o : Order) (found : find id (b .orders) ≡ some o) (w : Way) where
-    abbrev ownSide : Book → ℤ
-    ownSide book = potentialOf mk r book (o .account) (group (groupOfInstrument r (o .instrument))) w
+  module _ (id : ℕ) (o : Order) (found : find id (k .book .orders) ≡ some o) (w : Way) where
+    abbrev ownSide : State → ℤ
+    ownSide h = potentialOf h (o .account) (group (groupOfInstrument r (o .instrument))) w
 
     abbrev counts : ℕ → ℤ
-    counts m = pos (mk .unit o * m)
+    counts m = pos (k .market .unit o * m)
 
-    shifted-group : {m m′ : ℕ} {orders : List Order} → CountChanged (mk .unit) o m m′ (b .orders) orders
+    shifted-group : {m m′ : ℕ} {orders : List Order} → CountChanged (k .market .unit) o m m′ (k .book .orders) orders
         → Numbered (r .instruments) (o .instrument)
         → Moves r o (group (groupOfInstrument r (o .instrument))) w
-        → ownSide (withOrders b orders) ≡ ownSide b +ℤ pos (natAbs (r .weight (o .instrument))) *ℤ (counts m′ -ℤ counts m)
+        → potential (k .market .unit) r orders (o .account) (k .book .balanceOf (o .account)) (group (groupOfInstrument r (o .instrument))) w
+        ≡ ownSide k +ℤ pos (natAbs (r .weight (o .instrument))) *ℤ (counts m′ -ℤ counts m)
     unfolding potential
     shifted-group {m} {m′} {orders} shift numbered moves =
         let a = o .account in
-        let S = b .balanceOf a in
+        let S = k .book .balanceOf a in
         let K = r .weight (o .instrument) in
-        let x = ofInstrument (mk .unit) (b .orders) a S (o .instrument) (wayOf (o .side)) in
-        let y = ofInstrument (mk .unit) orders a S (o .instrument) (wayOf (o .side)) in
+        let x = ofInstrument (k .market .unit) (k .book .orders) a S (o .instrument) (wayOf (o .side)) in
+        let y = ofInstrument (k .market .unit) orders a S (o .instrument) (wayOf (o .side)) in
         let way : wayBy K w ≡ wayOf (o .side) = ap (wayBy K) (sym (moves .2)) ∙ weight-way K (wayOf (o .side)) in
         let moved : y ≡ x +ℤ (counts m′ -ℤ counts m) =
         omega (
@@ -139,82 +146,82 @@ module _ (mk : Market) (r : Roster) (b : Book) where
           difference-parts (counts m′) (counts m),
           sum-parts x (counts m′ -ℤ counts m),
         ) in
-        group-moved (mk .unit) r a (b .orders) orders S S w (o .instrument) numbered
+        group-moved (k .market .unit) r a (k .book .orders) orders S S w (o .instrument) numbered
         (λ j apart v. sym (shift-unmoved shift a S r (instrument j) v (λ h. apart (sym (h .0)))))
         (counts m′ -ℤ counts m)
         (rw way moved)
 
     pub replace-group : (n : ℤ) → Numbered (r .instruments) (o .instrument)
         → Moves r o (group (groupOfInstrument r (o .instrument))) w
-        → ownSide (work (mk .unit) b (Replace id n))
-        ≡ ownSide b +ℤ pos (natAbs (r .weight (o .instrument))) *ℤ (counts (natAbs n - o .filled) -ℤ counts (o .total - o .filled))
-    unfolding work
-    replace-group n = shifted-group (replace-shift mk b keeps id o found n)
+        → ownSide (work k (Change id (Replace n)))
+        ≡ ownSide k +ℤ pos (natAbs (r .weight (o .instrument))) *ℤ (counts (natAbs n - o .filled) -ℤ counts (remaining o))
+    unfolding bookAfter changedBalances
+    replace-group n = shifted-group (change-shift k id o found (Replace n))
 
     pub cancel-group : Numbered (r .instruments) (o .instrument)
         → Moves r o (group (groupOfInstrument r (o .instrument))) w
-        → ownSide (work (mk .unit) b (Cancel id))
-        ≡ ownSide b -ℤ pos (natAbs (r .weight (o .instrument))) *ℤ counts (remaining o)
-    unfolding work
+        → ownSide (work k (Change id Cancel))
+        ≡ ownSide k -ℤ pos (natAbs (r .weight (o .instrument))) *ℤ counts (remaining o)
+    unfolding bookAfter changedBalances
     cancel-group numbered moves =
-        let k = natAbs (r .weight (o .instrument)) in
+        let K = natAbs (r .weight (o .instrument)) in
         let y = counts (remaining o) in
         let less : counts 0 -ℤ y ≡ negℤ y = omega (signed, difference-parts (counts 0) y, negation-parts y) in
-        shifted-group (cancel-shift mk b keeps id o found) numbered moves
-        ∙ ap (λ (z : ℤ). ownSide b +ℤ z) (ap (λ (z : ℤ). pos k *ℤ z) less ∙ *ℤ-negℤ (pos k) y)
+        shifted-group (change-shift k id o found Cancel) numbered moves
+        ∙ ap (λ (z : ℤ). ownSide k +ℤ z) (ap (λ (z : ℤ). pos K *ℤ z) less ∙ *ℤ-negℤ (pos K) y)
 
-  module _ (keeps : UnitKept mk) (id : ℕ) (o : Order) (found : find id (b .orders) ≡ some o) (n : ℤ) (most : natAbs n ≤ remaining o) where
-    abbrev filled : Book
-    filled = work (mk .unit) b (Fill id n)
+  module _ (id : ℕ) (o : Order) (found : find id (k .book .orders) ≡ some o) (n : ℤ) (most : natAbs n ≤ remaining o) where
+    abbrev filled : State
+    filled = work k (Change id (Fill n))
 
     abbrev own : Scope
     own = group (groupOfInstrument r (o .instrument))
 
-    abbrev ofAccount : Book → Scope → Way → ℤ
-    ofAccount book p w = potentialOf mk r book (o .account) p w
+    abbrev ofAccount : State → Scope → Way → ℤ
+    ofAccount h p w = potentialOf h (o .account) p w
 
     -- other instruments stay
-    others : (j : ℕ) → j ≢ o .instrument → (v : Way) → ofAccount b (instrument j) v ≡ ofAccount filled (instrument j) v
+    others : (j : ℕ) → j ≢ o .instrument → (v : Way) → ofAccount k (instrument j) v ≡ ofAccount filled (instrument j) v
     unfolding potential
     others j apart v =
         let a = o .account in
-        sym (fill-level (fill-shift mk b keeps id o found n most) (natAbs n) (omega arith) a (b .balanceOf a) (filled .balanceOf a)
-        (fill-balances mk b keeps id o found n a) j v (λ h. apart (sym (h .2))))
+        sym (fill-level (change-shift k id o found (Fill n)) (natAbs n) (omega arith) a (k .book .balanceOf a) (filled .book .balanceOf a)
+        (change-balances k id o found (Fill n) a) j v (λ h. apart (sym (h .2))))
 
     group-filled : Numbered (r .instruments) (o .instrument) → (w : Way) (d : ℤ)
         → ofAccount filled (instrument (o .instrument)) (wayBy (r .weight (o .instrument)) w)
-        ≡ ofAccount b (instrument (o .instrument)) (wayBy (r .weight (o .instrument)) w) +ℤ d
-        → ofAccount filled own w ≡ ofAccount b own w +ℤ pos (natAbs (r .weight (o .instrument))) *ℤ d
+        ≡ ofAccount k (instrument (o .instrument)) (wayBy (r .weight (o .instrument)) w) +ℤ d
+        → ofAccount filled own w ≡ ofAccount k own w +ℤ pos (natAbs (r .weight (o .instrument))) *ℤ d
     unfolding potential
     group-filled numbered w d moved =
         let a = o .account in
-        group-moved (mk .unit) r a (b .orders) (filled .orders) (b .balanceOf a) (filled .balanceOf a) w (o .instrument) numbered
-        others d moved
+        group-moved (k .market .unit) r a (k .book .orders) (filled .book .orders) (k .book .balanceOf a) (filled .book .balanceOf a) w
+        (o .instrument) numbered others d moved
 
     -- a FILL leaves the side to which the order's fills move its group, and lowers the other by |K| times the quantity
     pub fill-group-own : (w : Way) → Numbered (r .instruments) (o .instrument) → Moves r o own w
-        → ofAccount filled own w ≡ ofAccount b own w
+        → ofAccount filled own w ≡ ofAccount k own w
     fill-group-own w numbered moves =
         let K = r .weight (o .instrument) in
         let way : wayBy K w ≡ wayOf (o .side) = ap (wayBy K) (sym (moves .2)) ∙ weight-way K (wayOf (o .side)) in
-        group-filled numbered w (pos 0) (rw way (fill-own mk r b keeps id o found n most ∙ sym (+ℤ-idr _)))
-        ∙ ap (λ z. ofAccount b own w +ℤ z) (times-0 (natAbs K))
+        group-filled numbered w (pos 0) (rw way (fill-own k id o found n most ∙ sym (+ℤ-idr _)))
+        ∙ ap (λ z. ofAccount k own w +ℤ z) (times-0 (natAbs K))
         ∙ +ℤ-idr _
 
     pub fill-group-other-side : (w : Way) → Numbered (r .instruments) (o .instrument) → Moves r o own (opposite w)
         → ofAccount filled own w
-        ≡ ofAccount b own w -ℤ pos (natAbs (r .weight (o .instrument))) *ℤ pos (mk .unit o * natAbs n)
+        ≡ ofAccount k own w -ℤ pos (natAbs (r .weight (o .instrument))) *ℤ pos (k .market .unit o * natAbs n)
     fill-group-other-side w numbered moves =
         let K = r .weight (o .instrument) in
-        let x = pos (mk .unit o * natAbs n) in
+        let x = pos (k .market .unit o * natAbs n) in
         let against : wayOf (o .side) ≡ opposite (wayBy K w) = against-way K w (wayOf (o .side)) (moves .2) in
-        group-filled numbered w (negℤ x) (fill-other-side mk r b keeps id o found n most (wayBy K w) against)
-        ∙ ap (λ z. ofAccount b own w +ℤ z) (*ℤ-negℤ (pos (natAbs K)) x)
+        group-filled numbered w (negℤ x) (fill-other-side k id o found n most (wayBy K w) against)
+        ∙ ap (λ z. ofAccount k own w +ℤ z) (*ℤ-negℤ (pos (natAbs K)) x)
 
     -- at weight 0 it moves neither
-    pub fill-at-weight-0 : (w : Way) → r .weight (o .instrument) ≡ pos 0 → ofAccount filled own w ≡ ofAccount b own w
+    pub fill-at-weight-0 : (w : Way) → r .weight (o .instrument) ≡ pos 0 → ofAccount filled own w ≡ ofAccount k own w
     unfolding potential
     fill-at-weight-0 w weightless =
         let a = o .account in
-        potential-same (mk .unit) r a (filled .orders) (b .orders) (filled .balanceOf a) (b .balanceOf a) own w
+        potential-same (k .market .unit) r a (filled .book .orders) (k .book .orders) (filled .book .balanceOf a) (k .book .balanceOf a) own w
         (λ j bears. sym (others j (λ e. bears .1 (ap (r .weight) e ∙ weightless)) (wayTo r own w j)))

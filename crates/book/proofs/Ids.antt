@@ -9,11 +9,15 @@ use mathlib.Core.List.{List·Memᴰ·append-cases, Memᴰ·append-left, Memᴰ·
 use mathlib.Core.Option.{some}
 use native.Mathlib.Omega.{arith}
 use lib.Dec.{eqb}
+use lib.IntN.{natAbs}
 use borrow.Author.Tests.{eqb-true, eqb-false, eq-eqb, ne-eqb}
 use Rattle.ledger.specs.declared.order.Order.{Order}
 use Rattle.ledger.specs.Orders.{filledBy, replacedTotal, closes}
 use Rattle.ledger.proofs.Ways.{by-number}
+use Rattle.book.specs.declared.OrderChange.{OrderChange}
+use Rattle.book.specs.declared.OrderChange.the-variants.{Replace, Cancel, Fill}
 use Rattle.book.specs.OpenOrders.{find, change, kept}
+use Rattle.book.specs.Books.{changed}
 use Rattle.book.specs.Sound.{Ascending, nothing, next}
 
 -- what a change makes of an order: nothing, or an order of the same id
@@ -29,13 +33,11 @@ kept-became o o′ e = by (closes o′)
     by true = gone
     by false = became e
 
-pub replaced-became : (n : ℕ) (o : Order) → Became o (replacedTotal o n ∷ [])
-unfolding replacedTotal
-replaced-became n o = became refl
-
-pub filled-became : (n : ℕ) (o : Order) → Became o (kept (filledBy o n))
-unfolding filledBy
-filled-became n o = kept-became o (filledBy o n) refl
+pub changed-became : (c : OrderChange) (o : Order) → Became o (changed c o)
+unfolding changed replacedTotal filledBy
+changed-became (Replace n) o = became refl
+changed-became Cancel o = gone
+changed-became (Fill n) o = kept-became o (filledBy o (natAbs n)) refl
 
 -- ---- ascending
 pub ascending-from : {m n : ℕ} {os : List Order} → m ≤ n → Ascending n os → Ascending m os

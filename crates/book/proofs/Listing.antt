@@ -6,21 +6,18 @@ use lib.ListN.{take, getD, set}
 use mathlib.Core.List.{List, [], _∷_, _++_}
 use lib.IntN.{pos, negsuc}
 use Rattle.ledger.specs.Roster.{Roster}
-use Rattle.ledger.specs.Positions.{instrument, group, long, potential}
+use Rattle.ledger.specs.Positions.{instrument, group, long}
 use Rattle.ledger.specs.Fillings.{none, fill}
 use Rattle.ledger.specs.declared.order.Order.{Order}
 use Rattle.ledger.specs.declared.order.Side.the-variants.{Buy, Sell}
-use Rattle.book.specs.declared.Event.{Event}
 use Rattle.book.specs.declared.Event.the-variants.{New, Junk}
-use Rattle.limits.specs.Lines.{limit}
 use Rattle.book.specs.Market.{derivatives}
 use Rattle.book.specs.Decoding.{decode}
-use Rattle.book.specs.Books.{Book, work}
-use Rattle.book.specs.EventLists.{State, begun}
-use Rattle.book.specs.Positions.{instrumentIn, groupIn}
+use Rattle.book.specs.States.{State, begun, work}
+use Rattle.book.specs.Positions.{potentialOf, instrumentIn, groupIn}
 use Rattle.book.specs.Rosters.{rosterOfTables}
 use Rattle.book.specs.Listing.{listingTables, listingEvents}
-use Rattle.book.specs.Demand3.{SomeFillingPasses}
+use Rattle.book.specs.Demand3.{limitOf, SomeFillingPasses}
 use Rattle.book.specs.Days.{answersTo, endOf, decoded}
 use Rattle.book.proofs.Computed.{computes}
 
@@ -28,23 +25,23 @@ abbrev pub listingRoster : Roster
 listingRoster = rosterOfTables listingTables
 
 abbrev pub listingEnd : State
-listingEnd = endOf listingRoster begun (decoded listingEvents)
+listingEnd = endOf (begun derivatives listingRoster) (decoded listingEvents)
 
 -- the answers, from 1 on; then S, PCI and PVI of each instrument, and PCC and PVC
-pub listing : (answersTo listingRoster begun (decoded listingEvents) ≡ 0 ∷ 0 ∷ 0 ∷ 0 ∷ 23 ∷ 0 ∷ 0 ∷ 0 ∷ [])
-    × (instrumentIn listingRoster (listingEnd .book) 1 1 ≡ pos 10 ∷ pos 10 ∷ negsuc 9 ∷ [])
-    × (instrumentIn listingRoster (listingEnd .book) 1 2 ≡ pos 0 ∷ pos 4 ∷ pos 0 ∷ [])
-    × (groupIn listingRoster (listingEnd .book) 1 1 ≡ pos 100000 ∷ negsuc 79999 ∷ [])
+pub listing : (answersTo (begun derivatives listingRoster) (decoded listingEvents) ≡ 0 ∷ 0 ∷ 0 ∷ 0 ∷ 23 ∷ 0 ∷ 0 ∷ 0 ∷ [])
+    × (instrumentIn listingEnd 1 1 ≡ pos 10 ∷ pos 10 ∷ negsuc 9 ∷ [])
+    × (instrumentIn listingEnd 1 2 ≡ pos 0 ∷ pos 4 ∷ pos 0 ∷ [])
+    × (groupIn listingEnd 1 1 ≡ pos 100000 ∷ negsuc 79999 ∷ [])
 unfolding computes
 listing = (refl, refl, refl, refl)
 
 -- ---- the fifth event, N, is refused by 23, and a filling shows why: all 62 of order 7 and the 1 of N put the group's
 -- position at 605,000 ten-thousandths, past its limit of 600,000
-abbrev before : List Event
-before = decoded (take 4 listingEvents)
+abbrev before : State
+before = endOf (begun derivatives listingRoster) (decoded (take 4 listingEvents))
 
-abbrev withSell : Book
-withSell = work (λ o. 1) (endOf listingRoster begun before .book) (decode (getD listingEvents 4 []))
+abbrev withSell : State
+withSell = work before (decode (getD listingEvents 4 []))
 
 -- order 7 and N, open
 abbrev buy-7 : Order
@@ -53,14 +50,12 @@ buy-7 = record { id = 7; account = 1; instrument = 1; side = Buy; total = 62; fi
 abbrev sell-8 : Order
 sell-8 = record { id = 8; account = 1; instrument = 2; side = Sell; total = 1; filled = 0 }
 
-shown : SomeFillingPasses derivatives listingRoster withSell 1 (group 1) long
+shown : SomeFillingPasses withSell 1 (group 1) long
 unfolding computes
 shown = (fill {o = buy-7} 62 (omega arith) (fill {o = sell-8} 1 (omega arith) none), record { lt = tt })
 
 -- without N no filling passes it: the potential position reaches the limit
-reached : potential (λ o. 1) listingRoster (endOf listingRoster begun before .book .orders) 1
-    (endOf listingRoster begun before .book .balanceOf 1) (group 1) long ≡ limit listingRoster
-    (endOf listingRoster begun before .book .linesOf 1) (group 1) long
+reached : potentialOf before 1 (group 1) long ≡ limitOf before 1 (group 1) long
 unfolding computes
 reached = refl
 

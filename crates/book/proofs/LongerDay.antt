@@ -13,14 +13,15 @@ use Rattle.ledger.specs.Roster.{Roster, Numbered}
 use Rattle.ledger.specs.Positions.{instrument, group, long, short}
 use Rattle.ledger.specs.Fillings.{none, fill}
 use Rattle.book.specs.Market.{derivatives}
+use Rattle.book.specs.States.{State, begun}
 use Rattle.book.specs.Sound.{RosterFits, Sound}
-use Rattle.book.specs.EventLists.{Desk, State, begun, memoryAfter}
+use Rattle.book.specs.EventLists.{memoryAfter}
 use Rattle.book.specs.Written.{written, writtenAll}
 use Rattle.book.specs.Rosters.{rosterOfTables}
 use Rattle.book.specs.LongerDay.{longerTables, morning, tooLong, tooShort, putSold, putBought, raisedTooFar, afternoon, evening}
 use Rattle.book.specs.LongerDay.{putSoldToTheLimit, putBoughtToTheLimit, raisedToTheLimit}
-use Rattle.book.proofs.Plain.{derivatives-unit, plain-sound}
-use Rattle.book.proofs.PlainPromise.{plainDesk, stateOf, Refused, Past, both-ways}
+use Rattle.book.proofs.Plain.{plain, plain-sound}
+use Rattle.book.proofs.PlainPromise.{stateOf, Refused, Past, both-ways}
 use Rattle.book.proofs.Rosters.{at-each-number}
 use Rattle.book.proofs.Computed.{computes}
 
@@ -41,18 +42,18 @@ longer-fits =
     }
 
 -- ---- the answers
-abbrev desk : Desk
-desk = plainDesk longerRoster
+abbrev opened : State
+opened = begun derivatives longerRoster
 
 abbrev answersTo : List (List ℕ) → State → List ℕ
 answersTo [] m = []
-answersTo (e ∷ es) m = desk .answerTo m (written e) ∷ answersTo es (desk .next m (written e))
+answersTo (e ∷ es) m = plain .answerTo m (written e) ∷ answersTo es (plain .next m (written e))
 
 -- the answers after the morning
 abbrev answersThen : List (List ℕ) → List ℕ
-answersThen es = answersTo es (memoryAfter desk begun (writtenAll morning))
+answersThen es = answersTo es (memoryAfter plain opened (writtenAll morning))
 
-answers : (answersTo morning begun ≡ 0 ∷ 0 ∷ 0 ∷ 0 ∷ [])
+answers : (answersTo morning opened ≡ 0 ∷ 0 ∷ 0 ∷ 0 ∷ [])
     × (answersThen (tooLong ∷ tooShort ∷ putSold ∷ putBought ∷ raisedTooFar ∷ []) ≡ 21 ∷ 22 ∷ 23 ∷ 24 ∷ 23 ∷ [])
     × (answersThen (putSoldToTheLimit ∷ (afternoon ++ evening)) ≡ 0 ∷ 0 ∷ 0 ∷ 23 ∷ 0 ∷ 0 ∷ 10 ∷ 9 ∷ 9 ∷ 0 ∷ 0 ∷ 0 ∷ 0 ∷ 0 ∷ 0 ∷ 6 ∷ 0 ∷ 0
     ∷ 0 ∷ 0 ∷ 0 ∷ [])
@@ -65,10 +66,9 @@ answers = (refl, refl, refl, refl, refl)
 
 -- the book after the morning and a put sold is sound, with two orders open
 sound : (length (stateOf longerRoster (writtenAll (morning ++ (putSoldToTheLimit ∷ []))) .book .orders) ≡ 2)
-    × Sound derivatives longerRoster (stateOf longerRoster (writtenAll (morning ++ (putSoldToTheLimit ∷ []))) .book)
-    (stateOf longerRoster (writtenAll (morning ++ (putSoldToTheLimit ∷ []))) .trading)
+    × Sound (stateOf longerRoster (writtenAll (morning ++ (putSoldToTheLimit ∷ []))))
 unfolding computes
-sound = (refl, plain-sound derivatives longerRoster derivatives-unit longer-fits (writtenAll (morning ++ (putSoldToTheLimit ∷ []))))
+sound = (refl, plain-sound derivatives longerRoster longer-fits (writtenAll (morning ++ (putSoldToTheLimit ∷ []))))
 
 -- ---- the orders, of account 1, and the positions that they move
 abbrev pub order : ℕ → ℕ → Side → ℕ → Order

@@ -8,24 +8,23 @@ use native.Mathlib.Omega.{arith}
 use lib.IntN.{ℤ, pos, negsuc}
 use Rattle.ledger.specs.declared.order.Side.{Side}
 use Rattle.ledger.specs.declared.order.Side.the-variants.{Buy, Sell}
-use Rattle.ledger.specs.Derivatives.{one}
-use Rattle.ledger.specs.Positions.{Scope, Way, instrument, group, long, short, position}
-use Rattle.ledger.specs.Fillings.{Filling, none, fill, balanceAfter}
+use Rattle.ledger.specs.Positions.{Scope, Way, instrument, group, long, short}
+use Rattle.ledger.specs.Fillings.{Filling, none, fill}
 use Rattle.ledger.specs.Moves.{Moves}
-use Rattle.limits.specs.Lines.{limit}
 use Rattle.book.specs.Market.{derivatives}
-use Rattle.book.specs.EventLists.{Desk, begun}
-use Rattle.book.specs.Demand3.{NotSetAgain}
+use Rattle.book.specs.States.{State, begun}
+use Rattle.book.specs.Demand3.{limitOf, positionOf, positionAfter, NotSetAgain}
 use Rattle.book.specs.EventBytes.{blockBytes, groupLine, buy}
 use Rattle.book.specs.Written.{written, writtenAll}
 use Rattle.book.specs.LongerDay.{morning, putSoldToTheLimit, putBoughtToTheLimit, raisedToTheLimit, afternoon, evening}
 use Rattle.book.proofs.Demand3InFull.{memoryWith, stateWith, none-later}
-use Rattle.book.proofs.PlainPromise.{plainDesk, stateOf, Meets, answerTo, bookAfter, Within, noneAgain, promised}
+use Rattle.book.proofs.Plain.{plain}
+use Rattle.book.proofs.PlainPromise.{stateOf, Meets, answerTo, stateThen, Within, noneAgain, promised}
 use Rattle.book.proofs.LongerDay.{longerRoster, longer-fits, order, weighs-more, weighs-less}
 use Rattle.book.proofs.Computed.{computes}
 
-abbrev desk : Desk
-desk = plainDesk longerRoster
+abbrev opened : State
+opened = begun derivatives longerRoster
 
 -- account 1's position right after N, and after the afternoon
 abbrev Stays : List ℕ → Scope → Way → ℤ → Type 0
@@ -34,8 +33,8 @@ Stays n p w figure =
 
 module _ (n : List ℕ) (i id : ℕ) (s : Side) (total : ℕ) (p : Scope) (w : Way) where
   both : Meets longerRoster morning n (order id i s total) → answerTo longerRoster morning n ≡ 0
-      → Moves longerRoster (order id i s total) p w → noneAgain longerRoster morning n 1 p afternoon ≡ true
-      → Stays n p w (limit longerRoster (stateOf longerRoster (writtenAll morning) .book .linesOf 1) p w)
+      → Moves (stateOf longerRoster (writtenAll morning) .roster) (order id i s total) p w → noneAgain longerRoster morning n 1 p afternoon ≡ true
+      → Stays n p w (limitOf (stateOf longerRoster (writtenAll morning)) 1 p w)
   both j zero moves test = (
     promised longerRoster morning n longer-fits (order id i s total) j zero p w moves [] refl,
     promised longerRoster morning n longer-fits (order id i s total) j zero p w moves afternoon test,
@@ -68,10 +67,10 @@ raised = (
 -- ---- the positions as they stand: N's instrument and group, right after it and after the afternoon
 abbrev standing : List ℕ → ℕ → Way → Way → List ℤ
 standing n i w v =
-    position longerRoster (bookAfter longerRoster morning n [] .balanceOf 1) (instrument i) w
-    ∷ position longerRoster (bookAfter longerRoster morning n [] .balanceOf 1) (group 1) v
-    ∷ position longerRoster (bookAfter longerRoster morning n afternoon .balanceOf 1) (instrument i) w
-    ∷ position longerRoster (bookAfter longerRoster morning n afternoon .balanceOf 1) (group 1) v
+    positionOf (stateThen longerRoster morning n []) 1 (instrument i) w
+    ∷ positionOf (stateThen longerRoster morning n []) 1 (group 1) v
+    ∷ positionOf (stateThen longerRoster morning n afternoon) 1 (instrument i) w
+    ∷ positionOf (stateThen longerRoster morning n afternoon) 1 (group 1) v
     ∷ []
 
 positions : (standing putSoldToTheLimit 2 short long ≡ pos 0 ∷ negsuc 19999 ∷ pos 24 ∷ pos 220000 ∷ [])
@@ -81,22 +80,22 @@ unfolding computes
 positions = (refl, refl, refl)
 
 -- ---- the evening's LIMIT sets the group's limit again, so that nothing is claimed from there on
-set-again : NotSetAgain desk derivatives longerRoster
-    (memoryWith desk derivatives longerRoster begun begun (writtenAll morning) (written putSoldToTheLimit))
-    (stateWith desk derivatives longerRoster begun begun (writtenAll morning) (written putSoldToTheLimit)) 1 (group 1)
+set-again : NotSetAgain plain
+    (memoryWith plain opened opened (writtenAll morning) (written putSoldToTheLimit))
+    (stateWith plain opened opened (writtenAll morning) (written putSoldToTheLimit)) 1 (group 1)
     (writtenAll (afternoon ++ evening)) → ⊥
 unfolding computes
 set-again out =
-    none-later desk derivatives longerRoster begun begun (writtenAll morning) (written putSoldToTheLimit) 1 (group 1)
+    none-later plain opened opened (writtenAll morning) (written putSoldToTheLimit) 1 (group 1)
     (writtenAll (afternoon ++ evening)) .0 out
     (writtenAll (afternoon ++ (blockBytes 1 1 0 0 ∷ []))) (written (groupLine 100 100)) (written (buy 1 9 70) ∷ []) refl refl (inl refl)
 
 -- and by then the limit is another, and order 9 may fill past the one that N was judged by: to 920,000
-by-then : (limit longerRoster (bookAfter longerRoster morning putSoldToTheLimit (afternoon ++ evening) .linesOf 1) (group 1) long
-    ≡ pos 1000000)
-    × ((f : Filling (bookAfter longerRoster morning putSoldToTheLimit (afternoon ++ evening) .orders))
-    × (position longerRoster (balanceAfter one 1 (bookAfter longerRoster morning putSoldToTheLimit (afternoon ++ evening) .balanceOf 1) f)
-    (group 1) long ≡ pos 920000))
+abbrev atNight : State
+atNight = stateThen longerRoster morning putSoldToTheLimit (afternoon ++ evening)
+
+by-then : (limitOf atNight 1 (group 1) long ≡ pos 1000000)
+    × ((f : Filling (atNight .book .orders)) × (positionAfter atNight 1 (group 1) long f ≡ pos 920000))
 unfolding computes
 by-then = (refl, (fill {o = order 9 1 Buy 70} 70 (omega arith) none, refl))
 

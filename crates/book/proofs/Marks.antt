@@ -6,8 +6,8 @@ use mathlib.Core.Bool.{Bool, true}
 use lib.IntN.{ℤ}
 use Rattle.ledger.specs.declared.order.Side.{Side}
 use Rattle.book.specs.declared.Event.{Event}
-use Rattle.book.specs.declared.Event.the-variants.{Limit, Balance, Block, New, Replace, Cancel, Fill, Junk}
-use Rattle.book.specs.Books.{mark}
+use Rattle.book.specs.declared.Event.the-variants.{Limit, Balance, Block, New, Change, Junk}
+use Rattle.book.specs.States.{mark}
 use Rattle.book.proofs.Tables.{at-here, at-each}
 
 pub new-marks : (trading : ℕ → Bool) (s : Side) (a i id : ℕ) (n : ℤ) → mark trading (New s a i id n) a ≡ true
@@ -19,9 +19,7 @@ IsNewOf a (Limit c l) = ⊥
 IsNewOf a (Balance c i z) = ⊥
 IsNewOf a (Block what z) = ⊥
 IsNewOf a (New s c i id n) = a ≡ c
-IsNewOf a (Replace id n) = ⊥
-IsNewOf a (Cancel id) = ⊥
-IsNewOf a (Fill id n) = ⊥
+IsNewOf a (Change id c) = ⊥
 IsNewOf a Junk = ⊥
 
 pub only-new-marks : (trading : ℕ → Bool) (e : Event) (a : ℕ) → mark trading e a ≡ true → (trading a ≡ true) ⊎ IsNewOf a e
@@ -31,9 +29,7 @@ only-new-marks trading (Balance c i z) a h = inl h
 only-new-marks trading (Block what z) a h = inl h
 only-new-marks trading (New s c i id n) a h =
     at-each c true trading (λ t. t ≡ true → (trading a ≡ true) ⊎ (a ≡ c)) a (λ own _. inr own) (λ _ was. inl was) h
-only-new-marks trading (Replace id n) a h = inl h
-only-new-marks trading (Cancel id) a h = inl h
-only-new-marks trading (Fill id n) a h = inl h
+only-new-marks trading (Change id c) a h = inl h
 only-new-marks trading Junk a h = inl h
 
 -- and a mark stays
@@ -43,7 +39,5 @@ marks-stay trading (Limit c l) a h = h
 marks-stay trading (Balance c i z) a h = h
 marks-stay trading (Block what z) a h = h
 marks-stay trading (New s c i id n) a h = at-each c true trading (λ t. t ≡ true) a (λ _. refl) (λ _. h)
-marks-stay trading (Replace id n) a h = h
-marks-stay trading (Cancel id) a h = h
-marks-stay trading (Fill id n) a h = h
+marks-stay trading (Change id c) a h = h
 marks-stay trading Junk a h = h

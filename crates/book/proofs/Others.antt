@@ -2,30 +2,26 @@
 use Prim.Native.Nat.{ℕ}
 use mathlib.Core.Path.{_≡_, refl, sym, _∙_, ap}
 use mathlib.Core.Logic.{_↔_, _≢_, inr, ⊎-elim, Iff·rfl}
-use mathlib.Core.Bool.{Bool}
-use mathlib.Core.List.{List, [], _∷_, List·Memᴰ, List·Memᴰ·not-nil, List·Memᴰ·eq-of-singleton}
+use mathlib.Core.List.{List, List·Memᴰ}
 use mathlib.Core.Option.{some}
-use lib.IntN.{pos, natAbs, _+ℤ_, +ℤ-idr}
+use lib.IntN.{pos, _+ℤ_, +ℤ-idr}
 use borrow.Author.Tests.{ne-eqb}
 use Rattle.ledger.specs.declared.order.Order.{Order}
-use Rattle.ledger.specs.Orders.{filledBy, replacedTotal}
-use Rattle.ledger.specs.Roster.{Roster}
 use Rattle.ledger.specs.Positions.{standsIn}
 use Rattle.ledger.specs.Fillings.{fillMoves}
 use Rattle.book.specs.declared.Event.{Event}
-use Rattle.book.specs.declared.Event.the-variants.{Limit, Balance, Block, New, Replace, Cancel, Fill, Junk}
-use Rattle.book.specs.Market.{Market, UnitKept}
-use Rattle.book.specs.OpenOrders.{find, change, kept}
-use Rattle.book.specs.Books.{Book, at, setLine, newOrder, work}
-use Rattle.book.specs.Table.{idOpen}
+use Rattle.book.specs.declared.Event.the-variants.{Limit, Balance, Block, New, Change, Junk}
+use Rattle.book.specs.OpenOrders.{find, change}
+use Rattle.book.specs.Books.{Book, at, setLine, newOrder, changed, bookAfter}
+use Rattle.book.specs.States.{State, work}
 use Rattle.book.specs.Sound.{Ascending, Sound}
 use Rattle.book.proofs.Cuts.{insert-members}
 use Rattle.book.proofs.Ids.{find-member, change-exactly}
 use Rattle.book.proofs.Accepted.{Passed}
 use Rattle.book.proofs.Tables.{at-elsewhere}
-use Rattle.book.proofs.Shifts.{fill-balances}
-use Rattle.book.proofs.Within.{found-order}
-use Rattle.book.proofs.SoundOrders.{kept-member}
+use Rattle.book.proofs.Shifts.{filledIn, change-balances}
+use Rattle.book.proofs.Within.{named-order}
+use Rattle.book.proofs.SoundOrders.{changed-account}
 
 -- the event is not of account a: it names another, or an order of another
 abbrev pub OfAnother : ℕ → Book → Event → Type 0
@@ -33,9 +29,7 @@ OfAnother a b (Limit c l) = a ≢ c
 OfAnother a b (Balance c i z) = a ≢ c
 OfAnother a b (Block what z) = Unit
 OfAnother a b (New s c i id n) = a ≢ c
-OfAnother a b (Replace id n) = (o : Order) → find id (b .orders) ≡ some o → a ≢ o .account
-OfAnother a b (Cancel id) = (o : Order) → find id (b .orders) ≡ some o → a ≢ o .account
-OfAnother a b (Fill id n) = (o : Order) → find id (b .orders) ≡ some o → a ≢ o .account
+OfAnother a b (Change id c) = (o : Order) → find id (b .orders) ≡ some o → a ≢ o .account
 OfAnother a b Junk = Unit
 
 -- the open orders, balances and lines of account a are as they were
@@ -63,54 +57,41 @@ fill-elsewhere : (unit : Order → ℕ) (a i : ℕ) (o : Order) (n : ℕ) → a 
 unfolding fillMoves standsIn
 fill-elsewhere unit a i o n other = rw (ne-eqb (o .account) a (λ e. other (sym e)))
 
-module _ (mk : Market) (keeps : UnitKept mk) (r : Roster) (b : Book) (trading : ℕ → Bool) (sound : Sound mk r b trading) (a : ℕ) where
-  pub untouched : (e : Event) → Passed mk r b trading e → OfAnother a b e → Untouched a b (work (mk .unit) b e)
-  unfolding work idOpen newOrder replacedTotal filledBy
+module _ (k : State) (sound : Sound k) (a : ℕ) where
+  pub untouched : (e : Event) → Passed k e → OfAnother a (k .book) e → Untouched a (k .book) (work k e .book)
+  unfolding bookAfter newOrder
   untouched (Limit c l) ok other =
-      record { orders = λ x own. Iff·rfl; balances = λ i. refl; lines = at-elsewhere c (setLine l (b .linesOf c)) (b .linesOf) a other }
+      record {
+        orders = λ x own. Iff·rfl;
+        balances = λ i. refl;
+        lines = at-elsewhere c (setLine l (k .book .linesOf c)) (k .book .linesOf) a other;
+      }
   untouched (Balance c i z) ok other =
       record {
         orders = λ x own. Iff·rfl;
-        balances = λ j. ap (λ S. S j) (at-elsewhere c (at i z (b .balanceOf c)) (b .balanceOf) a other);
+        balances = λ j. ap (λ S. S j) (at-elsewhere c (at i z (k .book .balanceOf c)) (k .book .balanceOf) a other);
         lines = refl;
       }
   untouched (Block what z) ok other = record { orders = λ x own. Iff·rfl; balances = λ i. refl; lines = refl }
   untouched (New s c i id n) ok other =
       record {
         orders = λ x own. (
-          λ m. ⊎-elim (λ e. absurd (other (sym own ∙ ap (λ y. y .account) e))) (λ k. k)
-              (insert-members (newOrder s c i id n) (b .orders) x .0 m),
-          λ m. insert-members (newOrder s c i id n) (b .orders) x .1 (inr m),
+          λ m. ⊎-elim (λ e. absurd (other (sym own ∙ ap (λ y. y .account) e))) (λ there. there)
+              (insert-members (newOrder s c i id n) (k .book .orders) x .0 m),
+          λ m. insert-members (newOrder s c i id n) (k .book .orders) x .1 (inr m),
         );
         balances = λ j. refl;
         lines = refl;
       }
-  untouched (Replace id n) ok other =
-      let f = found-order id b (ok .found) in
+  untouched (Change id c) ok other =
+      let f = named-order k id c ok in
+      let apart = other (f .order) (f .found) in
       record {
-        orders =
-            changed-elsewhere (sound .ids) a id (λ y. replacedTotal y (natAbs n) ∷ []) (f .0) (f .1) (other (f .0) (f .1))
-            (λ x m. ap (λ y. y .account) (List·Memᴰ·eq-of-singleton m));
-        balances = λ j. refl;
-        lines = refl;
-      }
-  untouched (Cancel id) ok other =
-      let f = found-order id b (ok .found) in
-      record {
-        orders = changed-elsewhere (sound .ids) a id (λ y. []) (f .0) (f .1) (other (f .0) (f .1)) (λ x m. absurd (List·Memᴰ·not-nil m));
-        balances = λ j. refl;
-        lines = refl;
-      }
-  untouched (Fill id n) ok other =
-      let f = found-order id b (ok .found) in
-      record {
-        orders =
-            changed-elsewhere (sound .ids) a id (λ y. kept (filledBy y (natAbs n))) (f .0) (f .1) (other (f .0) (f .1))
-            (λ x m. ap (λ y. y .account) (kept-member (filledBy (f .0) (natAbs n)) x m .0));
+        orders = changed-elsewhere (sound .ids) a id (changed c) (f .order) (f .found) apart (changed-account c (f .order));
         balances =
-            λ j. fill-balances mk b keeps id (f .0) (f .1) n a j
-            ∙ ap (λ z. b .balanceOf a j +ℤ z) (fill-elsewhere (mk .unit) a j (f .0) (natAbs n) (other (f .0) (f .1)))
-            ∙ +ℤ-idr (b .balanceOf a j);
+            λ j. change-balances k id (f .order) (f .found) c a j
+            ∙ ap (λ z. k .book .balanceOf a j +ℤ z) (fill-elsewhere (k .market .unit) a j (f .order) (filledIn c) apart)
+            ∙ +ℤ-idr (k .book .balanceOf a j);
         lines = refl;
       }
   untouched Junk ok other = record { orders = λ x own. Iff·rfl; balances = λ i. refl; lines = refl }

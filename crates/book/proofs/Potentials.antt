@@ -1,5 +1,5 @@
 -- What each kind of accepted event does to each potential position.
-use Prim.Native.Nat.{ℕ, _*_, _-_, _≤_}
+use Prim.Native.Nat.{ℕ, _+_, _*_, _-_, _≤_}
 use mathlib.Core.Path.{_≡_, refl, _∙_, ap}
 use mathlib.Core.Logic.{_≢_}
 use mathlib.Core.List.{List·Memᴰ}
@@ -11,141 +11,142 @@ use Rattle.integers.specs.Parts.{signed, sum-parts}
 use Rattle.ledger.specs.declared.order.Order.{Order}
 use Rattle.ledger.specs.declared.order.Side.{Side}
 use Rattle.ledger.specs.Orders.{remaining}
-use Rattle.ledger.specs.Roster.{Roster}
 use Rattle.ledger.specs.Positions.{Way, Scope, instrument, opposite, wayOf, ofInstrument, potential, position}
 use Rattle.ledger.specs.Moves.{Moves}
 use Rattle.ledger.proofs.Changes.{shift-down, shift-unmoved, shift-of-another, shift-own, fill-lowers, fill-kept, fill-opposite, idle}
 use Rattle.book.specs.declared.LimitLine.{LimitLine}
 use Rattle.book.specs.declared.Blocked.{Blocked}
-use Rattle.book.specs.declared.Event.the-variants.{Limit, Balance, Block, New, Replace, Cancel, Fill}
-use Rattle.book.specs.Market.{Market, UnitKept}
+use Rattle.book.specs.declared.OrderChange.{OrderChange}
+use Rattle.book.specs.declared.OrderChange.the-variants.{Replace, Cancel, Fill}
+use Rattle.book.specs.declared.Event.the-variants.{Limit, Balance, Block, New, Change}
 use Rattle.book.specs.OpenOrders.{find}
-use Rattle.book.specs.Books.{Book, at, newOrder, work}
+use Rattle.book.specs.Books.{at, newOrder, changedBalances, bookAfter}
+use Rattle.book.specs.States.{State, work}
+use Rattle.book.specs.Positions.{potentialOf}
 use Rattle.book.proofs.Tables.{at-here, at-elsewhere}
-use Rattle.book.proofs.Shifts.{new-shift, replace-shift, cancel-shift, fill-shift, fill-balances}
+use Rattle.book.proofs.Shifts.{remainsAfter, filledIn, new-shift, change-shift, change-balances}
 
--- PCI, PVI, PCC and PVC of account a, as the book gives them
-abbrev pub potentialOf : Market → Roster → Book → ℕ → Scope → Way → ℤ
-potentialOf mk r b a p w = potential (mk .unit) r (b .orders) a (b .balanceOf a) p w
-
-module _ (mk : Market) (r : Roster) (b : Book) (a : ℕ) (p : Scope) (w : Way) where
+module _ (k : State) (a : ℕ) (p : Scope) (w : Way) where
   -- LIMIT and BLOCK move no position
-  pub limit-level : (c : ℕ) (l : LimitLine) → potentialOf mk r (work (mk .unit) b (Limit c l)) a p w ≡ potentialOf mk r b a p w
-  unfolding work
+  pub limit-level : (c : ℕ) (l : LimitLine) → potentialOf (work k (Limit c l)) a p w ≡ potentialOf k a p w
+  unfolding bookAfter
   limit-level c l = refl
 
-  pub block-level : (what : Blocked) (z : ℤ) → potentialOf mk r (work (mk .unit) b (Block what z)) a p w ≡ potentialOf mk r b a p w
-  unfolding work
+  pub block-level : (what : Blocked) (z : ℤ) → potentialOf (work k (Block what z)) a p w ≡ potentialOf k a p w
+  unfolding bookAfter
   block-level what z = refl
 
   -- BALANCE moves none of another account
-  pub balance-other : (c i : ℕ) (z : ℤ) → a ≢ c → potentialOf mk r (work (mk .unit) b (Balance c i z)) a p w ≡ potentialOf mk r b a p w
-  unfolding work
+  pub balance-other : (c i : ℕ) (z : ℤ) → a ≢ c → potentialOf (work k (Balance c i z)) a p w ≡ potentialOf k a p w
+  unfolding bookAfter
   balance-other c i z other =
-      ap (λ S. potential (mk .unit) r (b .orders) a S p w) (at-elsewhere c (at i z (b .balanceOf c)) (b .balanceOf) a other)
+      ap (λ S. potential (k .market .unit) (k .roster) (k .book .orders) a S p w)
+      (at-elsewhere c (at i z (k .book .balanceOf c)) (k .book .balanceOf) a other)
 
   -- and where the account has no open order, its potential positions are its positions
-  pub balance-own : (i : ℕ) (z : ℤ) → ((o : Order) → List·Memᴰ o (b .orders) → o .account ≢ a)
-      → potentialOf mk r (work (mk .unit) b (Balance a i z)) a p w ≡ position r (at i z (b .balanceOf a)) p w
-  unfolding work
+  pub balance-own : (i : ℕ) (z : ℤ) → ((o : Order) → List·Memᴰ o (k .book .orders) → o .account ≢ a)
+      → potentialOf (work k (Balance a i z)) a p w ≡ position (k .roster) (at i z (k .book .balanceOf a)) p w
+  unfolding bookAfter
   balance-own i z none-open =
-      ap (λ S. potential (mk .unit) r (b .orders) a S p w) (at-here a (at i z (b .balanceOf a)) (b .balanceOf) a refl)
-      ∙ idle (mk .unit) r a (b .orders) (at i z (b .balanceOf a)) p w none-open
+      ap (λ S. potential (k .market .unit) (k .roster) (k .book .orders) a S p w)
+      (at-here a (at i z (k .book .balanceOf a)) (k .book .balanceOf) a refl)
+      ∙ idle (k .market .unit) (k .roster) a (k .book .orders) (at i z (k .book .balanceOf a)) p w none-open
 
   -- NEW moves none but those that its fills move, and none of another account
   module _ (s : Side) (c i id : ℕ) (n : ℤ) where
-    pub new-unmoved : ¬ Moves r (newOrder s c i id n) p w
-        → potentialOf mk r (work (mk .unit) b (New s c i id n)) a p w ≡ potentialOf mk r b a p w
-    unfolding work
-    new-unmoved = shift-unmoved (new-shift mk b s c i id n) a (b .balanceOf a) r p w
+    pub new-unmoved : ¬ Moves (k .roster) (newOrder s c i id n) p w
+        → potentialOf (work k (New s c i id n)) a p w ≡ potentialOf k a p w
+    unfolding bookAfter
+    new-unmoved = shift-unmoved (new-shift k s c i id n) a (k .book .balanceOf a) (k .roster) p w
 
-    pub new-other : c ≢ a → potentialOf mk r (work (mk .unit) b (New s c i id n)) a p w ≡ potentialOf mk r b a p w
-    unfolding work newOrder
-    new-other = shift-of-another (new-shift mk b s c i id n) a (b .balanceOf a) r p w
+    pub new-other : c ≢ a → potentialOf (work k (New s c i id n)) a p w ≡ potentialOf k a p w
+    unfolding bookAfter newOrder
+    new-other = shift-of-another (new-shift k s c i id n) a (k .book .balanceOf a) (k .roster) p w
 
-  module _ (keeps : UnitKept mk) (id : ℕ) (o : Order) (found : find id (b .orders) ≡ some o) where
-    -- REPLACE raises none where the total does not rise, and moves none but those that its order's fills move
-    pub replace-lowers : (n : ℤ) → natAbs n ≤ o .total
-        → potentialOf mk r (work (mk .unit) b (Replace id n)) a p w ≤ℤ potentialOf mk r b a p w
-    unfolding work
-    replace-lowers n down = shift-down (replace-shift mk b keeps id o found n) a (b .balanceOf a) r p w (omega arith)
+  module _ (id : ℕ) (o : Order) (found : find id (k .book .orders) ≡ some o) where
+    -- REPLACE moves none but those that its order's fills move, and none of another account
+    pub replace-unmoved : (n : ℤ) → ¬ Moves (k .roster) o p w
+        → potentialOf (work k (Change id (Replace n))) a p w ≡ potentialOf k a p w
+    unfolding bookAfter changedBalances
+    replace-unmoved n = shift-unmoved (change-shift k id o found (Replace n)) a (k .book .balanceOf a) (k .roster) p w
 
-    pub replace-unmoved : (n : ℤ) → ¬ Moves r o p w → potentialOf mk r (work (mk .unit) b (Replace id n)) a p w ≡ potentialOf mk r b a p w
-    unfolding work
-    replace-unmoved n = shift-unmoved (replace-shift mk b keeps id o found n) a (b .balanceOf a) r p w
+    pub replace-other : (n : ℤ) → o .account ≢ a → potentialOf (work k (Change id (Replace n))) a p w ≡ potentialOf k a p w
+    unfolding bookAfter changedBalances
+    replace-other n = shift-of-another (change-shift k id o found (Replace n)) a (k .book .balanceOf a) (k .roster) p w
 
-    pub replace-other : (n : ℤ) → o .account ≢ a → potentialOf mk r (work (mk .unit) b (Replace id n)) a p w ≡ potentialOf mk r b a p w
-    unfolding work
-    replace-other n = shift-of-another (replace-shift mk b keeps id o found n) a (b .balanceOf a) r p w
-
-    -- CANCEL raises none
-    pub cancel-lowers : potentialOf mk r (work (mk .unit) b (Cancel id)) a p w ≤ℤ potentialOf mk r b a p w
-    unfolding work
-    cancel-lowers = shift-down (cancel-shift mk b keeps id o found) a (b .balanceOf a) r p w (omega arith)
-
-    -- FILL raises none
-    pub fill-lowers-each : (n : ℤ) → natAbs n ≤ remaining o
-        → potentialOf mk r (work (mk .unit) b (Fill id n)) a p w ≤ℤ potentialOf mk r b a p w
-    fill-lowers-each n most =
-        fill-lowers (fill-shift mk b keeps id o found n most) (natAbs n) (omega arith) a (b .balanceOf a)
-        (work (mk .unit) b (Fill id n) .balanceOf a) (fill-balances mk b keeps id o found n a) r p w
+    -- a change that leaves no more to remain, with what it fills, than remained raises none: a REPLACE whose total does not rise, a
+    -- CANCEL, a FILL
+    pub change-lowers : (c : OrderChange) → remainsAfter c o + filledIn c ≤ remaining o
+        → potentialOf (work k (Change id c)) a p w ≤ℤ potentialOf k a p w
+    unfolding bookAfter changedBalances
+    change-lowers (Replace n) down =
+        shift-down (change-shift k id o found (Replace n)) a (k .book .balanceOf a) (k .roster) p w (omega arith)
+    change-lowers Cancel down = shift-down (change-shift k id o found Cancel) a (k .book .balanceOf a) (k .roster) p w (omega arith)
+    change-lowers (Fill n) most =
+        fill-lowers (change-shift k id o found (Fill n)) (natAbs n) (omega arith) a (k .book .balanceOf a)
+        (work k (Change id (Fill n)) .book .balanceOf a) (change-balances k id o found (Fill n) a) (k .roster) p w
 
 new-remaining : (s : Side) (a i id : ℕ) (n : ℤ) → remaining (newOrder s a i id n) ≡ natAbs n
 unfolding newOrder remaining
 new-remaining s a i id n = omega arith
 
 -- ---- by how much: the order's own instrument, on the side to which its fills move it
-module _ (mk : Market) (r : Roster) (b : Book) where
-  pub new-own : (s : Side) (a i id : ℕ) (n : ℤ) → potentialOf mk r (work (mk .unit) b (New s a i id n)) a (instrument i) (wayOf s)
-      ≡ potentialOf mk r b a (instrument i) (wayOf s) +ℤ pos (mk .unit (newOrder s a i id n) * natAbs n)
-  unfolding work potential newOrder
+module _ (k : State) where
+  pub new-own : (s : Side) (a i id : ℕ) (n : ℤ) → potentialOf (work k (New s a i id n)) a (instrument i) (wayOf s)
+      ≡ potentialOf k a (instrument i) (wayOf s) +ℤ pos (k .market .unit (newOrder s a i id n) * natAbs n)
+  unfolding bookAfter potential newOrder
   new-own s a i id n =
+      let unit = k .market .unit in
       let o = newOrder s a i id n in
-      let x = ofInstrument (mk .unit) (b .orders) a (b .balanceOf a) i (wayOf s) in
-      let y = ofInstrument (mk .unit) (work (mk .unit) b (New s a i id n) .orders) a (b .balanceOf a) i (wayOf s) in
+      let x = ofInstrument unit (k .book .orders) a (k .book .balanceOf a) i (wayOf s) in
+      let y = ofInstrument unit (work k (New s a i id n) .book .orders) a (k .book .balanceOf a) i (wayOf s) in
       omega (
         signed,
-        shift-own (new-shift mk b s a i id n) a (b .balanceOf a) refl (wayOf s) refl,
-        ap (λ k. pos (mk .unit o * k)) (new-remaining s a i id n),
-        sum-parts y (pos (mk .unit o * 0)),
-        sum-parts x (pos (mk .unit o * remaining o)),
-        sum-parts x (pos (mk .unit o * natAbs n)),
+        shift-own (new-shift k s a i id n) a (k .book .balanceOf a) refl (wayOf s) refl,
+        ap (λ m. pos (unit o * m)) (new-remaining s a i id n),
+        sum-parts y (pos (unit o * 0)),
+        sum-parts x (pos (unit o * remaining o)),
+        sum-parts x (pos (unit o * natAbs n)),
       )
 
-  module _ (keeps : UnitKept mk) (id : ℕ) (o : Order) (found : find id (b .orders) ≡ some o) where
-    -- what remains of it before, against what remains after
-    pub replace-own : (n : ℤ) → potentialOf mk r (work (mk .unit) b (Replace id n)) (o .account) (instrument (o .instrument))
-        (wayOf (o .side)) +ℤ pos (mk .unit o * (o .total - o .filled)) ≡ potentialOf mk r b (o .account) (instrument (o .instrument))
-        (wayOf (o .side)) +ℤ pos (mk .unit o * (natAbs n - o .filled))
-    unfolding work potential
-    replace-own n = shift-own (replace-shift mk b keeps id o found n) (o .account) (b .balanceOf (o .account)) refl (wayOf (o .side)) refl
+  module _ (id : ℕ) (o : Order) (found : find id (k .book .orders) ≡ some o) where
+    -- the position of the order's account and instrument on side w, and what m contracts of the order count for
+    abbrev ownAt : State → Way → ℤ
+    ownAt h w = potentialOf h (o .account) (instrument (o .instrument)) w
 
-    pub cancel-own : potentialOf mk r (work (mk .unit) b (Cancel id)) (o .account) (instrument (o .instrument)) (wayOf (o .side)) +ℤ pos
-        (mk .unit o * remaining o) ≡ potentialOf mk r b (o .account) (instrument (o .instrument)) (wayOf (o .side))
-    unfolding work potential
+    abbrev counts : ℕ → ℤ
+    counts m = pos (k .market .unit o * m)
+
+    -- what remains of it before, against what remains after
+    pub replace-own : (n : ℤ) → ownAt (work k (Change id (Replace n))) (wayOf (o .side)) +ℤ counts (remaining o)
+        ≡ ownAt k (wayOf (o .side)) +ℤ counts (natAbs n - o .filled)
+    unfolding bookAfter changedBalances potential
+    replace-own n =
+        shift-own (change-shift k id o found (Replace n)) (o .account) (k .book .balanceOf (o .account)) refl (wayOf (o .side)) refl
+
+    pub cancel-own : ownAt (work k (Change id Cancel)) (wayOf (o .side)) +ℤ counts (remaining o) ≡ ownAt k (wayOf (o .side))
+    unfolding bookAfter changedBalances potential
     cancel-own =
-        let x = ofInstrument (mk .unit) (b .orders) (o .account) (b .balanceOf (o .account)) (o .instrument) (wayOf (o .side)) in
+        let S = k .book .balanceOf (o .account) in
+        let x = ofInstrument (k .market .unit) (k .book .orders) (o .account) S (o .instrument) (wayOf (o .side)) in
         omega (
           signed,
-          shift-own (cancel-shift mk b keeps id o found) (o .account) (b .balanceOf (o .account)) refl (wayOf (o .side)) refl,
-          sum-parts x (pos (mk .unit o * 0)),
+          shift-own (change-shift k id o found Cancel) (o .account) S refl (wayOf (o .side)) refl,
+          sum-parts x (counts 0),
         )
 
     -- a FILL leaves that side as it was, and lowers the other by the quantity
-    pub fill-own : (n : ℤ) → natAbs n ≤ remaining o
-        → potentialOf mk r (work (mk .unit) b (Fill id n)) (o .account) (instrument (o .instrument)) (wayOf (o .side)) ≡ potentialOf mk r b
-        (o .account) (instrument (o .instrument)) (wayOf (o .side))
+    pub fill-own : (n : ℤ) → natAbs n ≤ remaining o → ownAt (work k (Change id (Fill n))) (wayOf (o .side)) ≡ ownAt k (wayOf (o .side))
     unfolding potential
     fill-own n most =
         let a = o .account in
-        fill-kept (fill-shift mk b keeps id o found n most) (natAbs n) (omega arith) a (b .balanceOf a)
-        (work (mk .unit) b (Fill id n) .balanceOf a) (fill-balances mk b keeps id o found n a) (o .instrument) (wayOf (o .side)) refl
+        fill-kept (change-shift k id o found (Fill n)) (natAbs n) (omega arith) a (k .book .balanceOf a)
+        (work k (Change id (Fill n)) .book .balanceOf a) (change-balances k id o found (Fill n) a) (o .instrument) (wayOf (o .side)) refl
 
     pub fill-other-side : (n : ℤ) → natAbs n ≤ remaining o → (v : Way) → wayOf (o .side) ≡ opposite v
-        → potentialOf mk r (work (mk .unit) b (Fill id n)) (o .account) (instrument (o .instrument)) v ≡ potentialOf mk r b (o .account)
-        (instrument (o .instrument)) v -ℤ pos (mk .unit o * natAbs n)
+        → ownAt (work k (Change id (Fill n))) v ≡ ownAt k v -ℤ counts (natAbs n)
     unfolding potential
     fill-other-side n most v against =
         let a = o .account in
-        fill-opposite (fill-shift mk b keeps id o found n most) (natAbs n) (omega arith) a (b .balanceOf a)
-        (work (mk .unit) b (Fill id n) .balanceOf a) (fill-balances mk b keeps id o found n a) refl v against
+        fill-opposite (change-shift k id o found (Fill n)) (natAbs n) (omega arith) a (k .book .balanceOf a)
+        (work k (Change id (Fill n)) .book .balanceOf a) (change-balances k id o found (Fill n) a) refl v against

@@ -11,9 +11,10 @@ use Rattle.book.specs.declared.Figures.{Figures}
 use Rattle.book.specs.declared.LimitLine.the-variants.{Default, OfGroup}
 use Rattle.book.specs.declared.Event.{Event}
 use Rattle.book.specs.declared.Event.the-variants.{Limit, Balance, New}
-use Rattle.book.specs.EventLists.{begun}
 use Rattle.book.specs.Positions.{groupIn}
 use Rattle.book.specs.Days.{answersTo, endOf}
+use Rattle.book.specs.Market.{derivatives}
+use Rattle.book.specs.States.{State, begun}
 use Rattle.book.proofs.Computed.{computes}
 
 abbrev minus : ℕ → ℤ
@@ -34,6 +35,9 @@ roster =
           ∷ pos 500 ∷ pos 1200 ∷ pos 6000 ∷ []) (i - 1) (pos 0);
     }
 
+abbrev opened : State
+opened = begun derivatives roster
+
 abbrev line : Figures
 line = record { tci = pos 1000; tvi = pos 1000; lci = pos 2000; lvi = pos 0 }
 
@@ -52,8 +56,8 @@ morning =
     ∷ New Sell 1 2 4 (pos 1000)
     ∷ []
 
-morning-accepted : (answersTo roster begun morning ≡ 0 ∷ 0 ∷ 0 ∷ 0 ∷ 0 ∷ 0 ∷ 0 ∷ 0 ∷ 0 ∷ 0 ∷ [])
-    × (groupIn roster (endOf roster begun morning .book) 1 1 ≡ minus 16200000 ∷ pos 43200000 ∷ [])
+morning-accepted : (answersTo opened morning ≡ 0 ∷ 0 ∷ 0 ∷ 0 ∷ 0 ∷ 0 ∷ 0 ∷ 0 ∷ 0 ∷ 0 ∷ [])
+    × (groupIn (endOf opened morning) 1 1 ≡ minus 16200000 ∷ pos 43200000 ∷ [])
 unfolding computes
 morning-accepted = (refl, refl)
 
@@ -68,7 +72,7 @@ callSold = New Sell 1 13 6 (pos 1000)
 abbrev callBought : Event
 callBought = New Buy 1 10 7 (pos 1000)
 
-tables : (answersTo roster (endOf roster begun morning) (putBought ∷ callSold ∷ callBought ∷ []) ≡ 24 ∷ 22 ∷ 0 ∷ [])
-    × (groupIn roster (endOf roster (endOf roster begun morning) (callBought ∷ []) .book) 1 1 ≡ minus 13800000 ∷ pos 43200000 ∷ [])
+tables : (answersTo (endOf opened morning) (putBought ∷ callSold ∷ callBought ∷ []) ≡ 24 ∷ 22 ∷ 0 ∷ [])
+    × (groupIn (endOf (endOf opened morning) (callBought ∷ [])) 1 1 ≡ minus 13800000 ∷ pos 43200000 ∷ [])
 unfolding computes
 tables = (refl, refl)

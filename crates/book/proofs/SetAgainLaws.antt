@@ -6,16 +6,15 @@ use mathlib.Core.Bool.{true, false}
 use mathlib.Core.Option.{Option, none, some}
 use native.Mathlib.Omega.{arith}
 use lib.IntN.{ℤ}
-use Rattle.ledger.specs.declared.order.Order.{Order}
-use Rattle.ledger.specs.Roster.{Roster}
 use Rattle.ledger.specs.Positions.{instrument, group}
 use Rattle.limits.specs.Lines.{isSet}
 use Rattle.book.specs.declared.Figures.{Figures}
 use Rattle.book.specs.declared.LimitLine.{LimitLine}
 use Rattle.book.specs.declared.LimitLine.the-variants.{Own, Default, OfGroup}
 use Rattle.book.specs.declared.Event.{Event}
-use Rattle.book.specs.declared.Event.the-variants.{Limit, Balance, Block, New, Replace, Cancel, Fill, Junk}
-use Rattle.book.specs.Books.{Book, setLine, work}
+use Rattle.book.specs.declared.Event.the-variants.{Limit, Balance, Block, New, Change, Junk}
+use Rattle.book.specs.Books.{setLine, bookAfter}
+use Rattle.book.specs.States.{State, work}
 use Rattle.book.specs.SetAgain.{LineName, nameOf, ownLine, defaultLine, groupLine, lineSet, lineOver, SetsAgain}
 use Rattle.book.proofs.Tables.{at-each}
 use Rattle.book.proofs.LimitsStay.{test, under-own, under-default, group-set-again}
@@ -36,9 +35,7 @@ set-by-that-limit e n = (there e, λ h. rw (h .2, h .3) (sets-its-line (h .0) (h
     there (Balance a i z) h = nothing h
     there (Block what z) h = nothing h
     there (New s a i id q) h = nothing h
-    there (Replace id q) h = nothing h
-    there (Cancel id) h = nothing h
-    there (Fill id q) h = nothing h
+    there (Change id c) h = nothing h
     there Junk h = nothing h
 
 -- an instrument's own line, a contract's default line, a group's line: each by a LIMIT of the account on it
@@ -72,74 +69,69 @@ group-line-set e a g =
     by c (OfGroup k x y) n h = (x, y, cc)
 
 -- an event that sets a default line leaves every own line
-default-keeps-own : (unit : Order → ℕ) (b : Book) (e : Event) (a c i : ℕ) → lineSet e ≡ some (defaultLine a c)
-    → work unit b e .linesOf a .ownOf i ≡ b .linesOf a .ownOf i
-unfolding work lineSet setLine
-default-keeps-own unit b (Limit d (Own j f)) a c i e = absurd (let z : _≡_ {A = ℕ} 0 1 = cc in omega arith)
-default-keeps-own unit b (Limit d (Default k f)) a c i e =
-    at-each d (setLine (Default k f) (b .linesOf d)) (b .linesOf) (λ ls. ls .ownOf i ≡ b .linesOf a .ownOf i) a (λ own. rw own) (λ _. refl)
-default-keeps-own unit b (Limit d (OfGroup g x y)) a c i e = absurd (let z : _≡_ {A = ℕ} 0 1 = cc in omega arith)
-default-keeps-own unit b (Balance d j z) a c i e = refl
-default-keeps-own unit b (Block what z) a c i e = refl
-default-keeps-own unit b (New s d j id n) a c i e = refl
-default-keeps-own unit b (Replace id n) a c i e = refl
-default-keeps-own unit b (Cancel id) a c i e = refl
-default-keeps-own unit b (Fill id n) a c i e = refl
-default-keeps-own unit b Junk a c i e = refl
+default-keeps-own : (k : State) (e : Event) (a c i : ℕ) → lineSet e ≡ some (defaultLine a c)
+    → work k e .book .linesOf a .ownOf i ≡ k .book .linesOf a .ownOf i
+unfolding bookAfter lineSet setLine
+default-keeps-own k (Limit d (Own j f)) a c i e = absurd (let z : _≡_ {A = ℕ} 0 1 = cc in omega arith)
+default-keeps-own k (Limit d (Default j f)) a c i e =
+    at-each d (setLine (Default j f) (k .book .linesOf d)) (k .book .linesOf) (λ ls. ls .ownOf i ≡ k .book .linesOf a .ownOf i) a (λ own. rw own) (λ _. refl)
+default-keeps-own k (Limit d (OfGroup g x y)) a c i e = absurd (let z : _≡_ {A = ℕ} 0 1 = cc in omega arith)
+default-keeps-own k (Balance d j z) a c i e = refl
+default-keeps-own k (Block what z) a c i e = refl
+default-keeps-own k (New s d j id n) a c i e = refl
+default-keeps-own k (Change id d) a c i e = refl
+default-keeps-own k Junk a c i e = refl
 
-module _ (unit : Order → ℕ) (r : Roster) (b : Book) (e : Event) (a : ℕ) where
+module _ (k : State) (e : Event) (a : ℕ) where
   -- an instrument's limit is set again by a LIMIT on its own line where that is set before or after it, or on its contract's default
   -- line where its own is not set
-  pub instrument-set-again : (i : ℕ) → SetsAgain unit r b e a (instrument i)
-      ↔ (((lineSet e ≡ some (ownLine a i)) × ((isSet (b .linesOf a .ownOf i) ≡ true) ⊎ (isSet (work unit b e .linesOf a .ownOf i) ≡ true)))
-      ⊎ ((lineSet e ≡ some (defaultLine a (r .contractOf i))) × (isSet (b .linesOf a .ownOf i) ≡ false)))
+  pub instrument-set-again : (i : ℕ) → SetsAgain k e a (instrument i)
+      ↔ (((lineSet e ≡ some (ownLine a i)) × ((isSet (k .book .linesOf a .ownOf i) ≡ true) ⊎ (isSet (work k e .book .linesOf a .ownOf i) ≡ true)))
+      ⊎ ((lineSet e ≡ some (defaultLine a (k .roster .contractOf i))) × (isSet (k .book .linesOf a .ownOf i) ≡ false)))
   instrument-set-again i = (⊎-elim before after, ⊎-elim own-back default-back)
     where
-      b′ : Book
-      b′ = work unit b e
-
-      before : lineSet e ≡ some (lineOver r b a (instrument i))
-          → ((lineSet e ≡ some (ownLine a i)) × ((isSet (b .linesOf a .ownOf i) ≡ true) ⊎
-          (isSet (work unit b e .linesOf a .ownOf i) ≡ true))) ⊎ ((lineSet e ≡ some (defaultLine a (r .contractOf i)))
-          × (isSet (b .linesOf a .ownOf i) ≡ false))
+      before : lineSet e ≡ some (lineOver (k .roster) (k .book) a (instrument i))
+          → ((lineSet e ≡ some (ownLine a i)) × ((isSet (k .book .linesOf a .ownOf i) ≡ true) ⊎
+          (isSet (work k e .book .linesOf a .ownOf i) ≡ true))) ⊎ ((lineSet e ≡ some (defaultLine a (k .roster .contractOf i)))
+          × (isSet (k .book .linesOf a .ownOf i) ≡ false))
       before h =
-          ⊎-elim (λ set. inl (h ∙ ap some (under-own r b a i set), inl set))
-          (λ unset. inr (h ∙ ap some (under-default r b a i unset), unset))
-          (test (isSet (b .linesOf a .ownOf i)))
+          ⊎-elim (λ set. inl (h ∙ ap some (under-own (k .roster) (k .book) a i set), inl set))
+          (λ unset. inr (h ∙ ap some (under-default (k .roster) (k .book) a i unset), unset))
+          (test (isSet (k .book .linesOf a .ownOf i)))
 
-      after : lineSet e ≡ some (lineOver r (work unit b e) a (instrument i))
-          → ((lineSet e ≡ some (ownLine a i)) × ((isSet (b .linesOf a .ownOf i) ≡ true) ⊎
-          (isSet (work unit b e .linesOf a .ownOf i) ≡ true))) ⊎ ((lineSet e ≡ some (defaultLine a (r .contractOf i)))
-          × (isSet (b .linesOf a .ownOf i) ≡ false))
+      after : lineSet e ≡ some (lineOver (k .roster) (work k e .book) a (instrument i))
+          → ((lineSet e ≡ some (ownLine a i)) × ((isSet (k .book .linesOf a .ownOf i) ≡ true) ⊎
+          (isSet (work k e .book .linesOf a .ownOf i) ≡ true))) ⊎ ((lineSet e ≡ some (defaultLine a (k .roster .contractOf i)))
+          × (isSet (k .book .linesOf a .ownOf i) ≡ false))
       after h =
-          ⊎-elim (λ set. inl (h ∙ ap some (under-own r b′ a i set), inr set))
+          ⊎-elim (λ set. inl (h ∙ ap some (under-own (k .roster) (work k e .book) a i set), inr set))
           (λ unset.
-          let d = h ∙ ap some (under-default r b′ a i unset) in
-          inr (d, ap isSet (sym (default-keeps-own unit b e a (r .contractOf i) i d)) ∙ unset))
-          (test (isSet (work unit b e .linesOf a .ownOf i)))
+          let d = h ∙ ap some (under-default (k .roster) (work k e .book) a i unset) in
+          inr (d, ap isSet (sym (default-keeps-own k e a (k .roster .contractOf i) i d)) ∙ unset))
+          (test (isSet (work k e .book .linesOf a .ownOf i)))
 
       own-back : (lineSet e ≡ some (ownLine a i))
-          × ((isSet (b .linesOf a .ownOf i) ≡ true) ⊎ (isSet (work unit b e .linesOf a .ownOf i) ≡ true))
-          → SetsAgain unit r b e a (instrument i)
+          × ((isSet (k .book .linesOf a .ownOf i) ≡ true) ⊎ (isSet (work k e .book .linesOf a .ownOf i) ≡ true))
+          → SetsAgain k e a (instrument i)
       own-back h =
-          ⊎-elim (λ set. inl (h .0 ∙ ap some (sym (under-own r b a i set)))) (λ set. inr (h .0 ∙ ap some (sym (under-own r b′ a i set))))
+          ⊎-elim (λ set. inl (h .0 ∙ ap some (sym (under-own (k .roster) (k .book) a i set)))) (λ set. inr (h .0 ∙ ap some (sym (under-own (k .roster) (work k e .book) a i set))))
           (h .1)
 
-      default-back : (lineSet e ≡ some (defaultLine a (r .contractOf i))) × (isSet (b .linesOf a .ownOf i) ≡ false)
-          → SetsAgain unit r b e a (instrument i)
-      default-back h = inl (h .0 ∙ ap some (sym (under-default r b a i (h .1))))
+      default-back : (lineSet e ≡ some (defaultLine a (k .roster .contractOf i))) × (isSet (k .book .linesOf a .ownOf i) ≡ false)
+          → SetsAgain k e a (instrument i)
+      default-back h = inl (h .0 ∙ ap some (sym (under-default (k .roster) (k .book) a i (h .1))))
 
   -- ---- the same with the events written out
-  pub group-again : (g : ℕ) → SetsAgain unit r b e a (group g) ↔ ((x : ℤ) × (y : ℤ) × (e ≡ Limit a (OfGroup g x y)))
-  group-again g = Iff·trans (group-set-again unit r b e a g) (group-line-set e a g)
+  pub group-again : (g : ℕ) → SetsAgain k e a (group g) ↔ ((x : ℤ) × (y : ℤ) × (e ≡ Limit a (OfGroup g x y)))
+  group-again g = Iff·trans (group-set-again k e a g) (group-line-set e a g)
 
-  pub instrument-again : (i : ℕ) → SetsAgain unit r b e a (instrument i)
+  pub instrument-again : (i : ℕ) → SetsAgain k e a (instrument i)
       ↔ ((((f : Figures) × (e ≡ Limit a (Own i f)))
-      × ((isSet (b .linesOf a .ownOf i) ≡ true) ⊎ (isSet (work unit b e .linesOf a .ownOf i) ≡ true))) ⊎
-      (((f : Figures) × (e ≡ Limit a (Default (r .contractOf i) f))) × (isSet (b .linesOf a .ownOf i) ≡ false)))
+      × ((isSet (k .book .linesOf a .ownOf i) ≡ true) ⊎ (isSet (work k e .book .linesOf a .ownOf i) ≡ true))) ⊎
+      (((f : Figures) × (e ≡ Limit a (Default (k .roster .contractOf i) f))) × (isSet (k .book .linesOf a .ownOf i) ≡ false)))
   instrument-again i =
       let own = own-line-set e a i in
-      let default = default-line-set e a (r .contractOf i) in
+      let default = default-line-set e a (k .roster .contractOf i) in
       let law = instrument-set-again i in (
         λ h. ⊎-elim (λ x. inl (own .0 (x .0), x .1)) (λ x. inr (default .0 (x .0), x .1)) (law .0 h),
         λ h. law .1 (⊎-elim (λ x. inl (own .1 (x .0), x .1)) (λ x. inr (default .1 (x .0), x .1)) h),

@@ -1,23 +1,30 @@
--- What each kind of event does to the open orders: it shifts what counts of one order. NEW enters it, REPLACE moves it to
--- another total, CANCEL takes it out, FILL lowers it by the quantity.
-use Prim.Native.Nat.{ℕ, _-_, _≤_}
-use mathlib.Core.Path.{_≡_, refl, sym, _∙_}
+-- What a NEW and a change do to the open orders: what counts of one order is another number. NEW enters it, REPLACE moves it to
+-- another total, CANCEL takes it out, FILL lowers it by the quantity, and the balances move by what is filled.
+use Prim.Native.Nat.{ℕ, _*_, _-_}
+use mathlib.Core.Path.{_≡_, refl, sym, _∙_, ap}
 use mathlib.Core.Logic.{_≢_, by-cases}
+use mathlib.Core.Bool.{Bool, true, false, cond}
 use mathlib.Core.List.{List, [], _∷_}
 use mathlib.Core.Option.{some}
 use native.Mathlib.Decide.{ℕ-discrete}
 use native.Mathlib.Omega.{arith}
-use lib.IntN.{ℤ, natAbs, _+ℤ_}
+use lib.IntN.{ℤ, pos, natAbs, _+ℤ_, +ℤ-idr}
 use borrow.Author.Tests.{ne-eqb}
+use Rattle.integers.specs.Parts.{signed}
 use Rattle.ledger.specs.declared.order.Order.{Order}
 use Rattle.ledger.specs.declared.order.Side.{Side}
+use Rattle.ledger.specs.declared.order.Side.the-variants.{Buy, Sell}
 use Rattle.ledger.specs.Orders.{remaining, filledBy, replacedTotal, closes}
+use Rattle.ledger.specs.Positions.{toward, wayOf, standsIn}
 use Rattle.ledger.specs.Fillings.{fillMoves}
+use Rattle.ledger.proofs.Sums.{Joined, Changed}
 use Rattle.ledger.proofs.Changes.{CountChanged, entered, replaced, filled, left}
-use Rattle.book.specs.declared.Event.the-variants.{New, Replace, Cancel, Fill}
-use Rattle.book.specs.Market.{Market, UnitKept}
-use Rattle.book.specs.OpenOrders.{find, insert, change, kept}
-use Rattle.book.specs.Books.{Book, newOrder, work}
+use Rattle.book.specs.declared.OrderChange.{OrderChange}
+use Rattle.book.specs.declared.OrderChange.the-variants.{Replace, Cancel, Fill}
+use Rattle.book.specs.declared.Event.the-variants.{New, Change}
+use Rattle.book.specs.OpenOrders.{find, insert, kept}
+use Rattle.book.specs.Books.{newOrder, changed, changedBalances, bookAfter}
+use Rattle.book.specs.States.{State, work}
 use Rattle.book.proofs.Cuts.{standing, insert-sums, change-sums, leave-sums}
 
 pub filled-remaining : (o : Order) (n : ℕ) → remaining (filledBy o n) ≡ remaining o - n
@@ -32,47 +39,77 @@ pub kept-some : (o : Order) → remaining o ≢ 0 → kept o ≡ o ∷ []
 unfolding kept closes
 kept-some o h = rw (ne-eqb (remaining o) 0 h)
 
-module _ (mk : Market) (b : Book) where
-  pub new-shift : (s : Side) (a i id : ℕ) (n : ℤ) → CountChanged (mk .unit) (newOrder s a i id n) 0 (remaining (newOrder s a i id n))
-      (b .orders) (work (mk .unit) b (New s a i id n) .orders)
-  unfolding work
+-- a fill of nothing moves nothing
+pub no-fill : (unit : Order → ℕ) (a i : ℕ) (o : Order) → fillMoves unit a i o 0 ≡ pos 0
+unfolding fillMoves
+no-fill unit a i o = by (standsIn a i o) (o .side)
+  where
+    nought : pos (unit o * 0) ≡ pos 0
+    nought = omega signed
+
+    by : (t : Bool) (s : Side) → cond t (toward (wayOf s) (pos (unit o * 0))) (pos 0) ≡ pos 0
+    by true s = rw nought (zero-toward s)
+      where
+        zero-toward : (s : Side) → toward (wayOf s) (pos 0) ≡ pos 0
+        zero-toward Buy = refl
+        zero-toward Sell = refl
+    by false s = refl
+
+-- what remains of an order after a change, and how many contracts the change fills
+abbrev pub remainsAfter : OrderChange → Order → ℕ
+remainsAfter (Replace n) o = natAbs n - o .filled
+remainsAfter Cancel o = 0
+remainsAfter (Fill n) o = remaining o - natAbs n
+
+abbrev pub filledIn : OrderChange → ℕ
+filledIn (Replace n) = 0
+filledIn Cancel = 0
+filledIn (Fill n) = natAbs n
+
+module _ (k : State) where
+  pub new-shift : (s : Side) (a i id : ℕ) (n : ℤ)
+      → CountChanged (k .market .unit) (newOrder s a i id n) 0 (remaining (newOrder s a i id n)) (k .book .orders)
+      (work k (New s a i id n) .book .orders)
+  unfolding bookAfter
   new-shift s a i id n =
       let o = newOrder s a i id n in
-      entered (mk .unit) o (b .orders) (insert o (b .orders)) (insert-sums o (b .orders))
+      entered (k .market .unit) o (k .book .orders) (insert o (k .book .orders)) (insert-sums o (k .book .orders))
 
-  module _ (keeps : UnitKept mk) (id : ℕ) (o : Order) (found : find id (b .orders) ≡ some o) where
-    pub replace-shift : (n : ℤ) → CountChanged (mk .unit) o (o .total - o .filled) (natAbs n - o .filled) (b .orders)
-        (work (mk .unit) b (Replace id n) .orders)
-    unfolding work
-    replace-shift n =
-        let f : Order → List Order = λ x. replacedTotal x (natAbs n) ∷ [] in
-        replaced (mk .unit) o (b .orders) (change id f (b .orders)) (natAbs n) (keeps .replaced o (natAbs n))
-        (change-sums (standing id (b .orders) o found) f (replacedTotal o (natAbs n)) refl)
+  module _ (id : ℕ) (o : Order) (found : find id (k .book .orders) ≡ some o) where
+    -- a change by which the order becomes o′, or leaves
+    stays : (c : OrderChange) (o′ : Order) → changed c o ≡ o′ ∷ [] → Changed o o′ (k .book .orders) (work k (Change id c) .book .orders)
+    unfolding bookAfter
+    stays c o′ = change-sums (standing id (k .book .orders) o found) (changed c) o′
 
-    pub cancel-shift : CountChanged (mk .unit) o (remaining o) 0 (b .orders) (work (mk .unit) b (Cancel id) .orders)
-    unfolding work
-    cancel-shift =
-        left (mk .unit) o (b .orders) (change id (λ x. []) (b .orders)) (leave-sums (standing id (b .orders) o found) (λ x. []) refl)
+    leaves : (c : OrderChange) → changed c o ≡ [] → Joined o (work k (Change id c) .book .orders) (k .book .orders)
+    unfolding bookAfter
+    leaves c = leave-sums (standing id (k .book .orders) o found) (changed c)
 
-    -- where nothing remains the order leaves
-    pub fill-shift : (n : ℤ) → natAbs n ≤ remaining o
-        → CountChanged (mk .unit) o (remaining o) (remaining o - natAbs n) (b .orders) (work (mk .unit) b (Fill id n) .orders)
-    unfolding work
-    fill-shift n most =
+    -- what counts of the order goes from what remains of it to what remains after the change
+    pub change-shift : (c : OrderChange) → CountChanged (k .market .unit) o (remaining o) (remainsAfter c o) (k .book .orders)
+        (work k (Change id c) .book .orders)
+    unfolding changed remaining
+    change-shift (Replace n) =
+        replaced (k .market .unit) o (k .book .orders) (work k (Change id (Replace n)) .book .orders) (natAbs n)
+        (k .market .unit-replaced o (natAbs n)) (stays (Replace n) (replacedTotal o (natAbs n)) refl)
+    change-shift Cancel =
+        left (k .market .unit) o (k .book .orders) (work k (Change id Cancel) .book .orders) (leaves Cancel refl)
+    change-shift (Fill n) =
         by-cases (ℕ-discrete (remaining (filledBy o (natAbs n))) 0)
         (λ e.
         let rest : remaining o - natAbs n ≡ 0 = sym (filled-remaining o (natAbs n)) ∙ e in
-        rw rest (left (mk .unit) o (b .orders) (change id f (b .orders))
-        (leave-sums (standing id (b .orders) o found) f (kept-none (filledBy o (natAbs n)) e))))
+        rw rest (left (k .market .unit) o (k .book .orders) orders′ (leaves (Fill n) (kept-none (filledBy o (natAbs n)) e))))
         (λ h.
-        filled (mk .unit) o (b .orders) (change id f (b .orders)) (natAbs n) (keeps .filled o (natAbs n))
-        (change-sums (standing id (b .orders) o found) f (filledBy o (natAbs n)) (kept-some (filledBy o (natAbs n)) h)))
+        filled (k .market .unit) o (k .book .orders) orders′ (natAbs n) (k .market .unit-filled o (natAbs n))
+        (stays (Fill n) (filledBy o (natAbs n)) (kept-some (filledBy o (natAbs n)) h)))
       where
-        f : Order → List Order
-        f x = kept (filledBy x (natAbs n))
+        orders′ : List Order
+        orders′ = work k (Change id (Fill n)) .book .orders
 
-    -- the balances move by the fill
-    pub fill-balances : (n : ℤ) (a i : ℕ) → work (mk .unit) b (Fill id n) .balanceOf a i ≡ b .balanceOf a i +ℤ fillMoves (mk .unit) a i o
-        (natAbs n)
-    unfolding work
-    fill-balances n a i = rw found
+    -- the balances move by what is filled
+    pub change-balances : (c : OrderChange) (a i : ℕ)
+        → work k (Change id c) .book .balanceOf a i ≡ k .book .balanceOf a i +ℤ fillMoves (k .market .unit) a i o (filledIn c)
+    unfolding bookAfter changedBalances
+    change-balances (Replace n) a i = sym (ap (λ z. k .book .balanceOf a i +ℤ z) (no-fill (k .market .unit) a i o) ∙ +ℤ-idr _)
+    change-balances Cancel a i = sym (ap (λ z. k .book .balanceOf a i +ℤ z) (no-fill (k .market .unit) a i o) ∙ +ℤ-idr _)
+    change-balances (Fill n) a i = rw found

@@ -2,7 +2,7 @@
 use Prim.Native.Nat.{ℕ, _≤_, _<_}
 use mathlib.Core.Path.{_≡_}
 use mathlib.Core.Logic.{_↔_}
-use mathlib.Core.Bool.{Bool, true}
+use mathlib.Core.Bool.{true}
 use mathlib.Core.List.{List, [], _∷_, List·Memᴰ}
 use mathlib.Core.Option.{some}
 use lib.ListN.{length}
@@ -13,8 +13,7 @@ use Rattle.ledger.specs.Orders.{remaining}
 use Rattle.ledger.specs.Roster.{Roster, Numbered}
 use Rattle.ledger.specs.Positions.{Way, ofInstrument}
 use Rattle.limits.specs.Lines.{Line, GroupLine, Lines}
-use Rattle.book.specs.Market.{Market}
-use Rattle.book.specs.Books.{Book}
+use Rattle.book.specs.States.{State}
 use Rattle.book.specs.Sound.{RosterFits, LineFits, LinesFit, OrderFits, Ascending, nothing, next, Sound}
 
 -- "its roster would be accepted": questions 2, 3 and 4
@@ -61,14 +60,14 @@ order-fits-iff r o = (
   λ h. record { account = h .0; instrument = h .1; total = h .2; remains = h .3 },
 )
 
-pub sound-iff : (mk : Market) (r : Roster) (b : Book) (trading : ℕ → Bool) → Sound mk r b trading ↔ (RosterFits r
-    × ((a : ℕ) → LinesFit (mk .largest) (b .linesOf a))
-    × (length (b .orders) ≤ 256)
-    × ((o : Order) → List·Memᴰ o (b .orders) → OrderFits r o)
-    × Ascending 0 (b .orders)
-    × ((a i : ℕ) (w : Way) → ofInstrument (mk .unit) (b .orders) a (b .balanceOf a) i w ≤ℤ pos (mk .largest))
-    × ((o : Order) → List·Memᴰ o (b .orders) → trading (o .account) ≡ true))
-sound-iff mk r b trading = (
+pub sound-iff : (k : State) → Sound k ↔ (RosterFits (k .roster)
+    × ((a : ℕ) → LinesFit (k .market .largest) (k .book .linesOf a))
+    × (length (k .book .orders) ≤ 256)
+    × ((o : Order) → List·Memᴰ o (k .book .orders) → OrderFits (k .roster) o)
+    × Ascending 0 (k .book .orders)
+    × ((a i : ℕ) (w : Way) → ofInstrument (k .market .unit) (k .book .orders) a (k .book .balanceOf a) i w ≤ℤ pos (k .market .largest))
+    × ((o : Order) → List·Memᴰ o (k .book .orders) → k .beside .trading (o .account) ≡ true))
+sound-iff k = (
   λ h. (h .roster, h .lines, h .count, h .fits, h .ids, h .bounded, h .marked),
   λ h. record { roster = h .0; lines = h .1; count = h .2; fits = h .3; ids = h .4; bounded = h .5; marked = h .6 },
 )

@@ -1,24 +1,23 @@
 -- The table of an event: its numbers in document 01's order, and the order that its later questions are asked of.
 use Prim.Native.Nat.{ℕ, _<_}
-use mathlib.Core.Path.{_≡_, refl, sym}
+use mathlib.Core.Path.{_≡_, refl, sym, ap}
 use mathlib.Core.Logic.{_↔_, _⊎_, inl, inr, ⊎-elim}
-use mathlib.Core.Bool.{Bool, true, false, cond}
+use mathlib.Core.Bool.{Bool}
 use mathlib.Core.List.{List, [], _∷_, map}
 use mathlib.Core.Option.{Option, none, some}
-use lib.Dec.{ltb}
 use lib.IntN.{ℤ, natAbs}
-use borrow.Author.Tests.{ltb-true, lt-ltb}
+use borrow.Author.Tests.{lt-ltb}
 use Rattle.ledger.specs.declared.order.Order.{Order}
 use Rattle.ledger.specs.Orders.{replacedTotal}
-use Rattle.ledger.specs.Roster.{Roster}
 use Rattle.limits.specs.Questions.{Question}
 use Rattle.limits.specs.Asked.{positionQuestions}
 use Rattle.book.specs.declared.Event.{Event}
-use Rattle.book.specs.declared.Event.the-variants.{Limit, Balance, Block, New, Replace, Cancel, Fill, Junk}
-use Rattle.book.specs.Market.{Market}
+use Rattle.book.specs.declared.OrderChange.the-variants.{Replace}
+use Rattle.book.specs.declared.Event.the-variants.{Limit, Balance, Block, New, Change, Junk}
 use Rattle.book.specs.OpenOrders.{find}
-use Rattle.book.specs.Books.{Book, newOrder, work}
-use Rattle.book.specs.Table.{raised, entered, questionsBefore, positionsAfter, limitQuestions, questions}
+use Rattle.book.specs.Books.{Book, newOrder}
+use Rattle.book.specs.States.{State, work}
+use Rattle.book.specs.Table.{entered, questionsBefore, positionsAfter, limitQuestions, questions}
 use Rattle.book.proofs.OrdersEntered.{none-enters, raised-found}
 
 abbrev pub numbersOf : List Question → List ℕ
@@ -30,13 +29,13 @@ positionNumbers none = []
 positionNumbers (some o) = 21 ∷ 22 ∷ 23 ∷ 24 ∷ []
 
 -- "Questions, in order": 5 to 20, and then 21 to 24 of a NEW and of "a REPLACE whose total rises"
-pub numbers-in-order : (mk : Market) (r : Roster) (sound : Bool) (b : Book) (trading : ℕ → Bool) (e : Event)
-    → numbersOf (questions mk r sound b trading e) ≡ 5 ∷ 6 ∷ 7 ∷ 8 ∷ 9 ∷ 10 ∷ 11 ∷ 12 ∷ 13 ∷ 14 ∷ 15 ∷ 16 ∷ 17 ∷ 18 ∷ 19 ∷ 20
-    ∷ positionNumbers (entered b e)
+pub numbers-in-order : (sound : Bool) (k : State) (e : Event)
+    → numbersOf (questions sound k e) ≡ 5 ∷ 6 ∷ 7 ∷ 8 ∷ 9 ∷ 10 ∷ 11 ∷ 12 ∷ 13 ∷ 14 ∷ 15 ∷ 16 ∷ 17 ∷ 18 ∷ 19 ∷ 20
+    ∷ positionNumbers (entered (k .book) e)
 unfolding questions questionsBefore limitQuestions positionQuestions
-numbers-in-order mk r sound b trading e = rw (at-the-end (entered b e))
+numbers-in-order sound k e = rw (at-the-end (entered (k .book) e))
   where
-    at-the-end : (x : Option Order) → numbersOf (positionsAfter mk r (work (mk .unit) b e) x) ≡ positionNumbers x
+    at-the-end : (x : Option Order) → numbersOf (positionsAfter (work k e) x) ≡ positionNumbers x
     at-the-end none = refl
     at-the-end (some o) = refl
 
@@ -52,7 +51,7 @@ Raises b e o =
     (id : ℕ)
     × (n : ℤ)
     × (x : Order)
-    × (e ≡ Replace id n)
+    × (e ≡ Change id (Replace n))
     × (find id (b .orders) ≡ some x)
     × (x .total < natAbs n)
     × (o ≡ record { id = x .id; account = x .account; instrument = x .instrument; side = x .side; total = natAbs n; filled = x .filled })
@@ -61,23 +60,14 @@ pub entered-iff : (b : Book) (e : Event) (o : Order) → (entered b e ≡ some o
 unfolding entered newOrder replacedTotal
 entered-iff b e o = (there e, ⊎-elim by-new by-replace)
   where
-    rises : (n : ℕ) (x : Order) → raised n (some x) ≡ some o → x .total < n
-    rises n x h = by (ltb (x .total) n) refl h
-      where
-        by : (t : Bool) → ltb (x .total) n ≡ t → cond t (some (replacedTotal x n)) none ≡ some o → x .total < n
-        by true test h = ltb-true (x .total) n test
-        by false test h = none-enters o h
-
     there : (e : Event) → entered b e ≡ some o → IsNew e o ⊎ Raises b e o
     there (Limit a l) h = none-enters o h
     there (Balance a i z) h = none-enters o h
     there (Block what z) h = none-enters o h
     there (New s a i id n) h = inl (n, cc, cc, cc)
-    there (Replace id n) h =
-        let found = raised-found (natAbs n) (find id (b .orders)) o h in
-        inr (id, n, found .0, refl, found .1, rises (natAbs n) (found .0) (rw (found .1) at h), found .2)
-    there (Cancel id) h = none-enters o h
-    there (Fill id n) h = none-enters o h
+    there (Change id c) h =
+        let found = raised-found c (find id (b .orders)) o h in
+        inr (id, found .0, found .1, ap (Change id) (found .2), found .3, found .4, found .5)
     there Junk h = none-enters o h
 
     by-new : IsNew e o → entered b e ≡ some o

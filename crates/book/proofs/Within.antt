@@ -1,12 +1,13 @@
 -- An accepted event keeps a potential position within every bound that its limit is within. With the limit itself for the
 -- bound this is demand 3's second half; with the largest figure it is soundness.
-use Prim.Native.Nat.{ℕ, _≤_, _<_}
+use Prim.Native.Nat.{ℕ, _+_, _≤_, _<_}
 use mathlib.Core.Path.{_≡_, refl}
 use mathlib.Core.Logic.{_≢_, by-cases}
 use mathlib.Core.Bool.{Bool, true, false}
 use mathlib.Core.Option.{Option, none, some}
 use native.Mathlib.Decide.{ℕ-discrete}
-use lib.Dec.{ltb, leb}
+use native.Mathlib.Omega.{arith}
+use lib.Dec.{ltb}
 use lib.IntN.{ℤ, natAbs}
 use lib.Signed.{_≤ℤ_}
 use borrow.Author.Tests.{ltb-true, ltb-false, leb-true, lt-ltb, le-ltb}
@@ -17,17 +18,22 @@ use Rattle.ledger.specs.Roster.{Roster}
 use Rattle.ledger.specs.Positions.{Way, Scope, instrument, group}
 use Rattle.ledger.specs.Moves.{Moves}
 use Rattle.ledger.proofs.Movement.{moves?}
-use Rattle.limits.specs.Lines.{limit, isSet}
+use Rattle.limits.specs.Lines.{isSet}
 use Rattle.limits.proofs.LineLaws.{set-some}
 use Rattle.book.specs.declared.Event.{Event}
-use Rattle.book.specs.declared.Event.the-variants.{Limit, Balance, Block, New, Replace, Cancel, Fill, Junk}
-use Rattle.book.specs.Market.{Market, UnitKept}
+use Rattle.book.specs.declared.OrderChange.{OrderChange}
+use Rattle.book.specs.declared.OrderChange.the-variants.{Replace, Cancel, Fill}
+use Rattle.book.specs.declared.Event.the-variants.{Limit, Balance, Block, New, Change, Junk}
 use Rattle.book.specs.OpenOrders.{find}
-use Rattle.book.specs.Books.{Book, newOrder, work}
-use Rattle.book.specs.Table.{idOpen, quantityFits, whereSome, entered}
-use Rattle.book.proofs.Accepted.{Accepted}
-use Rattle.book.proofs.Potentials.{potentialOf, limit-level, block-level, balance-other, new-unmoved, new-other, replace-lowers}
-use Rattle.book.proofs.Potentials.{replace-unmoved, replace-other, cancel-lowers, fill-lowers-each}
+use Rattle.book.specs.Books.{Book, newOrder, bookAfter}
+use Rattle.book.specs.States.{State, work}
+use Rattle.book.specs.Table.{figuresFit, changeInRange, idOpen, fitsOrder, quantityFits, whereSome, entered}
+use Rattle.book.specs.Positions.{potentialOf}
+use Rattle.book.specs.Demand3.{limitOf}
+use Rattle.book.proofs.Accepted.{Passed, Accepted}
+use Rattle.book.proofs.Shifts.{remainsAfter, filledIn}
+use Rattle.book.proofs.Potentials.{limit-level, block-level, balance-other, new-unmoved, new-other, replace-unmoved, replace-other}
+use Rattle.book.proofs.Potentials.{change-lowers}
 
 -- the event sets no balance of account a
 abbrev pub SetsNoBalance : ℕ → Event → Type 0
@@ -35,9 +41,7 @@ SetsNoBalance a (Limit c l) = Unit
 SetsNoBalance a (Balance c i z) = a ≢ c
 SetsNoBalance a (Block what z) = Unit
 SetsNoBalance a (New s c i id n) = Unit
-SetsNoBalance a (Replace id n) = Unit
-SetsNoBalance a (Cancel id) = Unit
-SetsNoBalance a (Fill id n) = Unit
+SetsNoBalance a (Change id c) = Unit
 SetsNoBalance a Junk = Unit
 
 -- the order that an accepted REPLACE, CANCEL or FILL names
@@ -48,15 +52,33 @@ found-order id b e = set-some (find id (b .orders)) e
 pub test-found : (test : Order → Bool) (x : Option Order) (o : Order) → x ≡ some o → whereSome test x ≡ true → test o ≡ true
 test-found test x o e h = rw e at h
 
+-- the order that an accepted change names, and that the change fits it
+pub record Named (k : State) (id : ℕ) (c : OrderChange) : Type 0 where
+  pub order : Order
+  pub found : find id (k .book .orders) ≡ some order
+  pub fits : fitsOrder c order ≡ true
+  pub figures : changeInRange c ≡ true
+
+pub named-order : (k : State) (id : ℕ) (c : OrderChange) → Passed k (Change id c) → Named k id c
+unfolding idOpen quantityFits figuresFit
+named-order k id c ok =
+    let f = found-order id (k .book) (ok .found) in
+    record {
+      order = f .0;
+      found = f .1;
+      fits = test-found (fitsOrder c) (find id (k .book .orders)) (f .0) (f .1) (ok .quantity);
+      figures = ok .figures;
+    }
+
 -- a REPLACE whose total does not rise enters nothing, so questions 14 to 24 are not asked of it
 pub enters-nothing : (b : Book) (id : ℕ) (n : ℤ) (o : Order) → find id (b .orders) ≡ some o → natAbs n ≤ o .total
-    → entered b (Replace id n) ≡ none
+    → entered b (Change id (Replace n)) ≡ none
 unfolding entered
 enters-nothing b id n o found down = rw (found, le-ltb (o .total) (natAbs n) down)
 
 -- one whose total rises raises the order found to it
 pub enters-raised : (b : Book) (id : ℕ) (n : ℤ) (o : Order) → find id (b .orders) ≡ some o → o .total < natAbs n
-    → entered b (Replace id n) ≡ some (replacedTotal o (natAbs n))
+    → entered b (Change id (Replace n)) ≡ some (replacedTotal o (natAbs n))
 unfolding entered
 enters-raised b id n o found up = rw (found, lt-ltb (o .total) (natAbs n) up)
 
@@ -66,49 +88,67 @@ unfolding replacedTotal
 replaced-moves r o n w (instrument i) m = m
 replaced-moves r o n w (group g) m = m
 
-module _ (mk : Market) (keeps : UnitKept mk) (r : Roster) (b : Book) (trading : ℕ → Bool) (a : ℕ) (p : Scope) (w : Way) (bound : ℤ) where
+module _ (k : State) (a : ℕ) (p : Scope) (w : Way) (bound : ℤ) where
   -- the order that it enters or raises: what that moves was checked
-  entered-within : (e : Event) → Accepted mk r b trading e → (o : Order) → entered b e ≡ some o → work (mk .unit) b e .linesOf ≡ b .linesOf
-      → limit r (b .linesOf a) p w ≤ℤ bound → o .account ≡ a → Moves r o p w → potentialOf mk r (work (mk .unit) b e) a p w ≤ℤ bound
+  entered-within : (e : Event) → Accepted k e → (o : Order) → entered (k .book) e ≡ some o
+      → work k e .book .linesOf ≡ k .book .linesOf → limitOf k a p w ≤ℤ bound → o .account ≡ a → Moves (k .roster) o p w
+      → potentialOf (work k e) a p w ≤ℤ bound
   entered-within e acc o enters lines le own m =
       let h = acc .within o enters p w m in
-      let k : potentialOf mk r (work (mk .unit) b e) a p w ≤ℤ limit r (b .linesOf a) p w = rw (own, lines) at h in
+      let within : potentialOf (work k e) a p w ≤ℤ limitOf k a p w = rw (own, lines) at h in
       omega signed
 
-  pub kept-within : (e : Event) → Accepted mk r b trading e → SetsNoBalance a e → limit r (b .linesOf a) p w ≤ℤ bound
-      → potentialOf mk r b a p w ≤ℤ bound → potentialOf mk r (work (mk .unit) b e) a p w ≤ℤ bound
-  unfolding idOpen quantityFits entered newOrder work replacedTotal
-  kept-within (Limit c l) acc out le h = let same = limit-level mk r b a p w c l in omega signed
-  kept-within (Balance c i z) acc out le h = let same = balance-other mk r b a p w c i z out in omega signed
-  kept-within (Block what z) acc out le h = let same = block-level mk r b a p w what z in omega signed
+  -- a change that raises no total raises no position
+  lowered-within : (id : ℕ) (c : OrderChange) (o : Order) → find id (k .book .orders) ≡ some o
+      → remainsAfter c o + filledIn c ≤ remaining o → potentialOf k a p w ≤ℤ bound → potentialOf (work k (Change id c)) a p w ≤ℤ bound
+  lowered-within id c o found down h = omega (signed, change-lowers k a p w id o found c down)
+
+  -- a REPLACE that raises order o
+  raised-within : (id : ℕ) (n : ℤ) → Accepted k (Change id (Replace n)) → (o : Order) → find id (k .book .orders) ≡ some o
+      → o .total < natAbs n → limitOf k a p w ≤ℤ bound → potentialOf k a p w ≤ℤ bound
+      → potentialOf (work k (Change id (Replace n))) a p w ≤ℤ bound
+  unfolding bookAfter replacedTotal
+  raised-within id n acc o found up le h =
+      by-cases (ℕ-discrete (o .account) a)
+      (λ own. by-cases (moves? (k .roster) o p w)
+      (λ m. entered-within (Change id (Replace n)) acc (replacedTotal o (natAbs n)) (enters-raised (k .book) id n o found up) refl le own
+      (replaced-moves (k .roster) o (natAbs n) w p m))
+      (λ m. let same = replace-unmoved k a p w id o found n m in omega signed))
+      (λ other. let same = replace-other k a p w id o found n other in omega signed)
+
+  changed-within : (id : ℕ) (c : OrderChange) → Accepted k (Change id c) → limitOf k a p w ≤ℤ bound → potentialOf k a p w ≤ℤ bound
+      → potentialOf (work k (Change id c)) a p w ≤ℤ bound
+  unfolding remaining
+  changed-within id (Replace n) acc le h =
+      let x = named-order k id (Replace n) (acc .passed) in
+      by (x .order) (x .found) (ltb (x .order .total) (natAbs n)) refl
+    where
+      by : (o : Order) → find id (k .book .orders) ≡ some o → (t : Bool) → ltb (o .total) (natAbs n) ≡ t
+          → potentialOf (work k (Change id (Replace n))) a p w ≤ℤ bound
+      by o found true up = raised-within id n acc o found (ltb-true (o .total) (natAbs n) up) le h
+      by o found false up =
+          let down = ltb-false (o .total) (natAbs n) up in
+          lowered-within id (Replace n) o found (omega arith) h
+  changed-within id Cancel acc le h =
+      let x = named-order k id Cancel (acc .passed) in
+      lowered-within id Cancel (x .order) (x .found) (omega arith) h
+  changed-within id (Fill n) acc le h =
+      let x = named-order k id (Fill n) (acc .passed) in
+      let most = leb-true (natAbs n) (remaining (x .order)) (x .fits) in
+      lowered-within id (Fill n) (x .order) (x .found) (omega arith) h
+
+  pub kept-within : (e : Event) → Accepted k e → SetsNoBalance a e → limitOf k a p w ≤ℤ bound → potentialOf k a p w ≤ℤ bound
+      → potentialOf (work k e) a p w ≤ℤ bound
+  unfolding entered newOrder bookAfter
+  kept-within (Limit c l) acc out le h = let same = limit-level k a p w c l in omega signed
+  kept-within (Balance c i z) acc out le h = let same = balance-other k a p w c i z out in omega signed
+  kept-within (Block what z) acc out le h = let same = block-level k a p w what z in omega signed
   kept-within (New s c i id n) acc out le h =
       let o = newOrder s c i id n in
       by-cases (ℕ-discrete c a)
-      (λ own. by-cases (moves? r o p w)
+      (λ own. by-cases (moves? (k .roster) o p w)
       (entered-within (New s c i id n) acc o refl refl le own)
-      (λ m. let same = new-unmoved mk r b a p w s c i id n m in omega signed))
-      (λ other. let same = new-other mk r b a p w s c i id n other in omega signed)
-  kept-within (Replace id n) acc out le h =
-      let f = found-order id b (acc .passed .found) in
-      by-raise (f .0) (f .1) (ltb (f .0 .total) (natAbs n)) refl
-    where
-      by-raise : (o : Order) → find id (b .orders) ≡ some o → (t : Bool) → ltb (o .total) (natAbs n) ≡ t
-          → potentialOf mk r (work (mk .unit) b (Replace id n)) a p w ≤ℤ bound
-      by-raise o found true up =
-          by-cases (ℕ-discrete (o .account) a)
-          (λ own. by-cases (moves? r o p w)
-          (λ m. entered-within (Replace id n) acc (replacedTotal o (natAbs n))
-          (enters-raised b id n o found (ltb-true (o .total) (natAbs n) up)) refl le own (replaced-moves r o (natAbs n) w p m))
-          (λ m. let same = replace-unmoved mk r b a p w keeps id o found n m in omega signed))
-          (λ other. let same = replace-other mk r b a p w keeps id o found n other in omega signed)
-      by-raise o found false up =
-          omega (signed, replace-lowers mk r b a p w keeps id o found n (ltb-false (o .total) (natAbs n) up))
-  kept-within (Cancel id) acc out le h =
-      let f = found-order id b (acc .passed .found) in
-      omega (signed, cancel-lowers mk r b a p w keeps id (f .0) (f .1))
-  kept-within (Fill id n) acc out le h =
-      let f = found-order id b (acc .passed .found) in
-      let most = leb-true (natAbs n) (remaining (f .0))
-      (test-found (λ o. leb (natAbs n) (remaining o)) (find id (b .orders)) (f .0) (f .1) (acc .passed .quantity)) in
-      omega (signed, fill-lowers-each mk r b a p w keeps id (f .0) (f .1) n most)
+      (λ m. let same = new-unmoved k a p w s c i id n m in omega signed))
+      (λ other. let same = new-other k a p w s c i id n other in omega signed)
+  kept-within (Change id c) acc out le h = changed-within id c acc le h
   kept-within Junk acc out le h = h

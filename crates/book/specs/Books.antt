@@ -1,6 +1,6 @@
 -- Document 01, "The plain book", and what an accepted event does to it.
 use Prim.Native.Nat.{ℕ}
-use mathlib.Core.Bool.{Bool, true, false, not, _&&_, cond}
+use mathlib.Core.Bool.{Bool, false, not, _&&_, cond}
 use mathlib.Core.List.{List, [], _∷_}
 use mathlib.Core.Option.{Option, none, some}
 use lib.Dec.{eqb}
@@ -16,8 +16,10 @@ use Rattle.book.specs.declared.LimitLine.{LimitLine}
 use Rattle.book.specs.declared.LimitLine.the-variants.{Own, Default, OfGroup}
 use Rattle.book.specs.declared.Blocked.{Blocked}
 use Rattle.book.specs.declared.Blocked.the-variants.{Account, Instrument, GroupFor}
+use Rattle.book.specs.declared.OrderChange.{OrderChange}
+use Rattle.book.specs.declared.OrderChange.the-variants.{Replace, Cancel, Fill}
 use Rattle.book.specs.declared.Event.{Event}
-use Rattle.book.specs.declared.Event.the-variants.{Limit, Balance, Block, New, Replace, Cancel, Fill, Junk}
+use Rattle.book.specs.declared.Event.the-variants.{Limit, Balance, Block, New, Change, Junk}
 use Rattle.book.specs.OpenOrders.{find, insert, change, kept}
 
 -- which accounts, instruments (for all) and groups (for an account) are blocked
@@ -88,43 +90,43 @@ unfoldable pub newOrder : Side → ℕ → ℕ → ℕ → ℤ → Order
 newOrder s a i id n =
     record { id = id; account = a; instrument = i; side = s; total = natAbs n; filled = 0 }
 
+-- what a change makes of an order: REPLACE: it gets the new total. CANCEL: it leaves. FILL: its filled rises by the quantity; at remaining
+-- 0 it leaves
+unfoldable pub changed : OrderChange → Order → List Order
+changed (Replace n) o = replacedTotal o (natAbs n) ∷ []
+changed Cancel o = []
+changed (Fill n) o = kept (filledBy o (natAbs n))
+
 -- balances after a fill of the order found, by n
 abbrev pub filledBalances : (Order → ℕ) → Option Order → ℕ → (ℕ → ℕ → ℤ) → ℕ → ℕ → ℤ
 filledBalances unit none n s a i = s a i
 filledBalances unit (some o) n s a i = s a i +ℤ fillMoves unit a i o n
 
+-- balances after a change of the order found: a FILL moves S, nothing else does
+unfoldable pub changedBalances : (Order → ℕ) → OrderChange → Option Order → (ℕ → ℕ → ℤ) → ℕ → ℕ → ℤ
+changedBalances unit (Replace n) x s = s
+changedBalances unit Cancel x s = s
+changedBalances unit (Fill n) x s = filledBalances unit x (natAbs n) s
+
 abbrev pub withOrders : Book → List Order → Book
 withOrders b os = record { balanceOf = b .balanceOf; linesOf = b .linesOf; blocks = b .blocks; orders = os }
 
--- what an accepted event does.
--- LIMIT, BALANCE, BLOCK: the figures become that line, S or block. NEW: an order joins. REPLACE: the order with that id gets
--- the new total. CANCEL: that order leaves. FILL: its filled rises by the quantity, and S moves; at remaining 0 it leaves.
-unfoldable pub work : (Order → ℕ) → Book → Event → Book
-work unit b (Limit a l) =
+-- the book after an accepted event.
+-- LIMIT, BALANCE, BLOCK: the figures become that line, S or block. NEW: an order joins. REPLACE, CANCEL, FILL: the order with that id
+-- becomes what the change makes of it, and S moves by a FILL
+unfoldable pub bookAfter : (Order → ℕ) → Book → Event → Book
+bookAfter unit b (Limit a l) =
     record { balanceOf = b .balanceOf; linesOf = at a (setLine l (b .linesOf a)) (b .linesOf); blocks = b .blocks; orders = b .orders }
-work unit b (Balance a i z) =
+bookAfter unit b (Balance a i z) =
     record { balanceOf = at a (at i z (b .balanceOf a)) (b .balanceOf); linesOf = b .linesOf; blocks = b .blocks; orders = b .orders }
-work unit b (Block what z) =
+bookAfter unit b (Block what z) =
     record { balanceOf = b .balanceOf; linesOf = b .linesOf; blocks = setBlock what (not (isZero z)) (b .blocks); orders = b .orders }
-work unit b (New s a i id n) = withOrders b (insert (newOrder s a i id n) (b .orders))
-work unit b (Replace id n) = withOrders b (change id (λ o. replacedTotal o (natAbs n) ∷ []) (b .orders))
-work unit b (Cancel id) = withOrders b (change id (λ o. []) (b .orders))
-work unit b (Fill id n) =
+bookAfter unit b (New s a i id n) = withOrders b (insert (newOrder s a i id n) (b .orders))
+bookAfter unit b (Change id c) =
     record {
-      balanceOf = filledBalances unit (find id (b .orders)) (natAbs n) (b .balanceOf);
+      balanceOf = changedBalances unit c (find id (b .orders)) (b .balanceOf);
       linesOf = b .linesOf;
       blocks = b .blocks;
-      orders = change id (λ o. kept (filledBy o (natAbs n))) (b .orders);
+      orders = change id (changed c) (b .orders);
     }
-work unit b Junk = b
-
--- beside the book: which accounts are marked as trading. Only an accepted NEW sets that mark.
-unfoldable pub mark : (ℕ → Bool) → Event → ℕ → Bool
-mark trading (Limit a l) = trading
-mark trading (Balance a i z) = trading
-mark trading (Block what z) = trading
-mark trading (New s a i id n) = at a true trading
-mark trading (Replace id n) = trading
-mark trading (Cancel id) = trading
-mark trading (Fill id n) = trading
-mark trading Junk = trading
+bookAfter unit b Junk = b

@@ -1,25 +1,22 @@
--- A day on the derivatives desk, computed: the answers to a list of events, and the plain book at its end.
+-- A day, computed: the answers to a list of events, and what is kept at its end.
 use Prim.Native.Nat.{ℕ}
 use mathlib.Core.Bool.{Bool, true, _&&_}
 use mathlib.Core.List.{List, [], _∷_}
 use lib.Dec.{ltb}
-use Rattle.ledger.specs.Roster.{Roster}
 use Rattle.book.specs.declared.Event.{Event}
-use Rattle.book.specs.Market.{derivatives}
 use Rattle.book.specs.Decoding.{decode}
+use Rattle.book.specs.States.{State}
 use Rattle.book.specs.Table.{answer}
-use Rattle.book.specs.EventLists.{State, keep}
+use Rattle.book.specs.EventLists.{keep}
 
 -- each event worked where it is accepted
-abbrev pub answersTo : Roster → State → List Event → List ℕ
-answersTo r k [] = []
-answersTo r k (e ∷ es) =
-    let n = answer derivatives r (k .book) (k .trading) e in
-    n ∷ answersTo r (keep derivatives k e n) es
+abbrev pub answersTo : State → List Event → List ℕ
+answersTo k [] = []
+answersTo k (e ∷ es) = let n = answer k e in n ∷ answersTo (keep k e n) es
 
-abbrev pub endOf : Roster → State → List Event → State
-endOf r k [] = k
-endOf r k (e ∷ es) = endOf r (keep derivatives k e (answer derivatives r (k .book) (k .trading) e)) es
+abbrev pub endOf : State → List Event → State
+endOf k [] = k
+endOf k (e ∷ es) = endOf (keep k e (answer k e)) es
 
 -- ---- a day in bytes
 abbrev pub decoded : List (List ℕ) → List Event

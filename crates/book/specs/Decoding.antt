@@ -12,7 +12,8 @@ use Rattle.book.specs.declared.Figures.{Figures}
 use Rattle.book.specs.declared.Event.{Event}
 use Rattle.book.specs.declared.LimitLine.the-variants.{Own, Default, OfGroup}
 use Rattle.book.specs.declared.Blocked.the-variants.{Account, Instrument, GroupFor}
-use Rattle.book.specs.declared.Event.the-variants.{Limit, Balance, Block, New, Replace, Cancel, Fill, Junk}
+use Rattle.book.specs.declared.OrderChange.the-variants.{Replace, Cancel, Fill}
+use Rattle.book.specs.declared.Event.the-variants.{Limit, Balance, Block, New, Change, Junk}
 
 -- the fields, in the order of the bytes: kind, side, account, item, level, zero, order id, four figures
 abbrev pub kindOf : List ℕ → ℕ
@@ -131,9 +132,9 @@ eventOf e =
     (GroupFor (accountField e) (itemField e)))
     (figureField e 0))
     (New (sideOf (sideField e)) (accountField e) (itemField e) (idField e) (figureField e 0))
-    (Replace (idField e) (figureField e 0))
-    (Cancel (idField e))
-    (Fill (idField e) (figureField e 0))
+    (Change (idField e) (Replace (figureField e 0)))
+    (Change (idField e) Cancel)
+    (Change (idField e) (Fill (figureField e 0)))
 
 unfoldable pub decode : List ℕ → Event
 decode e = cond (wellFormed e) (eventOf e) Junk

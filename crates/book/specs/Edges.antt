@@ -7,7 +7,7 @@ use Rattle.ledger.specs.Roster.{Roster}
 use Rattle.book.specs.Market.{derivatives}
 use Rattle.book.specs.Decoding.{between, decode}
 use Rattle.book.specs.Table.{answer}
-use Rattle.book.specs.EventLists.{begun}
+use Rattle.book.specs.States.{begun}
 use Rattle.book.specs.Positions.{instrumentIn}
 use Rattle.book.specs.Days.{answersTo, endOf, decoded, allBytes}
 use Rattle.book.specs.EventBytes.{line, groupLine, balance, buy, sell}
@@ -75,15 +75,15 @@ pub record CaseOutcome : Type 0 where
 -- at the plain book of roster r
 abbrev pub outcome : Roster → Case → CaseOutcome
 outcome r c =
-    let before = endOf r begun (decoded (c .events)) in
+    let k = begun derivatives r in
     let all = c .events ++ (c .order ∷ []) in
     record {
       bytes = allBytes all;
       account = between 1 (r .accounts) 1;
       instrument = between 1 (r .instruments) (c .instrument);
-      answers = answersTo r begun (decoded (c .events));
-      answer = answer derivatives r (before .book) (before .trading) (decode (c .order));
-      positions = instrumentIn r (endOf r begun (decoded all) .book) 1 (c .instrument);
+      answers = answersTo k (decoded (c .events));
+      answer = answer (endOf k (decoded (c .events))) (decode (c .order));
+      positions = instrumentIn (endOf k (decoded all)) 1 (c .instrument);
     }
 
 abbrev pub allAccepted : List (List ℕ) → List ℕ

@@ -1,13 +1,12 @@
 -- A list of events at a desk, and the plain book kept from the events and their answers alone.
 use Prim.Native.Nat.{ℕ}
-use mathlib.Core.Bool.{Bool, false, cond}
+use mathlib.Core.Bool.{cond}
 use mathlib.Core.List.{List, [], _∷_}
 use lib.Dec.{eqb}
 use Rattle.words.specs.Bytes.{Bytes}
 use Rattle.book.specs.declared.Event.{Event}
-use Rattle.book.specs.Market.{Market}
 use Rattle.book.specs.Decoding.{decode}
-use Rattle.book.specs.Books.{Book, emptyBook, work, mark}
+use Rattle.book.specs.States.{State, work}
 
 -- an event in the list is any bytes
 pub record RawEvent : Type 0 where
@@ -24,24 +23,15 @@ pub record Desk : Type 1 where
   pub answerTo : Memory → RawEvent → ℕ
   pub next : Memory → RawEvent → Memory
 
--- the plain book, and the trading marks beside it
-pub record State : Type 0 where
-  pub book : Book
-  pub trading : ℕ → Bool
-
-unfoldable pub begun : State
-begun = record { book = emptyBook; trading = λ a. false }
-
--- a refused event leaves it as it is; an accepted one, answered 0, is worked
-unfoldable pub keep : Market → State → Event → ℕ → State
-keep mk k e n =
-    cond (eqb n 0) (record { book = work (mk .unit) (k .book) e; trading = mark (k .trading) e }) k
+-- a refused event leaves what is kept as it is; an accepted one, answered 0, is worked
+unfoldable pub keep : State → Event → ℕ → State
+keep k e n = cond (eqb n 0) (work k e) k
 
 -- each event gets the memory as the one before left it
 unfoldable pub memoryAfter : (D : Desk) → D .Memory → List RawEvent → D .Memory
 memoryAfter D m [] = m
 memoryAfter D m (e ∷ es) = memoryAfter D (D .next m e) es
 
-unfoldable pub stateAfter : (D : Desk) → Market → D .Memory → State → List RawEvent → State
-stateAfter D mk m k [] = k
-stateAfter D mk m k (e ∷ es) = stateAfter D mk (D .next m e) (keep mk k (asEvent e) (D .answerTo m e)) es
+unfoldable pub stateAfter : (D : Desk) → D .Memory → State → List RawEvent → State
+stateAfter D m k [] = k
+stateAfter D m k (e ∷ es) = stateAfter D (D .next m e) (keep k (asEvent e) (D .answerTo m e)) es

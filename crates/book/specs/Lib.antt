@@ -2,6 +2,8 @@ pub mod Market
 pub mod Decoding
 pub mod OpenOrders
 pub mod Books
+pub mod States
+pub mod Named
 pub mod Table
 pub mod Sound
 pub mod EventLists

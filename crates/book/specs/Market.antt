@@ -1,6 +1,6 @@
 -- What a desk's figures run to, and what its orders count for.
 use Prim.Native.Nat.{ℕ}
-use mathlib.Core.Path.{_≡_}
+use mathlib.Core.Path.{_≡_, refl}
 use Rattle.ledger.specs.declared.order.Order.{Order}
 use Rattle.ledger.specs.Orders.{filledBy, replacedTotal}
 use Rattle.ledger.specs.Derivatives.{one}
@@ -10,12 +10,11 @@ pub record Market : Type 0 where
   pub unit : Order → ℕ
   -- the largest limit figure, the largest balance either way, and the largest S + B and −S + V of a sound desk
   pub largest : ℕ
+  -- what a contract counts for stays while the order is open
+  pub unit-filled : (o : Order) (n : ℕ) → unit (filledBy o n) ≡ unit o
+  pub unit-replaced : (o : Order) (n : ℕ) → unit (replacedTotal o n) ≡ unit o
 
 -- the derivatives desk: contracts are counted, and figures run to 1,000,000,000
 unfoldable pub derivatives : Market
-derivatives = record { unit = one; largest = 1000000000 }
-
--- what a contract counts for stays while the order is open
-pub record UnitKept (mk : Market) : Type 0 where
-  pub filled : (o : Order) (n : ℕ) → mk .unit (filledBy o n) ≡ mk .unit o
-  pub replaced : (o : Order) (n : ℕ) → mk .unit (replacedTotal o n) ≡ mk .unit o
+unfolding one
+derivatives = record { unit = one; largest = 1000000000; unit-filled = λ o n. refl; unit-replaced = λ o n. refl }

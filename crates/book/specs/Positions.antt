@@ -1,20 +1,18 @@
--- The positions that a plain book gives.
+-- The positions that a state gives: those of its plain book, counted as its market counts.
 use Prim.Native.Nat.{ℕ}
 use mathlib.Core.List.{List, [], _∷_}
 use lib.IntN.{ℤ}
-use Rattle.ledger.specs.Roster.{Roster}
 use Rattle.ledger.specs.Positions.{Scope, Way, long, short, instrument, group, potential}
-use Rattle.book.specs.Market.{derivatives}
-use Rattle.book.specs.Books.{Book}
+use Rattle.book.specs.States.{State}
 
-unfoldable pub potentialIn : Roster → Book → ℕ → Scope → Way → ℤ
-potentialIn r b a p w = potential (derivatives .unit) r (b .orders) a (b .balanceOf a) p w
+-- PCI, PVI, PCC and PVC of account a
+abbrev pub potentialOf : State → ℕ → Scope → Way → ℤ
+potentialOf k a p w = potential (k .market .unit) (k .roster) (k .book .orders) a (k .book .balanceOf a) p w
 
 -- S, PCI and PVI of an account and instrument
-unfoldable pub instrumentIn : Roster → Book → ℕ → ℕ → List ℤ
-instrumentIn r b a i =
-    b .balanceOf a i ∷ potentialIn r b a (instrument i) long ∷ potentialIn r b a (instrument i) short ∷ []
+unfoldable pub instrumentIn : State → ℕ → ℕ → List ℤ
+instrumentIn k a i = k .book .balanceOf a i ∷ potentialOf k a (instrument i) long ∷ potentialOf k a (instrument i) short ∷ []
 
 -- PCC and PVC of an account and group
-unfoldable pub groupIn : Roster → Book → ℕ → ℕ → List ℤ
-groupIn r b a g = potentialIn r b a (group g) long ∷ potentialIn r b a (group g) short ∷ []
+unfoldable pub groupIn : State → ℕ → ℕ → List ℤ
+groupIn k a g = potentialOf k a (group g) long ∷ potentialOf k a (group g) short ∷ []

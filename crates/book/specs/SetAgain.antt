@@ -5,15 +5,15 @@ use mathlib.Core.Path.{_≡_}
 use mathlib.Core.Logic.{_⊎_}
 use mathlib.Core.Bool.{cond}
 use mathlib.Core.Option.{Option, none, some}
-use Rattle.ledger.specs.declared.order.Order.{Order}
 use Rattle.ledger.specs.Roster.{Roster}
 use Rattle.ledger.specs.Positions.{Scope, instrument, group}
 use Rattle.limits.specs.Lines.{isSet}
 use Rattle.book.specs.declared.LimitLine.{LimitLine}
 use Rattle.book.specs.declared.LimitLine.the-variants.{Own, Default, OfGroup}
 use Rattle.book.specs.declared.Event.{Event}
-use Rattle.book.specs.declared.Event.the-variants.{Limit, Balance, Block, New, Replace, Cancel, Fill, Junk}
-use Rattle.book.specs.Books.{Book, work}
+use Rattle.book.specs.declared.Event.the-variants.{Limit, Balance, Block, New, Change, Junk}
+use Rattle.book.specs.Books.{Book}
+use Rattle.book.specs.States.{State, work}
 
 -- a line by name, of an account
 pub data LineName : Type 0 where
@@ -32,9 +32,7 @@ lineSet (Limit a l) = some (nameOf a l)
 lineSet (Balance a i z) = none
 lineSet (Block what z) = none
 lineSet (New s a i id n) = none
-lineSet (Replace id n) = none
-lineSet (Cancel id) = none
-lineSet (Fill id n) = none
+lineSet (Change id c) = none
 lineSet Junk = none
 
 -- the line that a position of account a is under: the group's line, or the line in force
@@ -44,6 +42,6 @@ lineOver r b a (instrument i) =
 lineOver r b a (group g) = groupLine a g
 
 -- an accepted event sets the limit of account a's position again
-abbrev pub SetsAgain : (Order → ℕ) → Roster → Book → Event → ℕ → Scope → Type 0
-SetsAgain unit r b e a p =
-    (lineSet e ≡ some (lineOver r b a p)) ⊎ (lineSet e ≡ some (lineOver r (work unit b e) a p))
+abbrev pub SetsAgain : State → Event → ℕ → Scope → Type 0
+SetsAgain k e a p =
+    (lineSet e ≡ some (lineOver (k .roster) (k .book) a p)) ⊎ (lineSet e ≡ some (lineOver (k .roster) (work k e .book) a p))

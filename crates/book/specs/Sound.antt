@@ -1,7 +1,7 @@
--- Document 01's "sound", sentence by sentence, of a book and the marks beside it. B and V are what the orders say, so that
+-- Document 01's "sound", sentence by sentence, of what a desk holds. B and V are what the orders say, so that
 -- they equal the orders' sums is no condition.
 use Prim.Native.Nat.{ℕ, _≤_, _<_}
-use mathlib.Core.Bool.{Bool, true}
+use mathlib.Core.Bool.{true}
 use mathlib.Core.Path.{_≡_}
 use mathlib.Core.List.{List, [], _∷_, List·Memᴰ}
 use mathlib.Core.Option.{some}
@@ -13,8 +13,7 @@ use Rattle.ledger.specs.Orders.{remaining}
 use Rattle.ledger.specs.Roster.{Roster, Numbered}
 use Rattle.ledger.specs.Positions.{Way, ofInstrument}
 use Rattle.limits.specs.Lines.{Line, GroupLine, Lines}
-use Rattle.book.specs.Market.{Market}
-use Rattle.book.specs.Books.{Book}
+use Rattle.book.specs.States.{State}
 
 -- its roster would be accepted
 pub record RosterFits (r : Roster) : Type 0 where
@@ -54,11 +53,12 @@ pub data Ascending : ℕ → List Order → Type 0 where
   nothing : {least : ℕ} → Ascending least []
   next : {least : ℕ} {o : Order} {os : List Order} → least < o .id → Ascending (o .id) os → Ascending least (o ∷ os)
 
-pub record Sound (mk : Market) (r : Roster) (b : Book) (trading : ℕ → Bool) : Type 0 where
-  pub roster : RosterFits r
-  pub lines : (a : ℕ) → LinesFit (mk .largest) (b .linesOf a)
-  pub count : length (b .orders) ≤ 256
-  pub fits : (o : Order) → List·Memᴰ o (b .orders) → OrderFits r o
-  pub ids : Ascending 0 (b .orders)
-  pub bounded : (a i : ℕ) (w : Way) → ofInstrument (mk .unit) (b .orders) a (b .balanceOf a) i w ≤ℤ pos (mk .largest)
-  pub marked : (o : Order) → List·Memᴰ o (b .orders) → trading (o .account) ≡ true
+pub record Sound (k : State) : Type 0 where
+  pub roster : RosterFits (k .roster)
+  pub lines : (a : ℕ) → LinesFit (k .market .largest) (k .book .linesOf a)
+  pub count : length (k .book .orders) ≤ 256
+  pub fits : (o : Order) → List·Memᴰ o (k .book .orders) → OrderFits (k .roster) o
+  pub ids : Ascending 0 (k .book .orders)
+  pub bounded :
+      (a i : ℕ) (w : Way) → ofInstrument (k .market .unit) (k .book .orders) a (k .book .balanceOf a) i w ≤ℤ pos (k .market .largest)
+  pub marked : (o : Order) → List·Memᴰ o (k .book .orders) → k .beside .trading (o .account) ≡ true

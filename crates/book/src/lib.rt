@@ -50,7 +50,14 @@ pub enum Blocked {
     GroupFor { account: u64, group: u64 },
 }
 
-// An event of each kind, or bytes that are none.
+// What changes an open order.
+pub enum OrderChange {
+    Replace { total: i64 },
+    Cancel,
+    Fill { quantity: i64 },
+}
+
+// An event of each kind, or bytes that are none; REPLACE, CANCEL and FILL are one case, an open order's id and the change.
 pub enum Event {
     Limit {
         account: u64,
@@ -72,16 +79,9 @@ pub enum Event {
         id: u64,
         quantity: i64,
     },
-    Replace {
+    Change {
         id: u64,
-        total: i64,
-    },
-    Cancel {
-        id: u64,
-    },
-    Fill {
-        id: u64,
-        quantity: i64,
+        change: OrderChange,
     },
     Junk,
 }
