@@ -14,7 +14,8 @@ use Rattle.ledger.specs.Records.{ordersFrom}
 use Rattle.limits.specs.InBytes.{lineAt, groupLineAt}
 use Rattle.book.specs.Decoding.{between}
 use Rattle.book.specs.Books.{emptyBook}
-use Rattle.book.specs.EventLists.{begun}
+use Rattle.book.specs.Market.{derivatives}
+use Rattle.book.specs.States.{begun}
 use Rattle.book.proofs.Tables.{between-numbered}
 use Rattle.layout.specs.Layout.{countWord, markWord, accountBlockWord, instrumentBlockWord, groupBlockRow, balanceRow, ownSetRow}
 use Rattle.layout.specs.Layout.{defaultSetRow, groupSetRow, ownRow, defaultRow, groupRow}
@@ -77,6 +78,6 @@ module _ (m : List ℕ) (sized : Sized (rosterOf m)) (zero : (k : ℕ) → 112 �
   unfolding openOrders ordersFrom
   orders-blank = rw (zero countWord (omega arith) (omega arith))
 
-  pub view-blank : view m ≡ begun
-  unfolding view bookOf begun emptyBook
-  view-blank = same-view _ _ _ _ _ _ _ _ _ _ balances-blank lines-blank blocks-blank orders-blank marks-blank
+  pub view-blank : view m ≡ begun derivatives (rosterOf m)
+  unfolding bookOf emptyBook
+  view-blank = same-view refl balances-blank lines-blank blocks-blank orders-blank marks-blank

@@ -6,13 +6,14 @@ use mathlib.Core.List.{List}
 use mathlib.Core.Option.{Option}
 use lib.IntN.{ℤ}
 use Rattle.ledger.specs.declared.order.Order.{Order}
-use Rattle.ledger.specs.Roster.{Numbered}
+use Rattle.ledger.specs.Roster.{Roster, Numbered}
 use Rattle.ledger.proofs.Ways.{by-number}
 use Rattle.limits.specs.Lines.{Line, GroupLine, Lines}
 use Rattle.limits.proofs.Answers.{both-true, and-true}
 use Rattle.book.specs.Decoding.{between}
 use Rattle.book.specs.Books.{Blocks, at}
-use Rattle.book.specs.EventLists.{State}
+use Rattle.book.specs.Market.{derivatives}
+use Rattle.book.specs.States.{State}
 use Rattle.book.proofs.Tables.{between-numbered}
 use Rattle.layout.specs.View.{onRoster}
 use Rattle.layout.proofs.RosterLaws.{by-test, numbered-between}
@@ -26,10 +27,19 @@ pub same-blocks : (a a′ i i′ : ℕ → Bool) (g g′ : ℕ → ℕ → Bool)
     → _≡_ {A = Blocks} (record { account = a; instrument = i; group = g }) (record { account = a′; instrument = i′; group = g′ })
 same-blocks a a′ i i′ g g′ x y z = cc
 
-pub same-view : (s s′ : ℕ → ℕ → ℤ) (l l′ : ℕ → Lines) (b b′ : Blocks) (o o′ : List Order) (t t′ : ℕ → Bool) → s ≡ s′ → l ≡ l′ → b ≡ b′
-    → o ≡ o′ → t ≡ t′ → _≡_ {A = State} (record { book = record { balanceOf = s; linesOf = l; blocks = b; orders = o }; trading = t })
-    (record { book = record { balanceOf = s′; linesOf = l′; blocks = b′; orders = o′ }; trading = t′ })
-same-view s s′ l l′ b b′ o o′ t t′ x y z u v = cc
+-- a state of the derivatives market, from its fields
+abbrev pub stateOf : Roster → (ℕ → ℕ → ℤ) → (ℕ → Lines) → Blocks → List Order → (ℕ → Bool) → State
+stateOf r s l b o t =
+    record {
+      market = derivatives;
+      roster = r;
+      book = record { balanceOf = s; linesOf = l; blocks = b; orders = o };
+      beside = record { trading = t };
+    }
+
+pub same-view : {r r′ : Roster} {s s′ : ℕ → ℕ → ℤ} {l l′ : ℕ → Lines} {b b′ : Blocks} {o o′ : List Order} {t t′ : ℕ → Bool} → r ≡ r′
+    → s ≡ s′ → l ≡ l′ → b ≡ b′ → o ≡ o′ → t ≡ t′ → stateOf r s l b o t ≡ stateOf r′ s′ l′ b′ o′ t′
+same-view roster balances lines blocks orders marks = cc
 
 -- ---- tables by account and number
 -- what is said where account and number are on the roster, and otherwise

@@ -6,15 +6,15 @@ use mathlib.Core.List.{List}
 use native.Mathlib.Omega.{arith}
 use lib.IntN.{ℤ}
 use Rattle.words.specs.Words.{putWord}
-use Rattle.ledger.specs.declared.order.Order.{Order}
 use Rattle.ledger.specs.Roster.{Numbered}
 use Rattle.limits.specs.Asked.{isZero}
 use Rattle.book.specs.declared.Event.the-variants.{Block}
 use Rattle.book.specs.declared.Blocked.{Blocked}
 use Rattle.book.specs.declared.Blocked.the-variants.{Account, Instrument, GroupFor}
-use Rattle.book.specs.Books.{setBlock, work}
+use Rattle.book.specs.Books.{setBlock, bookAfter}
+use Rattle.book.specs.States.{mark, work}
 use Rattle.layout.specs.Layout.{accountBlockWord, instrumentBlockWord, groupBlockRow}
-use Rattle.layout.specs.View.{rosterOf, flag, blocksOf, bookOf, tradingOf, view}
+use Rattle.layout.specs.View.{rosterOf, flag, blocksOf, bookOf, view}
 use Rattle.layout.specs.FieldStores.{bit, blockAccount, blockInstrument, blockGroup}
 use Rattle.layout.proofs.GuardedTables.{tableOf, table-at, rowOf, row-at, same-blocks, same-view}
 use Rattle.layout.proofs.SameFields.{InBounds, groupBlockAt, blocksBy, same-flag}
@@ -49,15 +49,15 @@ module _ (m : List ℕ) (held : InBounds m) (j v : ℕ) (from : 144 ≤ j) (belo
   groups-kept before = group-blocks-same put m held block-roster (except-same put m j 192 256 others (λ low high. omega arith))
 
   -- the view, from what the rows and the table say
-  block-view : (unit : Order → ℕ) (what : Blocked) (z : ℤ) {accounts instruments : ℕ → Bool} {groups : ℕ → ℕ → Bool}
+  block-view : (what : Blocked) (z : ℤ) {accounts instruments : ℕ → Bool} {groups : ℕ → ℕ → Bool}
       → rowOf (rosterOf m .accounts) (λ a. flag put (accountBlockWord a)) ≡ accounts
       → rowOf (rosterOf m .instruments) (λ i. flag put (instrumentBlockWord i)) ≡ instruments
       → tableOf (rosterOf m .accounts) (rosterOf m .groups) false (groupBlockAt put) ≡ groups
       → blocksBy accounts instruments groups ≡ setBlock what (not (isZero z)) (blocksOf m)
-      → view put ≡ record { book = work unit (bookOf m) (Block what z); trading = tradingOf m }
-  unfolding view bookOf work
-  block-view unit what z accounts instruments groups blocks =
-      same-view _ _ _ _ _ _ _ _ _ _
+      → view put ≡ work (view m) (Block what z)
+  unfolding bookOf bookAfter mark
+  block-view what z accounts instruments groups blocks =
+      same-view block-roster
       (balances-same put m held block-roster (except-same put m j 256 768 others (λ low high. omega arith)))
       (one-lines put m held j others (omega arith) (omega arith))
       (blocks-are put m held block-roster ∙ same-blocks _ _ _ _ _ _ accounts instruments groups ∙ blocks)
@@ -65,17 +65,17 @@ module _ (m : List ℕ) (held : InBounds m) (j v : ℕ) (from : 144 ≤ j) (belo
       (marks-same put m held block-roster (except-same put m j 128 144 others (λ low high. omega arith)))
 
 -- ---- the three levels
-module _ (m : List ℕ) (held : InBounds m) (z : ℤ) (unit : Order → ℕ) where
+module _ (m : List ℕ) (held : InBounds m) (z : ℤ) where
   abbrev on : Bool
   on = not (isZero z)
 
   pub view-block-account : (a : ℕ) → Numbered (rosterOf m .accounts) a
-      → view (blockAccount m a on) ≡ record { book = work unit (bookOf m) (Block (Account a) z); trading = tradingOf m }
+      → view (blockAccount m a on) ≡ work (view m) (Block (Account a) z)
   unfolding blocksOf setBlock
   view-block-account a on-a =
       let sized = held .sized in
       let j : ℕ = accountBlockWord a in
-      block-view m held j (bit on) (omega arith) (omega arith) unit (Account a) z
+      block-view m held j (bit on) (omega arith) (omega arith) (Account a) z
       (row-at (rosterOf m .accounts) (λ b. flag m (accountBlockWord b)) (λ b. flag (putWord m j (bit on)) (accountBlockWord b)) a on on-a
       (flag-bit m j on (omega (arith, held .long)))
       (λ b on-b other. same-flag (putWord m j (bit on)) m (accountBlockWord b)
@@ -84,12 +84,12 @@ module _ (m : List ℕ) (held : InBounds m) (z : ℤ) (unit : Order → ℕ) whe
       (groups-kept m held j (bit on) (omega arith) (omega arith) (omega arith)) refl
 
   pub view-block-instrument : (i : ℕ) → Numbered (rosterOf m .instruments) i
-      → view (blockInstrument m i on) ≡ record { book = work unit (bookOf m) (Block (Instrument i) z); trading = tradingOf m }
+      → view (blockInstrument m i on) ≡ work (view m) (Block (Instrument i) z)
   unfolding blocksOf setBlock
   view-block-instrument i on-i =
       let sized = held .sized in
       let j : ℕ = instrumentBlockWord i in
-      block-view m held j (bit on) (omega arith) (omega arith) unit (Instrument i) z
+      block-view m held j (bit on) (omega arith) (omega arith) (Instrument i) z
       (accounts-kept m held j (bit on) (omega arith) (omega arith) (omega arith))
       (row-at (rosterOf m .instruments) (λ b. flag m (instrumentBlockWord b)) (λ b. flag (putWord m j (bit on)) (instrumentBlockWord b)) i
       on on-i
@@ -99,12 +99,12 @@ module _ (m : List ℕ) (held : InBounds m) (z : ℤ) (unit : Order → ℕ) whe
       (groups-kept m held j (bit on) (omega arith) (omega arith) (omega arith)) refl
 
   pub view-block-group : (a g : ℕ) → Numbered (rosterOf m .accounts) a → Numbered (rosterOf m .groups) g
-      → view (blockGroup m a g on) ≡ record { book = work unit (bookOf m) (Block (GroupFor a g) z); trading = tradingOf m }
+      → view (blockGroup m a g on) ≡ work (view m) (Block (GroupFor a g) z)
   unfolding blocksOf setBlock
   view-block-group a g on-a on-g =
       let sized = held .sized in
       let j : ℕ = groupBlockRow a + g in
-      block-view m held j (bit on) (omega arith) (omega arith) unit (GroupFor a g) z
+      block-view m held j (bit on) (omega arith) (omega arith) (GroupFor a g) z
       (accounts-kept m held j (bit on) (omega arith) (omega arith) (omega arith))
       (instruments-kept m held j (bit on) (omega arith) (omega arith) (λ low high. omega arith))
       (table-at (rosterOf m .accounts) (rosterOf m .groups) false (groupBlockAt m) (groupBlockAt (putWord m j (bit on))) a g on on-a on-g

@@ -7,14 +7,14 @@ use mathlib.Core.Option.{none}
 use native.Mathlib.Omega.{arith}
 use lib.IntN.{ℤ}
 use Rattle.words.specs.Words.{wordAt}
-use Rattle.ledger.specs.declared.order.Order.{Order}
 use Rattle.ledger.specs.Roster.{Numbered}
 use Rattle.book.specs.declared.Figures.{Figures}
 use Rattle.book.specs.declared.LimitLine.the-variants.{Own, Default, OfGroup}
 use Rattle.book.specs.declared.Event.the-variants.{Limit}
-use Rattle.book.specs.Books.{at, lineOf, groupLineOf, setLine, work}
+use Rattle.book.specs.Books.{at, lineOf, groupLineOf, setLine}
+use Rattle.book.specs.States.{work}
 use Rattle.layout.specs.Layout.{ownSetRow, defaultSetRow, groupSetRow, ownRow, defaultRow, groupRow}
-use Rattle.layout.specs.View.{rosterOf, linesOf, bookOf, tradingOf, view}
+use Rattle.layout.specs.View.{rosterOf, linesOf, view}
 use Rattle.layout.specs.FieldStores.{storeOwn, storeDefault, storeOfGroup}
 use Rattle.layout.proofs.GuardedTables.{table-at}
 use Rattle.layout.proofs.SameFields.{Same, InBounds, ownAt, defaultAt, ofGroupAt}
@@ -80,12 +80,12 @@ module _ (m : List ℕ) (held : InBounds m) (a i : ℕ) (f : Figures) (small : S
         elsewhere = line-elsewhere m (ownSetRow a + i) (ownRow a + i * 2) (lineOf f);
       }
 
-  pub view-own : (unit : Order → ℕ) → view own ≡ record { book = work unit (bookOf m) (Limit a (Own i f)); trading = tradingOf m }
+  pub view-own : view own ≡ work (view m) (Limit a (Own i f))
   unfolding linesOf setLine
-  view-own unit =
+  view-own =
       let sized = held .sized in
       let word = own-line .elsewhere in
-      lines-view own m held (before own m held own-line) (after own m held own-line) unit a (Own i f)
+      lines-view own m held (before own m held own-line) (after own m held own-line) a (Own i f)
       (lines-at m held a own (roster own m held own-line) _ _ _
       (table-at (rosterOf m .accounts) (rosterOf m .instruments) none (ownAt m) (ownAt own) a i (lineOf f) on-a on-i
       (line-back m (ownSetRow a + i) (ownRow a + i * 2) (lineOf f) small (omega (arith, held .long)) (omega (arith, held .long))
@@ -112,13 +112,12 @@ module _ (m : List ℕ) (held : InBounds m) (a c : ℕ) (f : Figures) (small : S
         elsewhere = line-elsewhere m (defaultSetRow a + c) (defaultRow a + c * 2) (lineOf f);
       }
 
-  pub view-default : (unit : Order → ℕ)
-      → view default ≡ record { book = work unit (bookOf m) (Limit a (Default c f)); trading = tradingOf m }
+  pub view-default : view default ≡ work (view m) (Limit a (Default c f))
   unfolding linesOf setLine
-  view-default unit =
+  view-default =
       let sized = held .sized in
       let word = default-line .elsewhere in
-      lines-view default m held (before default m held default-line) (after default m held default-line) unit a (Default c f)
+      lines-view default m held (before default m held default-line) (after default m held default-line) a (Default c f)
       (lines-at m held a default (roster default m held default-line) _ _ _
       (own-kept default m held default-line (omega arith) (omega arith))
       (table-at (rosterOf m .accounts) (rosterOf m .contracts) none (defaultAt m) (defaultAt default) a c (lineOf f) on-a on-c
@@ -145,13 +144,12 @@ module _ (m : List ℕ) (held : InBounds m) (a g : ℕ) (x y : ℤ) (small : Sma
         elsewhere = group-line-elsewhere m (groupSetRow a + g) (groupRow a + g) (groupLineOf x y);
       }
 
-  pub view-of-group : (unit : Order → ℕ)
-      → view of-group ≡ record { book = work unit (bookOf m) (Limit a (OfGroup g x y)); trading = tradingOf m }
+  pub view-of-group : view of-group ≡ work (view m) (Limit a (OfGroup g x y))
   unfolding linesOf setLine
-  view-of-group unit =
+  view-of-group =
       let sized = held .sized in
       let word = group-line .elsewhere in
-      lines-view of-group m held (before of-group m held group-line) (after of-group m held group-line) unit a (OfGroup g x y)
+      lines-view of-group m held (before of-group m held group-line) (after of-group m held group-line) a (OfGroup g x y)
       (lines-at m held a of-group (roster of-group m held group-line) _ _ _
       (own-kept of-group m held group-line (omega arith) (omega arith))
       (default-kept of-group m held group-line (λ b c. omega arith) (λ b c. omega arith))

@@ -5,19 +5,15 @@ use mathlib.Core.Bool.{cond}
 use mathlib.Core.List.{List}
 use mathlib.Core.Option.{Option, none}
 use native.Mathlib.Omega.{arith}
-use lib.IntN.{ℤ}
-use Rattle.ledger.specs.declared.order.Order.{Order}
-use Rattle.ledger.specs.Roster.{Numbered}
 use Rattle.ledger.proofs.Ways.{by-number}
 use Rattle.limits.specs.Lines.{Line, GroupLine}
-use Rattle.book.specs.declared.Figures.{Figures}
 use Rattle.book.specs.declared.LimitLine.{LimitLine}
-use Rattle.book.specs.declared.LimitLine.the-variants.{Own, Default, OfGroup}
 use Rattle.book.specs.declared.Event.the-variants.{Limit}
-use Rattle.book.specs.Books.{at, lineOf, groupLineOf, setLine, work}
+use Rattle.book.specs.Books.{at, setLine, bookAfter}
+use Rattle.book.specs.States.{mark, work}
 use Rattle.book.proofs.Tables.{at-here, at-elsewhere}
 use Rattle.layout.specs.Layout.{countWord, firstWord}
-use Rattle.layout.specs.View.{rosterOf, linesOf, bookOf, tradingOf, view}
+use Rattle.layout.specs.View.{rosterOf, linesOf, bookOf, view}
 use Rattle.layout.proofs.RosterLaws.{roster-same}
 use Rattle.layout.proofs.GuardedTables.{tableOf, same-lines, same-view}
 use Rattle.layout.proofs.SameFields.{Same, InBounds, ownAt, defaultAt, ofGroupAt, linesBy}
@@ -28,11 +24,11 @@ module _ (l m : List ℕ) (held : InBounds m) (before : Same 1 768 l m) (after :
   pub lines-roster : rosterOf l ≡ rosterOf m
   lines-roster = roster-same l m (held .sized) (λ k low high. before k low (omega arith))
 
-  pub lines-view : (unit : Order → ℕ) (a : ℕ) (line : LimitLine) → linesOf l ≡ at a (setLine line (linesOf m a)) (linesOf m)
-      → view l ≡ record { book = work unit (bookOf m) (Limit a line); trading = tradingOf m }
-  unfolding view bookOf work
-  lines-view unit a line lines =
-      same-view _ _ _ _ _ _ _ _ _ _
+  pub lines-view : (a : ℕ) (line : LimitLine) → linesOf l ≡ at a (setLine line (linesOf m a)) (linesOf m)
+      → view l ≡ work (view m) (Limit a line)
+  unfolding bookOf bookAfter mark
+  lines-view a line lines =
+      same-view lines-roster
       (balances-same l m held lines-roster (λ k low high. before k (omega arith) high))
       lines
       (blocks-same l m held lines-roster (λ k low high. before k (omega arith) (omega arith)))

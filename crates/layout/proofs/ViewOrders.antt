@@ -9,12 +9,11 @@ use Rattle.ledger.specs.declared.order.Order.{Order}
 use Rattle.ledger.specs.declared.find.Found.the-variants.{At}
 use Rattle.ledger.specs.Orders.{placeFrom}
 use Rattle.book.specs.OpenOrders.{change}
-use Rattle.book.specs.Books.{withOrders}
 use Rattle.layout.specs.Layout.{countWord}
-use Rattle.layout.specs.View.{rosterOf, openOrders, bookOf, tradingOf, view}
+use Rattle.layout.specs.View.{balancesOf, linesOf, blocksOf, rosterOf, openOrders, bookOf, tradingOf, view}
 use Rattle.layout.specs.Stores.{orderIn, recordWord, storeFrom, SmallOrders, without}
 use Rattle.layout.proofs.RosterLaws.{roster-same}
-use Rattle.layout.proofs.GuardedTables.{same-view}
+use Rattle.layout.proofs.GuardedTables.{same-view, stateOf}
 use Rattle.layout.proofs.SameFields.{Same, InBounds, balances-same, lines-same, blocks-same, marks-same}
 use Rattle.layout.proofs.Stored.{length-store, word-store, count-store, first-store, orders-store}
 use Rattle.layout.proofs.BookLists.{leaving, becoming}
@@ -38,11 +37,11 @@ module _ (m : List ℕ) (f : ℕ) (os : List Order) (held : InBounds m) (low : f
         first = omega (arith, first-store m f os low few (held .long));
       }
 
-  pub view-orders : SmallOrders os → view (storeFrom m f os) ≡ record { book = withOrders (bookOf m) os; trading = tradingOf m }
-  unfolding view bookOf
+  pub view-orders : SmallOrders os → view (storeFrom m f os) ≡ stateOf (rosterOf m) (balancesOf m) (linesOf m) (blocksOf m) os (tradingOf m)
+  unfolding bookOf
   view-orders small =
       let l : List ℕ = storeFrom m f os in
-      same-view _ _ _ _ _ _ _ _ _ _
+      same-view roster-orders
       (balances-same l m held roster-orders (elsewhere 256 768 (λ a b. omega arith) (omega arith)))
       (lines-same l m held roster-orders (elsewhere 768 1472 (λ a b. omega arith) (omega arith))
       (elsewhere 1536 2880 (λ a b. omega arith) (omega arith)))

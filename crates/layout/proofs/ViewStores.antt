@@ -8,15 +8,15 @@ use lib.IntN.{ℤ, pos}
 use mir.Syntax.{w64}
 use mir.Val.{SFits}
 use Rattle.words.proofs.TwosComplement.{signed-put-same, signed-put-other}
-use Rattle.ledger.specs.declared.order.Order.{Order}
 use Rattle.ledger.specs.Roster.{Numbered}
 use Rattle.book.specs.declared.Event.the-variants.{Balance}
-use Rattle.book.specs.Books.{at, work}
+use Rattle.book.specs.Books.{at, bookAfter}
+use Rattle.book.specs.States.{mark, work}
 use Rattle.layout.specs.Layout.{countWord, firstWord, markWord, balanceRow}
-use Rattle.layout.specs.View.{rosterOf, flag, linesOf, balancesOf, openOrders, bookOf, tradingOf, view}
+use Rattle.layout.specs.View.{rosterOf, flag, linesOf, balancesOf, blocksOf, openOrders, bookOf, tradingOf, view}
 use Rattle.layout.specs.FieldStores.{storeBalance, storeMark}
 use Rattle.layout.proofs.RosterLaws.{roster-same}
-use Rattle.layout.proofs.GuardedTables.{tableOf, table-at, row-at, same-view}
+use Rattle.layout.proofs.GuardedTables.{tableOf, table-at, row-at, same-view, stateOf}
 use Rattle.layout.proofs.SameFields.{InBounds, balanceAt, same-flag, balances-same, lines-same, blocks-same, marks-same, orders-same}
 use Rattle.layout.proofs.SameFields.{marks-are}
 use Rattle.layout.proofs.StoreWords.{Except, except-put, except-signed, except-same, flag-bit}
@@ -57,13 +57,13 @@ module _ (m : List ℕ) (held : InBounds m) (a i : ℕ) (z : ℤ) (on-a : Number
       (signed-put-same m (balanceRow a + i) z (omega (arith, held .long)) fits)
       (λ b k on-b on-k apart. signed-put-other m (balanceRow a + i) z (balanceRow b + k) (λ e. apart (omega arith) (omega arith)))
 
-  pub view-balance : (unit : Order → ℕ) → view balanced ≡ record { book = work unit (bookOf m) (Balance a i z); trading = tradingOf m }
-  unfolding view bookOf work
-  view-balance unit =
+  pub view-balance : view balanced ≡ work (view m) (Balance a i z)
+  unfolding bookOf bookAfter mark
+  view-balance =
       let j : ℕ = balanceRow a + i in
       let others : Except j balanced m = except-signed m j z in
       let in-place = balance-word in
-      same-view _ _ _ _ _ _ _ _ _ _ balances-stored
+      same-view roster-balance balances-stored
       (one-lines balanced m held j others (balance-word .0) (balance-word .2))
       (blocks-same balanced m held roster-balance (except-same balanced m j 144 256 others (λ low high. omega arith)))
       (one-orders balanced m held j others (balance-word .0) (balance-word .2))
@@ -89,13 +89,13 @@ module _ (m : List ℕ) (held : InBounds m) (a : ℕ) (on-a : Numbered (rosterOf
       (flag-bit m (markWord a) true (omega (arith, held .long)))
       (λ b on-b other. same-flag marked m (markWord b) (except-put m (markWord a) 1 (markWord b) (λ e. other (omega arith))))
 
-  pub view-mark : view marked ≡ record { book = bookOf m; trading = at a true (tradingOf m) }
-  unfolding view bookOf
+  pub view-mark : view marked ≡ stateOf (rosterOf m) (balancesOf m) (linesOf m) (blocksOf m) (openOrders m) (at a true (tradingOf m))
+  unfolding bookOf
   view-mark =
       let j : ℕ = markWord a in
       let others : Except j marked m = except-put m j 1 in
       let in-place = mark-word in
-      same-view _ _ _ _ _ _ _ _ _ _
+      same-view roster-mark
       (balances-same marked m held roster-mark (except-same marked m j 256 768 others (λ low high. omega arith)))
       (one-lines marked m held j others (mark-word .0) (mark-word .1))
       (blocks-same marked m held roster-mark (except-same marked m j 144 256 others (λ low high. omega arith)))

@@ -6,15 +6,14 @@ use Rattle.ledger.specs.declared.order.Order.{Order}
 use Rattle.ledger.specs.declared.find.Found.the-variants.{At}
 use Rattle.ledger.specs.Orders.{placeFrom}
 use Rattle.book.specs.declared.Event.{Event}
-use Rattle.book.specs.declared.Event.the-variants.{Limit, Balance, Block, New, Replace, Cancel, Fill, Junk}
-use Rattle.book.specs.Market.{derivatives}
+use Rattle.book.specs.declared.Event.the-variants.{Limit, Balance, Block, New, Change, Junk}
 use Rattle.book.specs.Table.{answer}
-use Rattle.layout.specs.View.{rosterOf, bookOf, tradingOf}
+use Rattle.layout.specs.View.{view}
 use Rattle.layout.specs.Stores.{rank}
 
 -- the table's first no, of the desk's view
 unfoldable pub judged : List ℕ → Event → ℕ
-judged m e = answer derivatives (rosterOf m) (bookOf m) (tradingOf m) e
+judged m e = answer (view m) e
 
 -- the order that the event names stands at place p of the open orders; that of a NEW joins there
 abbrev pub NamedAt : Event → List Order → ℕ → Type 0
@@ -22,7 +21,5 @@ NamedAt (Limit a l) os p = Unit
 NamedAt (Balance a i z) os p = Unit
 NamedAt (Block what z) os p = Unit
 NamedAt (New s a i id n) os p = p ≡ rank id os
-NamedAt (Replace id n) os p = placeFrom 0 id os ≡ At p
-NamedAt (Cancel id) os p = placeFrom 0 id os ≡ At p
-NamedAt (Fill id n) os p = placeFrom 0 id os ≡ At p
+NamedAt (Change id c) os p = placeFrom 0 id os ≡ At p
 NamedAt Junk os p = Unit

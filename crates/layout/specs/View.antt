@@ -13,7 +13,8 @@ use Rattle.limits.specs.Lines.{Lines}
 use Rattle.limits.specs.InBytes.{lineAt, groupLineAt}
 use Rattle.book.specs.Decoding.{between}
 use Rattle.book.specs.Books.{Blocks, Book}
-use Rattle.book.specs.EventLists.{State}
+use Rattle.book.specs.Market.{derivatives}
+use Rattle.book.specs.States.{State}
 use Rattle.layout.specs.Layout.{rosterWord, countWord, firstWord, ordersWord, markWord, accountBlockWord, instrumentBlockWord}
 use Rattle.layout.specs.Layout.{groupBlockRow, balanceRow, ownSetRow, defaultSetRow, groupSetRow, ownRow, defaultRow, groupRow}
 use Rattle.layout.specs.Rosters.{listed}
@@ -80,5 +81,5 @@ unfoldable pub tradingOf : List ℕ → ℕ → Bool
 tradingOf m a = between 1 (rosterOf m .accounts) a && flag m (markWord a)
 
 -- the whole view
-unfoldable pub view : List ℕ → State
-view m = record { book = bookOf m; trading = tradingOf m }
+abbrev pub view : List ℕ → State
+view m = record { market = derivatives; roster = rosterOf m; book = bookOf m; beside = record { trading = tradingOf m } }
