@@ -95,7 +95,7 @@ module _ (m : List ℕ) (h : SoundMemory m) where
 
   -- ---- the balances
   pub balance-small : (a i : ℕ) → natAbs (balancesOf m a i) ≤ 1000000000
-  unfolding view bookOf derivatives ofInstrument
+  unfolding bookOf derivatives ofInstrument
   balance-small a i =
       let unit = derivatives .unit in
       let z = balancesOf m a i in

@@ -50,8 +50,8 @@ module _ (m : List ℕ) (c : Conditions m) where
       each-member (recordsOf m) (λ o. tradingOf m (o .account) ≡ true) 0 (wordAt m countWord)
       (λ q a b. fit q (omega arith) .marked)
 
-  shown : Sound derivatives (rosterOf m) (view m .book) (view m .trading)
-  unfolding view bookOf derivatives
+  shown : Sound (view m)
+  unfolding bookOf derivatives
   shown =
       record {
         roster = roster-out m (c .roster);
@@ -77,7 +77,7 @@ sound-out m e =
 -- ---- in
 module _ (m : List ℕ) (h : SoundMemory m) where
   pub all-fit : (p : ℕ) → p < wordAt m countWord → Fit (rosterOf m) (tradingOf m) (orderAt (recordsOf m) p)
-  unfolding view bookOf openOrders
+  unfolding bookOf openOrders
   all-fit p l =
       let s = recordsOf m in
       let k = order-member s 0 (wordAt m countWord) p (omega arith) (omega arith) in
@@ -96,14 +96,14 @@ module _ (m : List ℕ) (h : SoundMemory m) where
   orders-in = records-in (recordsOf m) (rosterOf m) (tradingOf m) 0 (wordAt m countWord) (λ q a b. all-fit q (omega arith))
 
   pub sound-count : wordAt m countWord ≤ 256
-  unfolding view bookOf
+  unfolding bookOf
   sound-count = omega (arith, open-count m, h .book .count)
 
   pub sound-records : Records m
   sound-records = record { long = h .long; count = sound-count; first = h .first }
 
   pub sound-in : soundDesk m ≡ true
-  unfolding view bookOf derivatives
+  unfolding bookOf derivatives
   sound-in =
       each-in m
       (record {

@@ -26,4 +26,4 @@ pub record SoundMemory (m : List ℕ) : Type 0 where
   pub kind : wordAt m kindWord ≡ 1
   pub first : firstOf m ≤ 256
   pub figures : Figures m
-  pub book : Sound derivatives (rosterOf m) (view m .book) (view m .trading)
+  pub book : Sound (view m)

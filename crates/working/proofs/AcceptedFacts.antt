@@ -5,7 +5,6 @@ use mathlib.Core.Bool.{true}
 use mathlib.Core.List.{List}
 use mathlib.Core.Option.{some}
 use native.Mathlib.Omega.{arith}
-use lib.Dec.{leb, ltb}
 use lib.IntN.{ℤ, pos, negℤ, natAbs}
 use lib.ListN.{length}
 use lib.Signed.{_≤ℤ_}
@@ -17,24 +16,27 @@ use Rattle.ledger.specs.declared.order.Order.{Order}
 use Rattle.ledger.specs.Orders.{remaining}
 use Rattle.ledger.specs.Roster.{Roster, Numbered}
 use Rattle.ledger.specs.Records.{Storable}
-use Rattle.limits.specs.Lines.{isSet}
 use Rattle.book.specs.declared.LimitLine.{LimitLine}
 use Rattle.book.specs.declared.LimitLine.the-variants.{Own, Default, OfGroup}
 use Rattle.book.specs.declared.Blocked.{Blocked}
 use Rattle.book.specs.declared.Blocked.the-variants.{Account, Instrument, GroupFor}
 use Rattle.book.specs.declared.Event.{Event}
-use Rattle.book.specs.declared.Event.the-variants.{Limit, Balance, Block, New, Replace, Cancel, Fill, Junk}
+use Rattle.book.specs.declared.OrderChange.{OrderChange}
+use Rattle.book.specs.declared.OrderChange.the-variants.{Replace, Cancel, Fill}
+use Rattle.book.specs.declared.Event.the-variants.{Limit, Balance, Block, New, Change, Junk}
 use Rattle.book.specs.Market.{derivatives}
 use Rattle.book.specs.OpenOrders.{find}
 use Rattle.book.specs.Sound.{OrderFits, Sound}
-use Rattle.book.specs.Table.{accountKnown, itemKnown, lineKnown, blockAccountKnown, blockItemKnown, isQuantity, lineFits, figuresFit}
-use Rattle.book.specs.Table.{idOpen, quantityFits, placeFree}
+use Rattle.book.specs.Decoding.{between}
+use Rattle.book.specs.Named.{limitedItem, blockedAccount, blockedItem}
+use Rattle.book.specs.Table.{whereSome, accountKnown, isListed, itemKnown, isQuantity, lineFits, changeInRange, figuresFit, fitsOrder}
+use Rattle.book.specs.Table.{placeFree}
 use Rattle.book.proofs.Accepted.{Passed, accepted}
 use Rattle.book.proofs.Cuts.{standing, standing-member}
 use Rattle.book.proofs.Tables.{between-numbered, betweenℤ-both, quantity-numbered}
-use Rattle.book.proofs.Within.{found-order, test-found}
+use Rattle.book.proofs.Within.{named-order}
 use Rattle.layout.specs.Layout.{countWord}
-use Rattle.layout.specs.View.{rosterOf, openOrders, bookOf, tradingOf, view}
+use Rattle.layout.specs.View.{rosterOf, openOrders, bookOf, view}
 use Rattle.layout.specs.Stores.{Records}
 use Rattle.layout.specs.Judged.{judged}
 use Rattle.layout.proofs.SameFields as layout
@@ -61,6 +63,11 @@ pub record Found (m : List ℕ) (id : ℕ) : Type 0 where
 abbrev pub Quantity : ℤ → Type 0
 Quantity n = (pos 0 ≤ℤ n) × Numbered 1000000 (natAbs n)
 
+abbrev pub ChangeFacts : OrderChange → Order → Type 0
+ChangeFacts (Replace n) o = Quantity n × (o .filled < natAbs n)
+ChangeFacts Cancel o = Unit
+ChangeFacts (Fill n) o = Quantity n × (natAbs n ≤ remaining o)
+
 abbrev pub AcceptedFacts : List ℕ → Event → Type 0
 AcceptedFacts m (Limit a l) =
     Numbered (rosterOf m .accounts) a × LineOnRoster (rosterOf m) l × (lineFits derivatives l ≡ true)
@@ -69,15 +76,12 @@ AcceptedFacts m (Balance a i z) =
 AcceptedFacts m (Block what z) = BlockOnRoster (rosterOf m) what
 AcceptedFacts m (New s a i id n) =
     Numbered (rosterOf m .accounts) a × Numbered (rosterOf m .instruments) i × Quantity n × (wordAt m countWord < 256)
-AcceptedFacts m (Replace id n) = (f : Found m id) × Quantity n × (f .order .filled < natAbs n)
-AcceptedFacts m (Cancel id) = Found m id
-AcceptedFacts m (Fill id n) = (f : Found m id) × Quantity n × (natAbs n ≤ remaining (f .order))
+AcceptedFacts m (Change id c) = (f : Found m id) × ChangeFacts c (f .order)
 AcceptedFacts m Junk = Unit
 
 -- ---- a sound desk
 module _ (m : List ℕ) (held : SoundMemory m) where
-  pub sound : Sound derivatives (rosterOf m) (bookOf m) (tradingOf m)
-  unfolding view
+  pub sound : Sound (view m)
   sound = held .book
 
   pub laid : layout.InBounds m
@@ -106,17 +110,18 @@ module _ (m : List ℕ) (held : SoundMemory m) where
         remaining = omega arith;
       }
 
-pub passed : (m : List ℕ) (e : Event) → judged m e ≡ 0 → Passed derivatives (rosterOf m) (bookOf m) (tradingOf m) e
+pub passed : (m : List ℕ) (e : Event) → judged m e ≡ 0 → Passed (view m) e
 unfolding judged
-passed m e passes = accepted derivatives (rosterOf m) (bookOf m) (tradingOf m) e passes .passed
+passed m e passes = accepted (view m) e passes .passed
 
 -- ---- an accepted event
-line-told : (r : Roster) (l : LimitLine) → lineKnown r l ≡ true → LineOnRoster r l
+line-told : (r : Roster) (l : LimitLine) → isListed r (limitedItem l) ≡ true → LineOnRoster r l
 line-told r (Own i f) h = between-numbered (r .instruments) i h
 line-told r (Default c f) h = between-numbered (r .contracts) c h
 line-told r (OfGroup g x y) h = between-numbered (r .groups) g h
 
-block-told : (r : Roster) (what : Blocked) → blockAccountKnown r what ≡ true → blockItemKnown r what ≡ true → BlockOnRoster r what
+block-told : (r : Roster) (what : Blocked) → whereSome (between 1 (r .accounts)) (blockedAccount what) ≡ true
+    → whereSome (isListed r) (blockedItem what) ≡ true → BlockOnRoster r what
 block-told r (Account a) h k = between-numbered (r .accounts) a h
 block-told r (Instrument i) h k = between-numbered (r .instruments) i k
 block-told r (GroupFor a g) h k = (between-numbered (r .accounts) a h, between-numbered (r .groups) g k)
@@ -126,15 +131,23 @@ quantity n e =
     let h = betweenℤ-both (pos 1) (pos 1000000) n e in
     (omega signed, quantity-numbered n e)
 
+change-told : (c : OrderChange) (o : Order) → changeInRange c ≡ true → fitsOrder c o ≡ true → ChangeFacts c o
+change-told (Replace n) o figures fits = (quantity n figures, ltb-true (o .filled) (natAbs n) fits)
+change-told Cancel o figures fits = tt
+change-told (Fill n) o figures fits = (quantity n figures, leb-true (natAbs n) (remaining o) fits)
+
 module _ (m : List ℕ) (held : SoundMemory m) where
-  found-open : (id : ℕ) → isSet (find id (openOrders m)) ≡ true → Found m id
+  change-facts : (id : ℕ) (c : OrderChange) → judged m (Change id c) ≡ 0 → AcceptedFacts m (Change id c)
   unfolding bookOf
-  found-open id e =
-      let f = found-order id (bookOf m) e in
-      record { order = f .0; found = f .1; fits = sound m held .fits (f .0) (standing-member (standing id (openOrders m) (f .0) (f .1))) }
+  change-facts id c passes =
+      let x = named-order (view m) id c (passed m (Change id c) passes) in
+      let o = x .order in (
+        record { order = o; found = x .found; fits = sound m held .fits o (standing-member (standing id (openOrders m) o (x .found))) },
+        change-told c o (x .figures) (x .fits),
+      )
 
   pub accepted-facts : (e : Event) → judged m e ≡ 0 → AcceptedFacts m e
-  unfolding accountKnown itemKnown figuresFit idOpen quantityFits placeFree bookOf derivatives
+  unfolding accountKnown itemKnown figuresFit placeFree bookOf derivatives
   accepted-facts (Limit a l) passes =
       let ok = passed m (Limit a l) passes in
       (between-numbered (rosterOf m .accounts) a (ok .account), line-told (rosterOf m) l (ok .item), ok .figures)
@@ -156,21 +169,5 @@ module _ (m : List ℕ) (held : SoundMemory m) where
         quantity n (ok .figures),
         omega (arith, open-count m),
       )
-  accepted-facts (Replace id n) passes =
-      let ok = passed m (Replace id n) passes in
-      let f = found-open id (ok .found) in (
-        f,
-        quantity n (ok .figures),
-        ltb-true (f .order .filled) (natAbs n)
-            (test-found (λ o. ltb (o .filled) (natAbs n)) (find id (openOrders m)) (f .order) (f .found) (ok .quantity)),
-      )
-  accepted-facts (Cancel id) passes = found-open id (passed m (Cancel id) passes .found)
-  accepted-facts (Fill id n) passes =
-      let ok = passed m (Fill id n) passes in
-      let f = found-open id (ok .found) in (
-        f,
-        quantity n (ok .figures),
-        leb-true (natAbs n) (remaining (f .order))
-            (test-found (λ o. leb (natAbs n) (remaining o)) (find id (openOrders m)) (f .order) (f .found) (ok .quantity)),
-      )
+  accepted-facts (Change id c) passes = change-facts id c passes
   accepted-facts Junk passes = tt

@@ -13,7 +13,7 @@ use Rattle.limits.specs.Asked.{isZero}
 use Rattle.limits.proofs.Asking.{isZero-false}
 use Rattle.book.specs.declared.Blocked.{Blocked}
 use Rattle.book.specs.declared.Event.the-variants.{Block}
-use Rattle.working.specs.Working.{Ready, blockStored, worked}
+use Rattle.working.specs.Working.{AcceptedEvent, blockStored, worked}
 
 zero-bits : (z : ℤ) → SFits w64 z → eqb (ofZ w64 z) 0 ≡ isZero z
 zero-bits z fits =
@@ -21,7 +21,7 @@ zero-bits z fits =
     (λ e. let zero : z ≡ pos 0 = sym (toZ-ofZ w64 z fits) ∙ ap (toZ w64) e in rw zero)
     (λ other. sym (isZero-false z (λ e. other (ap (ofZ w64) e))))
 
-pub ready-block : {m : List ℕ} {what w : Blocked} {z : ℤ} {p : ℕ} → what ≡ w → Ready m (Block what z) p → Ready m (Block w z) p
+pub ready-block : {m : List ℕ} {what w : Blocked} {z : ℤ} → what ≡ w → AcceptedEvent m (Block what z) → AcceptedEvent m (Block w z)
 ready-block same ready = rw same at ready
 
 pub worked-block : (m : List ℕ) (z : ℤ) {what w : Blocked} {x : List ℕ} → SFits w64 z → what ≡ w

@@ -2,7 +2,6 @@
 use Prim.Native.Nat.{ℕ, _+_, _*_, _≤_}
 use mathlib.Core.Path.{_≡_, refl, _∙_, sym, ap}
 use mathlib.Core.List.{List}
-use mathlib.Core.Option.{some}
 use native.Mathlib.Omega.{arith}
 use lib.IntN.{ℤ, pos, negℤ, natAbs, _+ℤ_}
 use lib.ListN.{length}
@@ -10,31 +9,27 @@ use mir.Syntax.{w64}
 use mir.Val.{SFits, toZ, ofZ}
 use mir.ValLaws.{toZ-ofZ}
 use Rattle.integers.specs.Magnitude.{sized, magnitude-sum, magnitude-negation}
-use Rattle.integers.specs.Parts.{signed, magnitude-parts}
 use Rattle.words.specs.Words.{signedAt}
 use Rattle.ledger.specs.declared.order.Side.{Side}
-use Rattle.ledger.specs.declared.find.Found.the-variants.{At}
 use Rattle.ledger.specs.declared.order.Side.the-variants.{Buy, Sell}
 use Rattle.ledger.specs.declared.order.Order.{Order}
-use Rattle.ledger.specs.Orders.{remaining, filledBy}
+use Rattle.ledger.specs.Orders.{remaining}
 use Rattle.ledger.specs.Positions.{toward, wayOf}
 use Rattle.ledger.specs.Fillings.{fillMoves}
 use Rattle.ledger.specs.Derivatives.{one}
 use Rattle.ledger.proofs.Amounts.{fill-here}
-use Rattle.book.specs.declared.Event.the-variants.{Fill}
+use Rattle.book.specs.declared.OrderChange.the-variants.{Fill}
+use Rattle.book.specs.declared.Event.the-variants.{Change}
 use Rattle.book.specs.Market.{derivatives}
-use Rattle.book.specs.OpenOrders.{find, change, kept}
 use Rattle.book.specs.Sound.{OrderFits}
 use Rattle.layout.specs.Layout.{memoryBytes, balanceRow}
-use Rattle.layout.specs.View.{rosterOf, balancesOf, openOrders}
-use Rattle.layout.specs.Stores.{orderIn, storeFrom}
+use Rattle.layout.specs.View.{rosterOf, balancesOf}
 use Rattle.layout.specs.FieldStores.{storeBalance}
 use Rattle.layout.proofs.GuardedTables.{on-here}
 use Rattle.soundness.proofs.Bounded.{balance-small}
-use Rattle.working.specs.Working.{Ready, Stands, keptFirst, worked, moved, onSide}
-use Rattle.working.proofs.AcceptedFacts.{AcceptedFacts, laid, records, accepted-facts}
-use Rattle.working.proofs.Rooms.{Cast, cast-fits}
-use Rattle.working.proofs.Changing.{named-id, named-found}
+use Rattle.working.specs.Working.{Ready, Stands, recordsChanged, worked}
+use Rattle.working.proofs.AcceptedFacts.{ChangeFacts, laid, records}
+use Rattle.working.proofs.Changing.{change-facts, changed-memory}
 
 -- the balance after a fill fits a word
 moved-fits : (s : Side) (b n z : ℤ) → natAbs b ≤ 1000000000 → natAbs n ≤ 1000000 → z ≡ b +ℤ toward (wayOf s) n → SFits w64 z
@@ -48,89 +43,53 @@ fill-one o n =
     let e : 1 * n ≡ n = omega arith in
     rw e at (fill-here one (o .account) (o .instrument) o n refl refl)
 
--- ---- the order in record p is the one that the event names
-module _ {m : List ℕ} {id : ℕ} {n : ℤ} {p : ℕ} (ready : Ready m (Fill id n) p) (fits : SFits w64 n) where
-  abbrev quantity : ℕ
-  quantity = natAbs (toZ w64 (ofZ w64 n))
+module _ {m : List ℕ} {o : Order} {p n : ℕ} (ready : Ready m (Change (o .id) (Fill (pos n))) p o) where
+  facts : OrderFits (rosterOf m) o × ChangeFacts (Fill (pos n)) o
+  facts = change-facts ready
 
-  same-quantity : quantity ≡ natAbs n
-  same-quantity = ap natAbs (toZ-ofZ w64 n fits)
+  pub fill-most : n ≤ remaining o
+  fill-most = facts .1 .1
 
-  t : AcceptedFacts m (Fill id n)
-  t = accepted-facts m (ready .held) (Fill id n) (ready .accepted)
+  pub fill-quantity : n ≤ 1000000
+  fill-quantity = facts .1 .0 .1 .1
 
-  -- the quantity as contracts
-  as-contracts : toZ w64 (ofZ w64 n) ≡ pos quantity
-  as-contracts = let low = t .1 .0 in rw (toZ-ofZ w64 n fits) (omega (signed, magnitude-parts n))
+  pub fill-room : (memoryBytes ≤ length m) × (o .account ≤ 16) × (o .instrument ≤ 32)
+  fill-room =
+      let bounds = laid m (ready .held) .sized in
+      let a = facts .0 .account in
+      let i = facts .0 .instrument in
+      omega (arith, ready .held .long)
 
-  pub fill-cast : Cast n
-  fill-cast = cast-fits n fits (t .1 .0)
+  pub fill-stands : Stands m p o n
+  unfolding remaining
+  fill-stands =
+      record {
+        records = records m (ready .held);
+        found = ready .named .0;
+        loaded = ready .named .1;
+        small = let rest = facts .0 .remains in omega (arith, facts .0 .total .1, facts .1 .0 .1 .1);
+      }
 
-  module _ {o : Order} (loaded : o ≡ orderIn m p) where
-    found : find id (openOrders m) ≡ some o
-    found = named-found m id p (ready .named) ∙ ap some (sym loaded)
+  -- s is the balance that was read
+  module _ {s : ℤ} (fits-s : SFits w64 s) (read : s ≡ signedAt m (balanceRow (o .account) + o .instrument)) where
+    same-balance : toZ w64 (ofZ w64 s) ≡ balancesOf m (o .account) (o .instrument)
+    unfolding balancesOf
+    same-balance =
+        toZ-ofZ w64 s fits-s
+        ∙ read
+        ∙ sym (on-here (rosterOf m .accounts) (rosterOf m .instruments) (o .account) (o .instrument) _ _ (facts .0 .account)
+        (facts .0 .instrument))
 
-    same-order : t .0 .order ≡ o
-    same-order = let e = t .0 .found in cc (found)
+    pub fill-small : (natAbs (toZ w64 (ofZ w64 s)) ≤ 1000000000) × (n ≤ 1000000)
+    fill-small =
+        (rw same-balance (balance-small m (ready .held) (o .account) (o .instrument)), omega (arith, facts .1 .0 .1 .1))
 
-    order-fits : OrderFits (rosterOf m) o
-    order-fits = rw same-order at (t .0 .fits)
-
-    pub fill-room : (memoryBytes ≤ length m) × (o .account ≤ 16) × (o .instrument ≤ 32)
-    fill-room =
-        let bounds = laid m (ready .held) .sized in
-        let a = order-fits .account in
-        let i = order-fits .instrument in
-        omega (arith, ready .held .long)
-
-    own-id : o .id ≡ id
-    own-id = ap (λ x. x .id) loaded ∙ named-id m id p (ready .named)
-
-    pub fill-stands : Stands m p o quantity
-    unfolding remaining
-    fill-stands =
-        record {
-          records = records m (ready .held);
-          found = rw own-id (ready .named);
-          loaded = loaded;
-          small = let rest = order-fits .remains in omega (arith, order-fits .total .1, same-quantity, t .1 .1 .1);
-        }
-
-    -- s is the balance that was read
-    module _ {s : ℤ} (fits-s : SFits w64 s) (read : s ≡ signedAt m (balanceRow (o .account) + o .instrument)) where
-      same-balance : toZ w64 (ofZ w64 s) ≡ balancesOf m (o .account) (o .instrument)
-      unfolding balancesOf
-      same-balance =
-          toZ-ofZ w64 s fits-s
-          ∙ read
-          ∙ sym (on-here (rosterOf m .accounts) (rosterOf m .instruments) (o .account) (o .instrument) _ _ (order-fits .account)
-          (order-fits .instrument))
-
-      pub fill-small : (natAbs (toZ w64 (ofZ w64 s)) ≤ 1000000000) × (quantity ≤ 1000000)
-      fill-small =
-          (rw same-balance (balance-small m (ready .held) (o .account) (o .instrument)), omega (arith, same-quantity, t .1 .1 .1))
-
-      pub fill-worked : {z : ℤ} {l x : List ℕ} →
-          l ≡ storeFrom m (keptFirst m (At p) (filledBy o quantity)) (change (o .id) (λ y. kept (filledBy y quantity)) (openOrders m)) →
-          z ≡ toZ w64 (ofZ w64 s) +ℤ toward (wayOf (o .side)) (toZ w64 (ofZ w64 n)) →
-          x ≡ storeBalance l (o .account) (o .instrument) (toZ w64 (ofZ w64 z)) → x ≡ worked m (Fill id n)
-      unfolding worked
-      fill-worked {z} stored after put =
-          let first = keptFirst m (At p) (filledBy o quantity) in
-          let here = stored ∙ ap (λ j. storeFrom m first (change j (λ y. kept (filledBy y quantity)) (openOrders m))) own-id in
-          let fits-z = moved-fits (o .side) (toZ w64 (ofZ w64 s)) (toZ w64 (ofZ w64 n)) z (fill-small .0) (fill-small .1) after in
-          put ∙ rw (
-            here,
-            toZ-ofZ w64 z fits-z,
-            after,
-            as-contracts,
-            same-balance,
-            same-quantity,
-            found,
-            ready .named,
-            fill-one o (natAbs n),
-          )
-
-    pub fill-moved : (s : Side) (k : ℕ) → k ≡ onSide s (o .side) quantity → k ≡ moved m (Fill id n) s
-    unfolding moved
-    fill-moved s k e = e ∙ rw (same-quantity, found)
+    pub fill-worked : {z : ℤ} {l x : List ℕ} → l ≡ recordsChanged m (o .id) (Fill (pos n)) o
+        → z ≡ toZ w64 (ofZ w64 s) +ℤ toward (wayOf (o .side)) (pos n)
+        → x ≡ storeBalance l (o .account) (o .instrument) (toZ w64 (ofZ w64 z)) → x ≡ worked m (Change (o .id) (Fill (pos n)))
+    fill-worked {z} {l} stored after put =
+        let fits-z = moved-fits (o .side) (toZ w64 (ofZ w64 s)) (pos n) z (fill-small .0) (fill-small .1) after in
+        let moved : toZ w64 (ofZ w64 z) ≡ balancesOf m (o .account) (o .instrument)
+        +ℤ fillMoves (derivatives .unit) (o .account) (o .instrument) o n =
+        toZ-ofZ w64 z fits-z ∙ after ∙ rw (same-balance, fill-one o n) refl in
+        put ∙ rw (stored, moved) (sym (changed-memory ready))

@@ -11,3 +11,5 @@ pub mod Blocking
 pub mod Handing
 pub mod Changing
 pub mod Filling
+pub mod SumsMoved
+pub mod Keeping

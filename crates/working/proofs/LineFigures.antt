@@ -22,7 +22,7 @@ use Rattle.book.specs.declared.LimitLine.{LimitLine}
 use Rattle.book.specs.declared.LimitLine.the-variants.{OfGroup}
 use Rattle.book.specs.declared.Event.the-variants.{Limit}
 use Rattle.layout.specs.FieldStores.{lineWith, groupLineWith}
-use Rattle.working.specs.Working.{Ready, lineStored, worked}
+use Rattle.working.specs.Working.{AcceptedEvent, lineStored, worked}
 use Rattle.working.proofs.AcceptedFacts.{accepted-facts}
 
 -- ---- four figures
@@ -76,7 +76,7 @@ positive-not-minus-one : (z : ℤ) → pos 0 ≤ℤ z → isMinusOne z ≡ false
 positive-not-minus-one (pos n) h = refl
 positive-not-minus-one (negsuc n) h = absurd (h .le)
 
-module _ {m : List ℕ} {a g : ℕ} {x y : ℤ} {p : ℕ} (ready : Ready m (Limit a (OfGroup g x y)) p) (fits-x : SFits w64 x) {t : Bool}
+module _ {m : List ℕ} {a g : ℕ} {x y : ℤ} (ready : AcceptedEvent m (Limit a (OfGroup g x y))) (fits-x : SFits w64 x) {t : Bool}
     (tested : t ≡ isMinusOne (toZ w64 (ofZ w64 x))) where
   fit : (isMinusOne x && isMinusOne y) || (isLimit derivatives x && isLimit derivatives y) ≡ true
   fit = accepted-facts m (ready .held) (Limit a (OfGroup g x y)) (ready .accepted) .2
@@ -106,7 +106,7 @@ module _ {m : List ℕ} {a g : ℕ} {x y : ℤ} {p : ℕ} (ready : Ready m (Limi
     group-set = rw (toZ-ofZ w64 x fits-x, toZ-ofZ w64 y fits-y, first ∙ left)
 
 -- ---- a line by another name
-pub ready-line : {m : List ℕ} {a : ℕ} {l k : LimitLine} {p : ℕ} → l ≡ k → Ready m (Limit a l) p → Ready m (Limit a k) p
+pub ready-line : {m : List ℕ} {a : ℕ} {l k : LimitLine} → l ≡ k → AcceptedEvent m (Limit a l) → AcceptedEvent m (Limit a k)
 ready-line same ready = rw same at ready
 
 pub worked-line : (m : List ℕ) (a : ℕ) {l k : LimitLine} {x : List ℕ} → l ≡ k → x ≡ lineStored m a k → x ≡ worked m (Limit a l)

@@ -14,10 +14,10 @@ use Rattle.integers.specs.Magnitude.{sized}
 use Rattle.book.specs.declared.LimitLine.the-variants.{Own, Default, OfGroup}
 use Rattle.book.specs.declared.Blocked.the-variants.{Account, Instrument, GroupFor}
 use Rattle.book.specs.declared.Event.{Event}
-use Rattle.book.specs.declared.Event.the-variants.{Limit, Balance, Block, New, Replace, Cancel, Fill, Junk}
+use Rattle.book.specs.declared.Event.the-variants.{Limit, Balance, Block, New, Change, Junk}
 use Rattle.layout.specs.Layout.{memoryBytes}
 use Rattle.layout.proofs.SameFields.{InBounds}
-use Rattle.working.specs.Working.{Ready}
+use Rattle.working.specs.Working.{AcceptedEvent}
 use Rattle.working.proofs.AcceptedFacts.{AcceptedFacts, laid, accepted-facts}
 
 -- a figure that is no less than 0 is cast
@@ -37,9 +37,7 @@ Room m (Block (Account a) z) = (memoryBytes ≤ length m) × (a ≤ 16)
 Room m (Block (Instrument i) z) = (memoryBytes ≤ length m) × (i ≤ 32)
 Room m (Block (GroupFor a g) z) = (memoryBytes ≤ length m) × (a ≤ 16) × (g ≤ 4)
 Room m (New s a i id n) = (memoryBytes ≤ length m) × (a ≤ 16)
-Room m (Replace id n) = Unit
-Room m (Cancel id) = Unit
-Room m (Fill id n) = Unit
+Room m (Change id c) = Unit
 Room m Junk = Unit
 
 in-room : (m : List ℕ) → InBounds m → (e : Event) → AcceptedFacts m e → Room m e
@@ -51,10 +49,8 @@ in-room m held (Block (Account a) z) t = let bounds = held .sized in omega (arit
 in-room m held (Block (Instrument i) z) t = let bounds = held .sized in omega (arith, held .long)
 in-room m held (Block (GroupFor a g) z) t = let bounds = held .sized in omega (arith, held .long)
 in-room m held (New s a i id n) t = let bounds = held .sized in omega (arith, held .long)
-in-room m held (Replace id n) t = tt
-in-room m held (Cancel id) t = tt
-in-room m held (Fill id n) t = tt
+in-room m held (Change id c) t = tt
 in-room m held Junk t = tt
 
-pub room : {m : List ℕ} {e : Event} {p : ℕ} → Ready m e p → Room m e
+pub room : {m : List ℕ} {e : Event} → AcceptedEvent m e → Room m e
 room {m} {e} r = in-room m (laid m (r .held)) e (accepted-facts m (r .held) e (r .accepted))

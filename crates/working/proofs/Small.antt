@@ -6,7 +6,6 @@ use mathlib.Core.List.{List, [], _∷_, List·Memᴰ, List·Memᴰ·head, List·
 use mathlib.Core.Option.{Option, none, some}
 use native.Mathlib.Omega.{arith}
 use lib.Dec.{eqb}
-use lib.IntN.{natAbs}
 use Rattle.words.specs.Bytes.{Bytes}
 use Rattle.words.specs.Fields.{u64At}
 use Rattle.words.specs.Words.{wordAt}
@@ -14,17 +13,18 @@ use Rattle.words.proofs.Numbers.{number-below}
 use Rattle.ledger.specs.declared.order.Order.{Order}
 use Rattle.limits.specs.Lines.{Line, GroupLine}
 use Rattle.book.specs.declared.Event.{Event}
-use Rattle.book.specs.declared.Event.the-variants.{Limit, Balance, Block, New, Replace, Cancel, Fill, Junk}
+use Rattle.book.specs.declared.Event.the-variants.{Limit, Balance, Block, New, Change, Junk}
 use Rattle.book.specs.Decoding.{kindOf, wellFormed, eventOf, decode}
-use Rattle.book.specs.Market.{derivatives}
 use Rattle.book.specs.OpenOrders.{change}
-use Rattle.book.specs.Books.{newOrder, work}
+use Rattle.book.specs.declared.OrderChange.{OrderChange}
+use Rattle.book.specs.Books.{newOrder, changed, bookAfter}
+use Rattle.book.specs.States.{work}
 use Rattle.book.specs.Sound.{LineFits, GroupLineFits}
 use Rattle.book.proofs.Cuts.{standing, standing-member, insert-members}
-use Rattle.book.proofs.Ids.{Became, gone, became, replaced-became, filled-became}
+use Rattle.book.proofs.Ids.{Became, gone, became, changed-became}
 use Rattle.book.proofs.SoundOrders.{change-each, fits-after}
 use Rattle.layout.specs.Layout.{countWord}
-use Rattle.layout.specs.View.{rosterOf, recordsOf, openOrders, bookOf, tradingOf}
+use Rattle.layout.specs.View.{recordsOf, openOrders, bookOf, view}
 use Rattle.layout.specs.Stores.{SmallOrder, SmallOrders}
 use Rattle.layout.specs.Judged.{judged}
 use Rattle.layout.proofs.RosterLaws.{by-test}
@@ -53,9 +53,7 @@ Sized (Limit a l) = Unit
 Sized (Balance a i z) = Unit
 Sized (Block what z) = Unit
 Sized (New s a i id n) = id < 2 ^ 64
-Sized (Replace id n) = Unit
-Sized (Cancel id) = Unit
-Sized (Fill id n) = Unit
+Sized (Change id c) = Unit
 Sized Junk = Unit
 
 -- so it is of every decoded event
@@ -88,29 +86,26 @@ module _ (m : List ℕ) (bytes : Bytes m) (held : SoundMemory m) where
       each-member (recordsOf m) (λ o. o .id < 2 ^ 64) 0 (wordAt m countWord)
       (λ q a b. small-open m (held .first) q (omega (arith, sound-count m held)) bytes .id)
 
-  changed-ids : (id : ℕ) (f : Order → List Order) → ((o : Order) → Became o (f o)) → Found m id → (x : Order)
-      → List·Memᴰ x (change id f (openOrders m)) → x .id < 2 ^ 64
-  changed-ids id f becomes d =
-      let o = d .order in
-      change-each id f (openOrders m) o (d .found) (λ x. x .id < 2 ^ 64) open-ids
-      (became-small o (open-ids o (standing-member (standing id (openOrders m) o (d .found)))) (f o) (becomes o))
-
-  ids-after : (e : Event) → Sized e → judged m e ≡ 0 → (x : Order) → List·Memᴰ x (work (derivatives .unit) (bookOf m) e .orders)
+  changed-ids : (id : ℕ) (c : OrderChange) → Found m id → (x : Order) → List·Memᴰ x (change id (changed c) (openOrders m))
       → x .id < 2 ^ 64
-  unfolding work bookOf newOrder
+  changed-ids id c d =
+      let o = d .order in
+      change-each id (changed c) (openOrders m) o (d .found) (λ x. x .id < 2 ^ 64) open-ids
+      (became-small o (open-ids o (standing-member (standing id (openOrders m) o (d .found)))) (changed c o) (changed-became c o))
+
+  ids-after : (e : Event) → Sized e → judged m e ≡ 0 → (x : Order) → List·Memᴰ x (work (view m) e .book .orders) → x .id < 2 ^ 64
+  unfolding bookAfter bookOf newOrder
   ids-after (Limit a l) sized passes = open-ids
   ids-after (Balance a i z) sized passes = open-ids
   ids-after (Block what z) sized passes = open-ids
   ids-after (New s a i id n) sized passes =
       λ x k. ⊎-elim (λ e. rw e sized) (open-ids x) (insert-members (newOrder s a i id n) (openOrders m) x .0 k)
-  ids-after (Replace id n) sized passes = changed-ids id _ (replaced-became (natAbs n)) (accepted-facts m held (Replace id n) passes .0)
-  ids-after (Cancel id) sized passes = changed-ids id _ (λ o. gone) (accepted-facts m held (Cancel id) passes)
-  ids-after (Fill id n) sized passes = changed-ids id _ (filled-became (natAbs n)) (accepted-facts m held (Fill id n) passes .0)
+  ids-after (Change id c) sized passes = changed-ids id c (accepted-facts m held (Change id c) passes .0)
   ids-after Junk sized passes = open-ids
 
-  pub small-after : (e : Event) → Sized e → judged m e ≡ 0 → SmallOrders (work (derivatives .unit) (bookOf m) e .orders)
+  pub small-after : (e : Event) → Sized e → judged m e ≡ 0 → SmallOrders (work (view m) e .book .orders)
   small-after e sized passes =
-      members-small (work (derivatives .unit) (bookOf m) e .orders)
+      members-small (work (view m) e .book .orders)
       (λ x k.
-      let f = fits-after derivatives (rosterOf m) (bookOf m) (tradingOf m) (sound m held) e (passed m e passes) x k in
+      let f = fits-after (view m) (sound m held) e (passed m e passes) x k in
       record { id = ids-after e sized passes x k; detail = storable m held x f })

@@ -11,13 +11,11 @@ use Rattle.words.specs.Words.{wordAt, putWord}
 use Rattle.words.proofs.Memory.{length-put, word-put-same, word-put-other}
 use Rattle.limits.specs.InBytes.{lineAt, groupLineAt}
 use Rattle.book.specs.declared.Event.{Event}
-use Rattle.book.specs.Market.{derivatives}
 use Rattle.book.specs.Sound.{LineFits, GroupLineFits}
 use Rattle.book.proofs.Decoded.{HasId}
-use Rattle.book.proofs.Plain.{derivatives-unit}
 use Rattle.book.proofs.SoundSteps.{sound-step}
 use Rattle.layout.specs.Layout.{ownRow, defaultRow, groupRow}
-use Rattle.layout.specs.View.{rosterOf, firstOf, bookOf, tradingOf}
+use Rattle.layout.specs.View.{firstOf, view}
 use Rattle.layout.specs.Judged.{judged}
 use Rattle.soundness.specs.SoundMemory.{Figures, SoundMemory}
 use Rattle.working.specs.Working.{worked}
@@ -93,6 +91,5 @@ sound-worked m bytes held e id-word id-0 passes =
       first = first-worked m held e passes;
       figures = figures-worked m held e passes;
       book =
-          rw (roster-worked m held e passes, view-worked m bytes held e id-word passes)
-          (sound-step derivatives derivatives-unit (rosterOf m) (bookOf m) (tradingOf m) (sound m held) e id-0 passes);
+          rw (view-worked m bytes held e id-word passes) (sound-step (view m) (sound m held) e id-0 passes);
     }

@@ -3,13 +3,15 @@ use Prim.Native.Nat.{ℕ, _^_, _≤_, _<_}
 use mathlib.Core.Path.{_≡_, refl, _∙_, sym, ap, fun-ext}
 use mathlib.Core.Bool.{true, cond}
 use mathlib.Core.List.{List}
+use mathlib.Core.Option.{some}
 use lib.IntN.{ℤ, pos, natAbs, _+ℤ_, +ℤ-idr}
 use Rattle.integers.specs.Magnitude.{sized, magnitude-sum, magnitude-negation}
 use Rattle.words.specs.Bytes.{Bytes}
 use Rattle.ledger.specs.declared.order.Order.{Order}
 use Rattle.ledger.specs.declared.order.Side.{Side}
 use Rattle.ledger.specs.declared.order.Side.the-variants.{Buy, Sell}
-use Rattle.ledger.specs.Orders.{filledBy, placeFrom}
+use Rattle.ledger.specs.Orders.{placeFrom}
+use Rattle.ledger.specs.Roster.{Numbered}
 use Rattle.ledger.specs.Fillings.{fillMoves}
 use Rattle.ledger.specs.Positions.{toward, wayOf}
 use Rattle.ledger.proofs.Amounts.{fill-apart}
@@ -17,13 +19,19 @@ use Rattle.ledger.proofs.Ways.{by-number}
 use Rattle.book.specs.declared.LimitLine.the-variants.{Own, Default, OfGroup}
 use Rattle.book.specs.declared.Blocked.the-variants.{Account, Instrument, GroupFor}
 use Rattle.book.specs.declared.Event.{Event}
-use Rattle.book.specs.declared.Event.the-variants.{Limit, Balance, Block, New, Replace, Cancel, Fill, Junk}
+use Rattle.book.specs.declared.OrderChange.{OrderChange}
+use Rattle.book.specs.declared.OrderChange.the-variants.{Replace, Cancel, Fill}
+use Rattle.book.specs.declared.Event.the-variants.{Limit, Balance, Block, New, Change, Junk}
 use Rattle.book.specs.Market.{derivatives}
-use Rattle.book.specs.Books.{at, lineOf, groupLineOf, withOrders, work, mark}
+use Rattle.book.specs.OpenOrders.{change}
+use Rattle.book.specs.Books.{at, lineOf, groupLineOf, changed, filledBalances, changedBalances, bookAfter}
+use Rattle.book.specs.States.{State, mark, work}
+use Rattle.book.specs.Sound.{OrderFits}
 use Rattle.book.proofs.SoundLines.{line-fits, group-line-fits}
-use Rattle.layout.specs.View.{linesOf, balancesOf, blocksOf, firstOf, openOrders, bookOf, tradingOf, view}
+use Rattle.layout.specs.View.{rosterOf, linesOf, balancesOf, blocksOf, openOrders, bookOf, tradingOf, view}
 use Rattle.layout.specs.Stores.{storeFrom, joinedFirst, rank}
 use Rattle.layout.specs.Judged.{judged}
+use Rattle.layout.proofs.GuardedTables.{stateOf}
 use Rattle.layout.proofs.FirstRecord.{joined-small}
 use Rattle.layout.proofs.ViewStores.{view-balance, view-mark}
 use Rattle.layout.proofs.ViewBlocks.{view-block-account, view-block-instrument, view-block-group}
@@ -31,9 +39,9 @@ use Rattle.layout.proofs.ViewLimits.{view-own, view-default, view-of-group}
 use Rattle.layout.proofs.ViewOrders.{view-orders, bounds-orders, roster-orders}
 use Rattle.soundness.specs.SoundMemory.{SoundMemory}
 use Rattle.soundness.proofs.Bounded.{balance-small}
-use Rattle.working.specs.Working.{keptFirst, worked}
-use Rattle.working.proofs.AcceptedFacts.{laid, accepted-facts}
-use Rattle.working.proofs.FirstRecord.{gone-small, kept-small}
+use Rattle.working.specs.Working.{firstAfter, recordsChanged, orderChanged, worked}
+use Rattle.working.proofs.AcceptedFacts.{ChangeFacts, laid, accepted-facts}
+use Rattle.working.proofs.FirstRecord.{after-small}
 use Rattle.working.proofs.Writes.{few-after}
 use Rattle.working.proofs.Filling.{fill-one}
 use Rattle.working.proofs.Small.{Sized, small-line, small-group-line, small-after}
@@ -71,103 +79,106 @@ fill-size o n = ap natAbs (fill-one o n) ∙ by (o .side)
     by Sell = magnitude-negation (pos n)
 
 module _ (m : List ℕ) (bytes : Bytes m) (held : SoundMemory m) where
+  -- the view with these orders
+  abbrev withOrders : List Order → State
+  withOrders os = stateOf (rosterOf m) (balancesOf m) (linesOf m) (blocksOf m) os (tradingOf m)
+
   -- the orders afterwards, stored
   orders-shown : (f : ℕ) → f ≤ 256 → (e : Event) → Sized e → judged m e ≡ 0
-      → view (storeFrom m f (work (derivatives .unit) (bookOf m) e .orders))
-      ≡ record { book = withOrders (bookOf m) (work (derivatives .unit) (bookOf m) e .orders); trading = tradingOf m }
+      → view (storeFrom m f (work (view m) e .book .orders)) ≡ withOrders (work (view m) e .book .orders)
   orders-shown f inside e id-word passes =
-      view-orders m f (work (derivatives .unit) (bookOf m) e .orders) (laid m held) inside (few-after m held e passes)
+      view-orders m f (work (view m) e .book .orders) (laid m held) inside (few-after m held e passes)
       (small-after m bytes held e id-word passes)
 
   new-shown : (s : Side) (a i id : ℕ) (n : ℤ) → id < 2 ^ 64 → judged m (New s a i id n) ≡ 0
-      → view (worked m (New s a i id n)) ≡ record {
-        book = work (derivatives .unit) (bookOf m) (New s a i id n);
-        trading = at a true (tradingOf m);
-      }
-  unfolding worked work bookOf view
+      → view (worked m (New s a i id n)) ≡ work (view m) (New s a i id n)
+  unfolding worked bookAfter bookOf mark
   new-shown s a i id n id-word passes =
       let e = New s a i id n in
       let f = joinedFirst m (rank id (openOrders m)) in
       let inside = joined-small m (rank id (openOrders m)) (held .first) in
       let shown = orders-shown f inside e id-word passes in
-      let l = storeFrom m f (work (derivatives .unit) (bookOf m) e .orders) in
+      let l = storeFrom m f (work (view m) e .book .orders) in
       let few = few-after m held e passes in
       view-mark l (bounds-orders m f _ (laid m held) inside few) a
       (rw (roster-orders m f _ (laid m held) inside few) (accepted-facts m held e passes .0))
-      ∙ ap (λ k. record { book = k .book; trading = at a true (k .trading) }) shown
+      ∙ ap (λ (k : State). record {
+        market = k .market;
+        roster = k .roster;
+        book = k .book;
+        beside = record { trading = at a true (k .beside .trading) };
+      }) shown
 
-  replace-shown : (id : ℕ) (n : ℤ) → judged m (Replace id n) ≡ 0
-      → view (worked m (Replace id n)) ≡ record { book = work (derivatives .unit) (bookOf m) (Replace id n); trading = tradingOf m }
-  unfolding worked work bookOf
-  replace-shown id n passes = orders-shown (firstOf m) (held .first) (Replace id n) tt passes
+  -- the records after a change of order o
+  abbrev records-first : ℕ → OrderChange → Order → ℕ
+  records-first id c o = firstAfter m (placeFrom 0 id (openOrders m)) (changed c o)
 
-  cancel-shown : (id : ℕ) → judged m (Cancel id) ≡ 0
-      → view (worked m (Cancel id)) ≡ record { book = work (derivatives .unit) (bookOf m) (Cancel id); trading = tradingOf m }
-  unfolding worked work bookOf
-  cancel-shown id passes = orders-shown _ (gone-small m (held .first) (placeFrom 0 id (openOrders m))) (Cancel id) tt passes
+  records-shown : (id : ℕ) (c : OrderChange) (o : Order) → judged m (Change id c) ≡ 0
+      → view (recordsChanged m id c o) ≡ withOrders (change id (changed c) (openOrders m))
+  unfolding bookAfter bookOf
+  records-shown id c o passes =
+      orders-shown (records-first id c o) (after-small m (held .first) (placeFrom 0 id (openOrders m)) (changed c o)) (Change id c) tt passes
 
-  fill-shown : (id : ℕ) (n : ℤ) → judged m (Fill id n) ≡ 0
-      → view (worked m (Fill id n)) ≡ record { book = work (derivatives .unit) (bookOf m) (Fill id n); trading = tradingOf m }
-  unfolding worked work bookOf view
-  fill-shown id n passes =
-      let e = Fill id n in
-      let t = accepted-facts m held e passes in
-      let o = t .0 .order in
+  fill-shown : (id : ℕ) (n : ℤ) (o : Order) → OrderFits (rosterOf m) o → judged m (Change id (Fill n)) ≡ 0 → Numbered 1000000 (natAbs n)
+      → view (orderChanged m id (Fill n) (some o)) ≡ stateOf (rosterOf m) (filledBalances (derivatives .unit) (some o) (natAbs n)
+      (balancesOf m)) (linesOf m) (blocksOf m) (change id (changed (Fill n)) (openOrders m)) (tradingOf m)
+  unfolding bookAfter bookOf mark
+  fill-shown id n o fits passes quantity =
+      let e = Change id (Fill n) in
       let a = o .account in
       let i = o .instrument in
       let unit = derivatives .unit in
+      let os = change id (changed (Fill n)) (openOrders m) in
       let z = balancesOf m a i +ℤ fillMoves unit a i o (natAbs n) in
-      let f = keptFirst m (placeFrom 0 id (openOrders m)) (filledBy o (natAbs n)) in
-      let inside = kept-small m (held .first) (placeFrom 0 id (openOrders m)) (filledBy o (natAbs n)) in
-      let l = storeFrom m f (work unit (bookOf m) e .orders) in
+      let f = records-first id (Fill n) o in
+      let inside = after-small m (held .first) (placeFrom 0 id (openOrders m)) (changed (Fill n) o) in
       let few = few-after m held e passes in
-      let roster = roster-orders m f (work unit (bookOf m) e .orders) (laid m held) inside few in
-      let balances = fill-moves unit o (natAbs n) (balancesOf m) in
-      rw (t .0 .found)
-      (view-balance l (bounds-orders m f _ (laid m held) inside few) a i z (rw roster (t .0 .fits .account))
-      (rw roster (t .0 .fits .instrument)) (omega (
+      let roster = roster-orders m f os (laid m held) inside few in
+      view-balance (recordsChanged m id (Fill n) o) (bounds-orders m f os (laid m held) inside few) a i z (rw roster (fits .account))
+      (rw roster (fits .instrument)) (omega (
         sized,
         balance-small m held a i,
         fill-size o (natAbs n),
         magnitude-sum (balancesOf m a i) (fillMoves unit a i o (natAbs n)),
-      )) unit
-      ∙ ap (λ k. record { book = work unit (k .book) (Balance a i z); trading = k .trading }) (orders-shown f inside e tt passes)
-      ∙ ap (λ s. record {
-        book = record {
-          balanceOf = s;
-          linesOf = linesOf m;
-          blocks = blocksOf m;
-          orders =
-              work unit (bookOf m) e .orders;
-        };
-        trading = tradingOf m;
-      }) balances)
+      ))
+      ∙ ap (λ (k : State). work k (Balance a i z)) (records-shown id (Fill n) o passes)
+      ∙ ap (λ s. stateOf (rosterOf m) s (linesOf m) (blocksOf m) os (tradingOf m)) (fill-moves unit o (natAbs n) (balancesOf m))
+
+  change-shown : (id : ℕ) (c : OrderChange) → judged m (Change id c) ≡ 0 → view (worked m (Change id c)) ≡ work (view m) (Change id c)
+  unfolding worked bookAfter bookOf mark changedBalances
+  change-shown id c passes =
+      let f = accepted-facts m held (Change id c) passes in
+      rw (f .0 .found) (by c passes (f .0 .order) (f .0 .fits) (f .1))
+    where
+      by : (c : OrderChange) → judged m (Change id c) ≡ 0 → (o : Order) → OrderFits (rosterOf m) o → ChangeFacts c o
+          → view (orderChanged m id c (some o)) ≡ stateOf (rosterOf m) (changedBalances (derivatives .unit) c (some o) (balancesOf m))
+          (linesOf m) (blocksOf m) (change id (changed c) (openOrders m)) (tradingOf m)
+      by (Replace n) passes o fits facts = records-shown id (Replace n) o passes
+      by Cancel passes o fits facts = records-shown id Cancel o passes
+      by (Fill n) passes o fits facts = fill-shown id n o fits passes (facts .0 .1)
 
   pub view-worked : (e : Event) → Sized e → judged m e ≡ 0
-      → view (worked m e) ≡ record { book = work (derivatives .unit) (bookOf m) e; trading = mark (tradingOf m) e }
-  unfolding worked work mark view derivatives
+      → view (worked m e) ≡ work (view m) e
+  unfolding worked bookAfter bookOf mark derivatives
   view-worked (Limit a (Own i f)) id-word passes =
       let t = accepted-facts m held (Limit a (Own i f)) passes in
-      view-own m (laid m held) a i f (small-line (lineOf f) (line-fits derivatives f (t .2))) (t .0) (t .1) (derivatives .unit)
+      view-own m (laid m held) a i f (small-line (lineOf f) (line-fits derivatives f (t .2))) (t .0) (t .1)
   view-worked (Limit a (Default c f)) id-word passes =
       let t = accepted-facts m held (Limit a (Default c f)) passes in
-      view-default m (laid m held) a c f (small-line (lineOf f) (line-fits derivatives f (t .2))) (t .0) (t .1) (derivatives .unit)
+      view-default m (laid m held) a c f (small-line (lineOf f) (line-fits derivatives f (t .2))) (t .0) (t .1)
   view-worked (Limit a (OfGroup g x y)) id-word passes =
       let t = accepted-facts m held (Limit a (OfGroup g x y)) passes in
       view-of-group m (laid m held) a g x y (small-group-line (groupLineOf x y) (group-line-fits derivatives x y (t .2))) (t .0) (t .1)
-      (derivatives .unit)
   view-worked (Balance a i z) id-word passes =
       let t = accepted-facts m held (Balance a i z) passes in
-      view-balance m (laid m held) a i z (t .0) (t .1) (omega sized) (derivatives .unit)
+      view-balance m (laid m held) a i z (t .0) (t .1) (omega sized)
   view-worked (Block (Account a) z) id-word passes =
-      view-block-account m (laid m held) z (derivatives .unit) a (accepted-facts m held (Block (Account a) z) passes)
+      view-block-account m (laid m held) z a (accepted-facts m held (Block (Account a) z) passes)
   view-worked (Block (Instrument i) z) id-word passes =
-      view-block-instrument m (laid m held) z (derivatives .unit) i (accepted-facts m held (Block (Instrument i) z) passes)
+      view-block-instrument m (laid m held) z i (accepted-facts m held (Block (Instrument i) z) passes)
   view-worked (Block (GroupFor a g) z) id-word passes =
       let t = accepted-facts m held (Block (GroupFor a g) z) passes in
-      view-block-group m (laid m held) z (derivatives .unit) a g (t .0) (t .1)
+      view-block-group m (laid m held) z a g (t .0) (t .1)
   view-worked (New s a i id n) id-word passes = new-shown s a i id n id-word passes
-  view-worked (Replace id n) id-word passes = replace-shown id n passes
-  view-worked (Cancel id) id-word passes = cancel-shown id passes
-  view-worked (Fill id n) id-word passes = fill-shown id n passes
+  view-worked (Change id c) id-word passes = change-shown id c passes
   view-worked Junk id-word passes = refl

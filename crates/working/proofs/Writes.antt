@@ -4,37 +4,40 @@ use mathlib.Core.Path.{_≡_, refl, _∙_}
 use mathlib.Core.List.{List, [], _∷_}
 use mathlib.Core.Option.{Option, none, some}
 use native.Mathlib.Omega.{arith}
-use lib.IntN.{ℤ, natAbs}
+use lib.IntN.{ℤ}
 use lib.ListN.{length, getD}
 use Rattle.integers.specs.TwosComplement.{bitsOf}
 use Rattle.words.specs.Bytes.{Bytes}
 use Rattle.words.specs.Words.{wordAt, putWord, lower, upper, putSigned, putWords}
 use Rattle.words.proofs.Memory.{length-put, bytes-put, byte-put-other, word-put-other}
 use Rattle.ledger.specs.declared.order.Order.{Order}
-use Rattle.ledger.specs.Orders.{filledBy, placeFrom}
+use Rattle.ledger.specs.Orders.{placeFrom}
 use Rattle.ledger.specs.Roster.{Numbered}
 use Rattle.limits.specs.Lines.{Line, GroupLine}
 use Rattle.book.specs.declared.LimitLine.the-variants.{Own, Default, OfGroup}
 use Rattle.book.specs.declared.Blocked.the-variants.{Account, Instrument, GroupFor}
 use Rattle.book.specs.declared.Event.{Event}
-use Rattle.book.specs.declared.Event.the-variants.{Limit, Balance, Block, New, Replace, Cancel, Fill, Junk}
+use Rattle.book.specs.declared.OrderChange.{OrderChange}
+use Rattle.book.specs.declared.OrderChange.the-variants.{Replace, Cancel, Fill}
+use Rattle.book.specs.declared.Event.the-variants.{Limit, Balance, Block, New, Change, Junk}
 use Rattle.book.specs.Market.{derivatives}
-use Rattle.book.specs.Books.{lineOf, groupLineOf, work}
+use Rattle.book.specs.Books.{lineOf, groupLineOf, changed, bookAfter}
+use Rattle.book.specs.States.{work}
 use Rattle.book.specs.Sound.{LineFits, GroupLineFits}
 use Rattle.book.proofs.SoundLines.{line-fits, group-line-fits}
 use Rattle.book.proofs.SoundOrders.{count-after}
 use Rattle.layout.specs.Layout.{markWord, accountBlockWord, instrumentBlockWord, groupBlockRow, balanceRow, ownSetRow, defaultSetRow}
 use Rattle.layout.specs.Layout.{groupSetRow, ownRow, defaultRow, groupRow}
-use Rattle.layout.specs.View.{rosterOf, openOrders, bookOf, tradingOf}
+use Rattle.layout.specs.View.{rosterOf, openOrders, bookOf, view}
 use Rattle.layout.specs.Stores.{recordWord, fields, putOrder, putOrders, storeFrom}
 use Rattle.layout.specs.FieldStores.{lineWords, groupLineWords, storeLine, storeGroupLine, storeBalance}
 use Rattle.layout.specs.Judged.{judged}
 use Rattle.layout.proofs.RosterLaws.{roster-same}
 use Rattle.layout.proofs.FirstRecord.{joined-small}
 use Rattle.soundness.specs.SoundMemory.{SoundMemory}
-use Rattle.working.specs.Working.{worked}
+use Rattle.working.specs.Working.{recordsChanged, orderChanged, worked}
 use Rattle.working.proofs.AcceptedFacts.{sound, laid, passed, accepted-facts}
-use Rattle.working.proofs.FirstRecord.{gone-small, kept-small}
+use Rattle.working.proofs.FirstRecord.{after-small}
 
 -- no event of an order
 abbrev pub Setting : Event → Type 0
@@ -42,9 +45,7 @@ Setting (Limit a l) = Unit
 Setting (Balance a i z) = Unit
 Setting (Block what z) = Unit
 Setting (New s a i id n) = ⊥
-Setting (Replace id n) = ⊥
-Setting (Cancel id) = ⊥
-Setting (Fill id n) = ⊥
+Setting (Change id c) = ⊥
 Setting Junk = Unit
 
 -- both figures of a word are in range
@@ -61,9 +62,8 @@ pub record Stores (e : Event) (k v : ℕ) : Type 0 where
   pub figures : 1536 ≤ k → k < 2880 → FiguresFit v
 
 -- at most 256 orders are open afterwards
-pub few-after : (m : List ℕ) → SoundMemory m → (e : Event) → judged m e ≡ 0 → length (work (derivatives .unit) (bookOf m) e .orders) ≤ 256
-few-after m held e passes =
-    count-after derivatives (rosterOf m) (bookOf m) (tradingOf m) (sound m held) e (passed m e passes)
+pub few-after : (m : List ℕ) → SoundMemory m → (e : Event) → judged m e ≡ 0 → length (work (view m) e .book .orders) ≤ 256
+few-after m held e passes = count-after (view m) (sound m held) e (passed m e passes)
 
 -- ---- the words of a line in range
 line-words-fit : (l : Line) → LineFits 1000000000 l → (j : ℕ) → FiguresFit (getD (lineWords l) j 0)
@@ -136,7 +136,7 @@ module _ (e : Event) (P : List ℕ → Type 0) (keeps : (l : List ℕ) (k v : �
       record { low = low; high = high; aside = λ s. absurd (no-setting s); first = first; figures = λ a b. absurd (apart a b) }
 
   keeps-list : (Setting e → ⊥) → (f : ℕ) → f ≤ 256 → judged m e ≡ 0 → P m
-      → P (storeFrom m f (work (derivatives .unit) (bookOf m) e .orders))
+      → P (storeFrom m f (work (view m) e .book .orders))
   keeps-list no-setting f inside passes =
       keeps-orders (Stores e) P keeps
       (λ j v low high. of-order no-setting j v (omega arith) (omega arith) (λ same. omega arith) (λ a b. omega arith))
@@ -146,7 +146,7 @@ module _ (e : Event) (P : List ℕ → Type 0) (keeps : (l : List ℕ) (k v : �
 
 pub worked-keeps : (e : Event) (P : List ℕ → Type 0) → ((l : List ℕ) (k v : ℕ) → Stores e k v → P l → P (putWord l k v)) → (m : List ℕ)
     → SoundMemory m → judged m e ≡ 0 → P m → P (worked m e)
-unfolding worked work bookOf derivatives
+unfolding worked bookAfter bookOf derivatives
 worked-keeps (Limit a (Own i f)) P keeps m held passes p =
     let t = accepted-facts m held (Limit a (Own i f)) passes in
     let sized = laid m held .sized in
@@ -181,15 +181,24 @@ worked-keeps (New s a i id n) P keeps m held passes p =
     let t = accepted-facts m held (New s a i id n) passes in
     let sized = laid m held .sized in
     keeps _ (markWord a) 1 (omega arith) (keeps-list (New s a i id n) P keeps m held (λ x. x) _ (joined-small m _ (held .first)) passes p)
-worked-keeps (Replace id n) P keeps m held passes p = keeps-list (Replace id n) P keeps m held (λ x. x) _ (held .first) passes p
-worked-keeps (Cancel id) P keeps m held passes p =
-    keeps-list (Cancel id) P keeps m held (λ x. x) _ (gone-small m (held .first) (placeFrom 0 id (openOrders m))) passes p
-worked-keeps (Fill id n) P keeps m held passes p =
-    let f = accepted-facts m held (Fill id n) passes .0 in
-    rw (f .found)
-    (keeps-balance (Fill id n) P keeps m held _ (f .order .account) (f .order .instrument) _ (f .fits .account) (f .fits .instrument)
-    (keeps-list (Fill id n) P keeps m held (λ x. x) _
-    (kept-small m (held .first) (placeFrom 0 id (openOrders m)) (filledBy (f .order) (natAbs n))) passes p))
+worked-keeps (Change id c) P keeps m held passes p =
+    let f = accepted-facts m held (Change id c) passes .0 in
+    rw (f .found) (by c passes (f .order) (f .fits .account) (f .fits .instrument) keeps)
+  where
+    records-kept : (c : OrderChange) → judged m (Change id c) ≡ 0 → (o : Order)
+        → ((l : List ℕ) (k v : ℕ) → Stores (Change id c) k v → P l → P (putWord l k v)) → P (recordsChanged m id c o)
+    records-kept c passes o keeps =
+        keeps-list (Change id c) P keeps m held (λ x. x) _
+        (after-small m (held .first) (placeFrom 0 id (openOrders m)) (changed c o)) passes p
+
+    by : (c : OrderChange) → judged m (Change id c) ≡ 0 → (o : Order) → Numbered (rosterOf m .accounts) (o .account)
+        → Numbered (rosterOf m .instruments) (o .instrument)
+        → ((l : List ℕ) (k v : ℕ) → Stores (Change id c) k v → P l → P (putWord l k v)) → P (orderChanged m id c (some o))
+    by (Replace n) passes o on-a on-i keeps = records-kept (Replace n) passes o keeps
+    by Cancel passes o on-a on-i keeps = records-kept Cancel passes o keeps
+    by (Fill n) passes o on-a on-i keeps =
+        keeps-balance (Change id (Fill n)) P keeps m held _ (o .account) (o .instrument) _ on-a on-i
+        (records-kept (Fill n) passes o keeps)
 worked-keeps Junk P keeps m held passes p = p
 
 -- ---- so are kept

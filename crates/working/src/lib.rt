@@ -1,73 +1,44 @@
-// Working an accepted event in a desk's memory. It cannot refuse: the judge has accepted the event.
+// Working an accepted event in a desk's memory, and in B and V of all accounts beside it. It cannot refuse: the judge has accepted the
+// event.
 pub mod orders;
 pub mod settings;
+pub mod sums;
 
 ghost use mathlib.Core.Path.{_≡_};
-ghost use Rattle.ledger.specs.declared.order.Side.the-variants.{Buy, Sell};
-ghost use Rattle.working.specs.Working.{Ready, worked, moved};
-use crate::orders::work_cancel;
-use crate::orders::work_fill;
-use crate::orders::work_new;
-use crate::orders::work_replace;
+ghost use Rattle.layout.specs.View.{openOrders};
+ghost use Rattle.soundness.specs.Cells.{Sums};
+ghost use Rattle.working.specs.Working.{Ready, worked};
+use crate::orders::change_order;
+use crate::orders::enter;
 use crate::settings::work_balance;
 use crate::settings::work_block;
 use crate::settings::work_limit;
 use book::Event;
+use ledger::order::Order;
 
-// The contracts bought and sold that an event moved.
-pub struct Moved {
-    pub bought: u64,
-    pub sold: u64,
-}
-
-pub fn nothing() -> Moved
-    ensures { λ r. ⌜ (r .bought ≡ 0) × (r .sold ≡ 0) ⌝ }
-{
-    Moved { bought: 0, sold: 0 }
-}
-
-// Works an event of any kind; `place` is that of the open order it names, for a NEW where its order joins.
-pub fn work(m: &mut [u8], e: Event, place: usize) -> Moved
-    requires { ⌜ Ready (now m) e place ⌝ }
+// Works an event of any kind. Of a NEW, `o` is the order that it enters, and `place` where it joins; of a REPLACE, CANCEL or FILL the open
+// order that it names, and where it stands.
+pub fn work(m: &mut [u8], cells: &mut [u64], e: Event, place: usize, o: Order)
+    requires { ⌜ Ready (now m) e place o × Sums (now cells) (openOrders (now m)) ⌝ }
     ensures memory { λ r. ⌜ now (m .exit) ≡ worked (now (m .entry)) e ⌝ }
-    ensures moved { λ r. ⌜ (r .bought ≡ moved (now (m .entry)) e Buy) × (r .sold ≡ moved (now (m .entry)) e Sell) ⌝ }
+    ensures sums { λ r. ⌜ Sums (now (cells .exit)) (openOrders (now (m .exit))) ⌝ }
 {
     match e {
-        Event::Limit { account, line } => {
-            work_limit(m, account, line);
-            nothing()
-        }
+        Event::Limit { account, line } => work_limit(m, account, line),
         Event::Balance {
             account,
             instrument,
             balance,
-        } => {
-            work_balance(m, account, instrument, balance);
-            nothing()
-        }
-        Event::Block { what, on } => {
-            work_block(m, what, on);
-            nothing()
-        }
+        } => work_balance(m, account, instrument, balance),
+        Event::Block { what, on } => work_block(m, what, on),
         Event::New {
             side,
             account,
             instrument,
             id,
             quantity,
-        } => {
-            work_new(m, side, account, instrument, id, quantity, place);
-            nothing()
-        }
-        Event::Replace { id, total } => {
-            work_replace(m, id, total, place);
-            nothing()
-        }
-        Event::Cancel { id } => {
-            work_cancel(m, id, place);
-            nothing()
-        }
-        Event::Fill { id, quantity } => work_fill(m, id, quantity, place),
-        Event::Junk => nothing(),
+        } => enter(m, cells, o, place),
+        Event::Change { id, change } => change_order(m, cells, o, place, change),
+        Event::Junk => {}
     }
 }

@@ -1,19 +1,17 @@
-// Working NEW, REPLACE, CANCEL and FILL. `place` is that of the order with the event's id, for a NEW where it joins.
+// Working NEW, REPLACE, CANCEL and FILL: `o` is the order that the judge hands on, which joins at place `place` of the open orders, or
+// stands there. The cells hold B and V of all accounts, before the event and after it.
 ghost use mathlib.Core.Path.{_≡_};
-ghost use Prim.Native.Nat.{_≤_};
-ghost use lib.IntN.{natAbs, _+ℤ_};
-ghost use Rattle.ledger.specs.declared.order.Side.the-variants.{Buy, Sell};
-ghost use Rattle.ledger.specs.declared.find.Found.the-variants.{At};
-ghost use Rattle.ledger.specs.Orders.{filledBy};
+ghost use Prim.Native.Nat.{_^_, _≤_, _<_};
+ghost use lib.IntN.{pos, natAbs, _+ℤ_};
 ghost use Rattle.ledger.specs.Positions.{toward, wayOf};
-ghost use Rattle.book.specs.declared.Event.the-variants.{New, Replace, Cancel, Fill};
-ghost use Rattle.book.specs.OpenOrders.{change, kept};
+ghost use Rattle.book.specs.declared.OrderChange.the-variants.{Replace, Cancel, Fill};
+ghost use Rattle.book.specs.declared.Event.the-variants.{Change};
 ghost use Rattle.layout.specs.View.{openOrders};
-ghost use Rattle.layout.specs.Stores.{storeFrom};
-ghost use Rattle.working.specs.Working.{Ready, Stands, keptFirst, worked, moved, onSide};
-use crate::Moved;
+ghost use Rattle.soundness.specs.Cells.{Sums};
+ghost use Rattle.working.specs.Working.{Ready, newOf, Stands, recordsChanged, worked};
+use crate::sums::recount;
+use book::OrderChange;
 use layout::orders::insert_order;
-use layout::orders::load_order;
 use layout::orders::remove_order;
 use layout::orders::replace_order;
 use layout::stores::set_balance;
@@ -24,59 +22,36 @@ use ledger::order::Side;
 use ledger::units::Contracts;
 use words::signed_word;
 
-// NEW: an order joins, with filled 0, and its account is marked as trading.
-pub fn work_new(
-    m: &mut [u8],
-    side: Side,
-    account: u64,
-    instrument: u64,
-    id: u64,
-    quantity: i64,
-    place: usize,
-)
-    requires { ⌜ Ready (now m) (New side account instrument id quantity) place ⌝ }
-    ensures { λ r. ⌜ now (m .exit) ≡ worked (now (m .entry)) (New side account instrument id quantity) ⌝ }
+// NEW: the order joins, and its account is marked as trading.
+pub fn enter(m: &mut [u8], cells: &mut [u64], o: Order, place: usize)
+    requires { ⌜ Ready (now m) (newOf o) place o × Sums (now cells) (openOrders (now m)) × (o .id < 2 ^ 64) ⌝ }
+    ensures memory { λ r. ⌜ now (m .exit) ≡ worked (now (m .entry)) (newOf o) ⌝ }
+    ensures sums { λ r. ⌜ Sums (now (cells .exit)) (openOrders (now (m .exit))) ⌝ }
 {
-    insert_order(
-        m,
-        place,
-        Order {
-            id,
-            account,
-            instrument,
-            side,
-            total: quantity as u64,
-            filled: 0,
-        },
-    );
-    set_mark(m, account as usize);
+    recount(cells, o, 0, o.total);
+    insert_order(m, place, o);
+    set_mark(m, o.account as usize);
 }
 
 // REPLACE: the order gets the new total.
-pub fn work_replace(m: &mut [u8], id: u64, total: i64, place: usize)
-    requires { ⌜ Ready (now m) (Replace id total) place ⌝ }
-    ensures { λ r. ⌜ now (m .exit) ≡ worked (now (m .entry)) (Replace id total) ⌝ }
+fn replace(m: &mut [u8], cells: &mut [u64], o: Order, place: usize, total: u64)
+    requires { ⌜ Ready (now m) (Change (o .id) (Replace (pos total))) place o × Sums (now cells) (openOrders (now m)) ⌝ }
+    ensures memory { λ r. ⌜ now (m .exit) ≡ worked (now (m .entry)) (Change (o .id) (Replace (pos total))) ⌝ }
+    ensures sums { λ r. ⌜ Sums (now (cells .exit)) (openOrders (now (m .exit))) ⌝ }
 {
-    let o = load_order(m, place);
-    replace_order(m, place, o.replaced_total(total as u64));
+    let next = o.replaced_total(total);
+    recount(cells, o, o.remaining(), next.remaining());
+    replace_order(m, place, next);
 }
 
 // CANCEL: the order leaves.
-pub fn work_cancel(m: &mut [u8], id: u64, place: usize)
-    requires { ⌜ Ready (now m) (Cancel id) place ⌝ }
-    ensures { λ r. ⌜ now (m .exit) ≡ worked (now (m .entry)) (Cancel id) ⌝ }
+fn cancel(m: &mut [u8], cells: &mut [u64], o: Order, place: usize)
+    requires { ⌜ Ready (now m) (Change (o .id) Cancel) place o × Sums (now cells) (openOrders (now m)) ⌝ }
+    ensures memory { λ r. ⌜ now (m .exit) ≡ worked (now (m .entry)) (Change (o .id) Cancel) ⌝ }
+    ensures sums { λ r. ⌜ Sums (now (cells .exit)) (openOrders (now (m .exit))) ⌝ }
 {
+    recount(cells, o, o.remaining(), 0);
     remove_order(m, place);
-}
-
-// The contracts that a fill by `n` on `side` moves.
-fn moved_by(side: Side, n: u64) -> Moved
-    ensures { λ r. ⌜ (r .bought ≡ onSide Buy side n) × (r .sold ≡ onSide Sell side n) ⌝ }
-{
-    match side {
-        Side::Buy => Moved { bought: n, sold: 0 },
-        Side::Sell => Moved { bought: 0, sold: n },
-    }
 }
 
 // The balance after a fill by `n`: a buy raises S, a sell lowers it.
@@ -93,8 +68,7 @@ fn balance_after(side: Side, balance: Contracts, n: Contracts) -> Contracts
 // The order's record after a fill by `n`: at remaining 0 it leaves.
 fn fill_record(m: &mut [u8], place: usize, o: Order, n: u64)
     requires { ⌜ Stands (now m) place o n ⌝ }
-    ensures { λ r. ⌜ now (m .exit) ≡ storeFrom (now (m .entry)) (keptFirst (now (m .entry)) (At place) (filledBy o n))
-        (change (o .id) (λ x. kept (filledBy x n)) (openOrders (now (m .entry)))) ⌝ }
+    ensures { λ r. ⌜ now (m .exit) ≡ recordsChanged (now (m .entry)) (o .id) (Fill (pos n)) o ⌝ }
 {
     let next = o.filled_by(n);
     if next.remaining() == 0 {
@@ -105,20 +79,31 @@ fn fill_record(m: &mut [u8], place: usize, o: Order, n: u64)
 }
 
 // FILL: the order's filled rises, and S moves.
-pub fn work_fill(m: &mut [u8], id: u64, quantity: i64, place: usize) -> Moved
-    requires { ⌜ Ready (now m) (Fill id quantity) place ⌝ }
-    ensures memory { λ r. ⌜ now (m .exit) ≡ worked (now (m .entry)) (Fill id quantity) ⌝ }
-    ensures moved { λ r. ⌜ (r .bought ≡ moved (now (m .entry)) (Fill id quantity) Buy)
-        × (r .sold ≡ moved (now (m .entry)) (Fill id quantity) Sell) ⌝ }
+fn fill(m: &mut [u8], cells: &mut [u64], o: Order, place: usize, n: u64)
+    requires { ⌜ Ready (now m) (Change (o .id) (Fill (pos n))) place o × Sums (now cells) (openOrders (now m)) ⌝ }
+    ensures memory { λ r. ⌜ now (m .exit) ≡ worked (now (m .entry)) (Change (o .id) (Fill (pos n))) ⌝ }
+    ensures sums { λ r. ⌜ Sums (now (cells .exit)) (openOrders (now (m .exit))) ⌝ }
 {
-    let o = load_order(m, place);
-    let n = quantity as u64;
+    let left = o.remaining();
+    recount(cells, o, left, left - n);
     let account = o.account as usize;
     let instrument = o.instrument as usize;
     let side = o.side;
     let balance = Contracts(signed_word(m, BALANCES + account * 32 + instrument));
     fill_record(m, place, o, n);
-    let next = balance_after(side, balance, Contracts(quantity));
+    let next = balance_after(side, balance, Contracts::of(n));
     set_balance(m, account, instrument, next.0);
-    moved_by(side, n)
+}
+
+// The open order becomes what the change makes of it.
+pub fn change_order(m: &mut [u8], cells: &mut [u64], o: Order, place: usize, change: OrderChange)
+    requires { ⌜ Ready (now m) (Change (o .id) change) place o × Sums (now cells) (openOrders (now m)) ⌝ }
+    ensures memory { λ r. ⌜ now (m .exit) ≡ worked (now (m .entry)) (Change (o .id) change) ⌝ }
+    ensures sums { λ r. ⌜ Sums (now (cells .exit)) (openOrders (now (m .exit))) ⌝ }
+{
+    match change {
+        OrderChange::Replace { total } => replace(m, cells, o, place, total as u64),
+        OrderChange::Cancel => cancel(m, cells, o, place),
+        OrderChange::Fill { quantity } => fill(m, cells, o, place, quantity as u64),
+    }
 }

@@ -10,7 +10,7 @@ ghost use Rattle.book.specs.Market.{derivatives};
 ghost use Rattle.book.specs.Books.{unsets, lineOf, groupLineOf};
 ghost use Rattle.book.specs.Table.{figuresOfLineFit};
 ghost use Rattle.layout.specs.FieldStores.{storeLine, storeOfGroup, lineWith};
-ghost use Rattle.working.specs.Working.{Ready, worked};
+ghost use Rattle.working.specs.Working.{AcceptedEvent, worked};
 use book::Blocked;
 use book::Figures;
 use book::LimitLine;
@@ -62,7 +62,7 @@ fn work_line(m: &mut [u8], at: LineWords, figures: Figures)
 
 // A group's line: an accepted LCC of −1 stands beside an LVC of −1, and the line is set no more.
 fn work_of_group(m: &mut [u8], account: u64, group: u64, lcc: i64, lvc: i64)
-    requires { ⌜ Ready (now m) (Limit account (OfGroup group lcc lvc)) 0 ⌝ }
+    requires { ⌜ AcceptedEvent (now m) (Limit account (OfGroup group lcc lvc)) ⌝ }
     ensures { λ r. ⌜ now (m .exit) ≡ storeOfGroup (now (m .entry)) account group (groupLineOf lcc lvc) ⌝ }
 {
     let a = account as usize;
@@ -76,7 +76,7 @@ fn work_of_group(m: &mut [u8], account: u64, group: u64, lcc: i64, lvc: i64)
 
 // LIMIT: the line of each level.
 pub fn work_limit(m: &mut [u8], account: u64, line: LimitLine)
-    requires { ⌜ Ready (now m) (Limit account line) 0 ⌝ }
+    requires { ⌜ AcceptedEvent (now m) (Limit account line) ⌝ }
     ensures { λ r. ⌜ now (m .exit) ≡ worked (now (m .entry)) (Limit account line) ⌝ }
 {
     let a = account as usize;
@@ -96,7 +96,7 @@ pub fn work_limit(m: &mut [u8], account: u64, line: LimitLine)
 
 // BALANCE: sets S.
 pub fn work_balance(m: &mut [u8], account: u64, instrument: u64, balance: i64)
-    requires { ⌜ Ready (now m) (Balance account instrument balance) 0 ⌝ }
+    requires { ⌜ AcceptedEvent (now m) (Balance account instrument balance) ⌝ }
     ensures { λ r. ⌜ now (m .exit) ≡ worked (now (m .entry)) (Balance account instrument balance) ⌝ }
 {
     set_balance(m, account as usize, instrument as usize, balance);
@@ -104,7 +104,7 @@ pub fn work_balance(m: &mut [u8], account: u64, instrument: u64, balance: i64)
 
 // BLOCK: 1 to block, 0 to lift.
 pub fn work_block(m: &mut [u8], what: Blocked, on: i64)
-    requires { ⌜ Ready (now m) (Block what on) 0 ⌝ }
+    requires { ⌜ AcceptedEvent (now m) (Block what on) ⌝ }
     ensures { λ r. ⌜ now (m .exit) ≡ worked (now (m .entry)) (Block what on) ⌝ }
 {
     let blocks = on != 0;

@@ -1,4 +1,4 @@
--- The cells after a shift: the order's own cell moves with it, and no other.
+-- The cells after a change of one order: its own cell moves with what counts of it, and no other.
 use Prim.Native.Nat.{ℕ, _+_, _*_, _-_, _≤_, _<_}
 use mathlib.Core.Path.{_≡_, refl, _∙_, sym, ap}
 use mathlib.Core.Logic.{_≢_}
@@ -18,11 +18,14 @@ use Rattle.ledger.proofs.Amounts.{Stands, stands?, amount-here, amount-apart}
 use Rattle.ledger.proofs.Sums.{open-nonneg}
 use Rattle.limits.specs.Raised.{addedOn}
 use Rattle.positions.specs.Gathered.{cell}
-use Rattle.positions.proofs.Gathering.{ownCell, same-cell}
+use Rattle.positions.proofs.Gathering.{same-cell}
+use Rattle.layout.specs.View.{openOrders}
 use Rattle.soundness.specs.Cells.{row, Sums}
+use Rattle.soundness.specs.SoundMemory.{SoundMemory}
+use Rattle.soundness.proofs.Bounded.{unfilled-small}
 use Rattle.soundness.proofs.Gathering.{rows, row-inside}
-use Rattle.sums.specs.SumsChanged.{SumsChanged}
-use Rattle.sums.proofs.Shifts.{same-amount}
+use Rattle.working.specs.SumsChanged.{SumsChanged, cellOf, Countable}
+use Rattle.working.proofs.SumsMoved.{same-amount}
 
 module _ (s : Side) (a i : ℕ) (o : Order) (n : ℕ) where
   added-here : Stands s a i o → addedOn n o s a i ≡ pos n
@@ -33,7 +36,7 @@ module _ (s : Side) (a i : ℕ) (o : Order) (n : ℕ) where
   added-apart apart = sym (same-amount n o s a i) ∙ amount-apart one s a i o n apart
 
 -- the cell of an order, as the code counts it
-pub own-spot : (o : Order) (j : ℕ) → j ≡ cell (o .side) (o .instrument) → o .account * 64 + j ≡ ownCell row o
+pub own-spot : (o : Order) (j : ℕ) → j ≡ cell (o .side) (o .instrument) → o .account * 64 + j ≡ cellOf o
 own-spot o j e = rw e
 
 -- what a cell holds after a shift, counted in contracts
@@ -41,13 +44,18 @@ pub settled : (c a b : ℕ) → b ≤ c + a → (x y : ℤ) → x ≡ pos c +ℤ
 settled c a b enough x y sum rest =
     omega (signed, sum-parts (pos c) (pos a), difference-parts x (pos b), rest)
 
+-- it is one of the cells
+pub own-inside : (cells : List ℕ) (o : Order) {before after : ℕ} → Countable cells o before after → cellOf o < length cells
+own-inside cells o c =
+    omega (arith, c .size, row-inside (o .side) (o .account) (o .instrument) (c .account .1) (c .instrument .1))
+
 module _ (cells : List ℕ) (orders orders′ : List Order) (held : Sums cells orders) (o : Order) (before after : ℕ)
     (shift : SumsChanged o before after orders orders′) where
   abbrev own : ℕ
-  own = ownCell row o
+  own = cellOf o
 
-  pub own-inside : own < length cells
-  own-inside =
+  here-inside : own < length cells
+  here-inside =
       omega (arith, held .size, row-inside (o .side) (o .account) (o .instrument) (shift .account .1) (shift .instrument .1))
 
   pub own-small : ((s : Side) (a i : ℕ) → natAbs (openOn one orders s a i) ≤ 256000000) → getD cells own 0 ≤ 256000000
@@ -95,7 +103,7 @@ module _ (cells : List ℕ) (orders orders′ : List Order) (held : Sums cells o
           → pos (getD (set cells own (getD cells own 0 + after - before)) (row a + cell s i) 0) ≡ openOn one orders′ s a i
       each s a i on in-roster (yes stands) =
           let same : row a + cell s i ≡ own = rw (stands .0, stands .1, stands .2) in
-          rw (same, getD-set-same cells own (getD cells own 0 + after - before) 0 own-inside)
+          rw (same, getD-set-same cells own (getD cells own 0 + after - before) 0 here-inside)
           (sym next ∙ rw (stands .0, stands .1, stands .2))
       each s a i on in-roster (no apart) =
           let other : row a + cell s i ≢ own = λ same. let all =
@@ -113,3 +121,20 @@ module _ (cells : List ℕ) (orders orders′ : List Order) (held : Sums cells o
             sum-parts z (addedOn after o s a i),
             sum-parts z′ (addedOn before o s a i),
           ))
+
+  pub countable : ((s : Side) (a i : ℕ) → natAbs (openOn one orders s a i) ≤ 256000000) → Countable cells o before after
+  countable small =
+      record {
+        account = shift .account;
+        instrument = shift .instrument;
+        size = held .size;
+        small = own-small small;
+        added = shift .small;
+        enough = enough;
+      }
+
+-- at a sound desk the cell of an order that an event names can take what counts after it
+pub recountable : {m cells : List ℕ} {o : Order} {before after : ℕ} {orders′ : List Order} → SoundMemory m → Sums cells (openOrders m)
+    → SumsChanged o before after (openOrders m) orders′ → Countable cells o before after
+recountable {m} {cells} {o} {before} {after} {orders′} held sums changes =
+    countable cells (openOrders m) orders′ sums o before after changes (unfilled-small m held)
