@@ -36,4 +36,3 @@ pub mod ListingDay
 pub mod Others
 pub mod Fills
 pub mod Filled
-pub mod Refused

@@ -10,7 +10,6 @@ pub mod EventLists
 pub mod SetAgain
 pub mod Demand3
 pub mod Contract
-pub mod Answers
 pub mod EventBytes
 pub mod Positions
 pub mod Days

@@ -85,28 +85,3 @@ pub enum Event {
     },
     Junk,
 }
-
-// An acceptance, or the question that is answered no.
-pub enum Answer {
-    Accepted,
-    NoSoundDesk,
-    NoEvent,
-    UnknownAccount,
-    UnknownItem,
-    FigureOutOfRange,
-    AlreadyTrading,
-    OrderNotFound,
-    QuantityOutOfRange,
-    DuplicateOrder,
-    AccountBlocked,
-    InstrumentBlocked,
-    GroupBlocked,
-    NoLimitsConfigured,
-    NoPlaceFree,
-    BuyTooLarge,
-    SellTooLarge,
-    InstrumentTooLong,
-    InstrumentTooShort,
-    GroupTooLong,
-    GroupTooShort,
-}

@@ -1,24 +1,29 @@
 -- The way back: each demand as the claim says it gives the demand as the crate desk says it, so neither can be weakened alone.
 use Prim.Native.Nat.{ℕ, _≤_, _<_}
-use mathlib.Core.Path.{_≡_, sym, ap, _∙_}
-use mathlib.Core.Logic.{_⊎_, inl, inr, ⊎-elim, _↔_, _≢_}
-use mathlib.Core.Bool.{true}
+use mathlib.Core.Path.{_≡_, refl, sym, ap, _∙_}
+use mathlib.Core.Logic.{_⊎_, inl, inr, ⊎-elim, _↔_, _≢_, by-cases}
+use mathlib.Core.Bool.{Bool, true, false}
 use mathlib.Core.List.{List, [], _∷_, _++_, List·Memᴰ, List·Memᴰ·head, List·Memᴰ·tail}
+use native.Mathlib.Decide.{ℕ-discrete}
 use lib.ListN.{length}
 use Rattle.ledger.specs.Derivatives.{one}
 use Rattle.ledger.specs.Positions.{Scope}
 use Rattle.ledger.specs.Roster.{Roster}
-use Rattle.limits.specs.Questions.{Question, allPass}
+use Rattle.limits.specs.Lines.{isSet}
+use Rattle.limits.specs.Questions.{Question, numbersOf, allPass}
 use Rattle.book.specs.declared.LimitLine.{LimitLine}
 use Rattle.book.specs.declared.Event.the-variants.{Limit}
 use Rattle.book.specs.Market.{derivatives}
 use Rattle.book.specs.Books.{work}
+use Rattle.book.specs.Decoding.{decode}
+use Rattle.book.specs.Table.{q, entered}
 use Rattle.book.specs.EventLists.{RawEvent, asEvent, State, memoryAfter, stateAfter}
 use Rattle.book.specs.SetAgain.{nameOf, lineOver}
 use Rattle.book.specs.Demand3.{NotSetAgain}
 use Rattle.book.proofs.SetAgainLaws.{set-by-that-limit}
 use Rattle.book.proofs.NotSetAgainLaws.{not-set-again-iff}
-use Rattle.desk.specs.Step.{answerTo}
+use Rattle.layout.specs.View.{bookOf}
+use Rattle.desk.specs.Step.{eventQuestions, answerTo}
 use Rattle.desk.specs.Days.{answersOver, memoryOver}
 use Rattle.desk.specs.Run.{Whole, eventsFor, bytesOfEach, concatenated}
 use Rattle.desk.specs.Demands.{OneOf, Answers, gate, Demand1 as DeskDemand1, Demand2 as DeskDemand2, Demand3 as DeskDemand3}
@@ -30,12 +35,29 @@ one-of : (n : ℕ) (ns : List ℕ) → List·Memᴰ n ns → OneOf n ns
 one-of n (k ∷ ks) (List·Memᴰ·head e) = inl e
 one-of n (k ∷ ks) (List·Memᴰ·tail m) = inr (one-of n ks m)
 
-pub back-1 : Demand1 → DeskDemand1
-back-1 d =
+-- where 21 to 24 are asked, the claim's list is the table's; where they are not, demand 2 says that the answer is a question's that is
+event-one-of : Demand1 → Demand2 → (m e : List ℕ) → OneOf (answerTo m e) (0 ∷ numbersOf (eventQuestions m e))
+event-one-of d two m e = by (isSet (entered (bookOf m) (decode e))) refl
+  where
+    in-table : (n : ℕ) (before behind : List Question) → OneOf n (numbersOf (before ++ (q n false ∷ behind)))
+    in-table n [] behind = inl refl
+    in-table n (x ∷ before) behind = inr (in-table n before behind)
+
+    refused : answerTo m e ≢ 0 → OneOf (answerTo m e) (0 ∷ numbersOf (eventQuestions m e))
+    refused other =
+        let f = two .event-refused m e (answerTo m e) other .0 refl in
+        inr (rw (f .2) (in-table (answerTo m e) (f .0) (f .1)))
+
+    by : (t : Bool) → isSet (entered (bookOf m) (decode e)) ≡ t → OneOf (answerTo m e) (0 ∷ numbersOf (eventQuestions m e))
+    by true asked = rw (two .event-numbers m e, asked) (one-of _ _ (d .event m e))
+    by false asked = by-cases (ℕ-discrete (answerTo m e) 0) (λ z. inl z) refused
+
+pub back-1 : Demand1 → Demand2 → DeskDemand1
+back-1 d two =
     record {
-      roster = λ m s. one-of _ _ (d .roster m s);
+      roster = λ m s. rw (two .roster-numbers m s) (one-of _ _ (d .roster m s));
       roster-refused = d .roster-refused;
-      event = λ m e. one-of _ _ (d .event m e);
+      event = event-one-of d two;
       event-refused = d .event-refused;
       later-opening = d .behind-roster;
       later-event = d .behind-event;

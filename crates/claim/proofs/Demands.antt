@@ -2,14 +2,15 @@
 use Prim.Native.Nat.{ℕ, suc, _≤_}
 use mathlib.Core.Path.{_≡_, refl, sym, ap, _∙_}
 use mathlib.Core.Logic.{_⊎_, inl, inr, ⊎-elim, _↔_, _≢_}
-use mathlib.Core.Bool.{false, cond}
-use mathlib.Core.List.{List, [], _∷_, _++_, map, List·Memᴰ, List·Memᴰ·head, List·Memᴰ·tail}
+use mathlib.Core.Bool.{Bool, true, false, cond}
+use mathlib.Core.List.{List, [], _∷_, _++_, map, List·Memᴰ, List·Memᴰ·head, List·Memᴰ·tail, List·Memᴰ·not-nil}
+use mathlib.Core.List.{List·Memᴰ·append-cases, Memᴰ·append-left}
 use mathlib.Core.Option.{Option, none, some}
 use native.Mathlib.Omega.{arith}
 use lib.ListN.{length, length-append, length-map}
 use Rattle.ledger.specs.declared.order.Order.{Order}
 use Rattle.limits.specs.Lines.{isSet}
-use Rattle.limits.specs.Questions.{Question}
+use Rattle.limits.specs.Questions.{Question, numbersOf}
 use Rattle.book.specs.Market.{derivatives}
 use Rattle.book.specs.Decoding.{decode}
 use Rattle.book.specs.Table.{q, entered}
@@ -21,7 +22,7 @@ use Rattle.layout.specs.View.{rosterOf, bookOf, tradingOf}
 use Rattle.soundness.specs.Soundness.{soundDesk}
 use Rattle.opening.specs.Questions.{rosterFrom, openingQuestions}
 use Rattle.reading.specs.Reading.{readingQuestions}
-use Rattle.desk.specs.Step.{eventQuestions, afterEvent}
+use Rattle.desk.specs.Step.{eventQuestions, answerTo, afterEvent}
 use Rattle.desk.specs.Days.{answersOver}
 use Rattle.desk.specs.Run.{Whole, answered}
 use Rattle.desk.specs.Demands.{OneOf, FirstFailed, Answers, gate}
@@ -29,17 +30,46 @@ use Rattle.desk.proofs.Demands.{demand-1 as desk-demand-1, demand-2 as desk-dem
 use Rattle.desk.proofs.RunList.{run-is-the-list, unsound-run}
 use Rattle.claim.specs.Claim.{FirstNo, Demand1, Demand2, Demand3, Run}
 
+-- ---- the numbers of an event's questions: 5 to 20, and 21 to 24 where an order is entered or raised
+abbrev first-asked : List ℕ
+first-asked = 5 ∷ 6 ∷ 7 ∷ 8 ∷ 9 ∷ 10 ∷ 11 ∷ 12 ∷ 13 ∷ 14 ∷ 15 ∷ 16 ∷ 17 ∷ 18 ∷ 19 ∷ 20 ∷ []
+
+abbrev last-asked : List ℕ
+last-asked = 21 ∷ 22 ∷ 23 ∷ 24 ∷ []
+
+event-numbers : (m e : List ℕ) → numbersOf (eventQuestions m e) ≡ first-asked ++ cond (isSet (entered (bookOf m) (decode e))) last-asked []
+unfolding eventQuestions
+event-numbers m e =
+    rw (← at-the-end (entered (bookOf m) (decode e)))
+    (numbers-in-order derivatives (rosterOf m) (soundDesk m) (bookOf m) (tradingOf m) (decode e))
+  where
+    at-the-end : (x : Option Order) → positionNumbers x ≡ cond (isSet x) last-asked []
+    at-the-end none = refl
+    at-the-end (some o) = refl
+
 -- ---- demand 1
 listed : (n : ℕ) (ns : List ℕ) → OneOf n ns → List·Memᴰ n ns
 listed n [] h = absurd h
 listed n (k ∷ ks) (inl e) = List·Memᴰ·head e
 listed n (k ∷ ks) (inr h) = List·Memᴰ·tail (listed n ks h)
 
+-- of a list whose last part is there or not
+with-the-last : (n : ℕ) (xs ys : List ℕ) (t : Bool) → List·Memᴰ n (xs ++ cond t ys []) → List·Memᴰ n (xs ++ ys)
+with-the-last n xs ys true k = k
+with-the-last n xs ys false k =
+    ⊎-elim (λ j. Memᴰ·append-left ys j) (λ j. absurd (List·Memᴰ·not-nil j)) (List·Memᴰ·append-cases xs k)
+
+event-listed : (m e : List ℕ) → List·Memᴰ (answerTo m e) (0 ∷ (first-asked ++ last-asked))
+event-listed m e =
+    with-the-last (answerTo m e) (0 ∷ first-asked) last-asked (isSet (entered (bookOf m) (decode e)))
+    (rw (event-numbers m e) at (listed (answerTo m e) (0 ∷ numbersOf (eventQuestions m e)) (desk-demand-1 .event m e)))
+
 pub demand-1 : Demand1
+unfolding openingQuestions
 demand-1 =
     record {
       roster = λ m s. listed _ _ (desk-demand-1 .roster m s);
-      event = λ m e. listed _ _ (desk-demand-1 .event m e);
+      event = event-listed;
       roster-refused = desk-demand-1 .roster-refused;
       event-refused = desk-demand-1 .event-refused;
       behind-roster = desk-demand-1 .later-opening;
@@ -75,17 +105,6 @@ opening-numbers m s = refl
 reading-numbers : (m : List ℕ) (items a n : ℕ) → map (λ x. x .number) (readingQuestions m items a n) ≡ 5 ∷ 7 ∷ 8 ∷ []
 unfolding readingQuestions
 reading-numbers m items a n = refl
-
-event-numbers : (m e : List ℕ) → map (λ x. x .number) (eventQuestions m e) ≡ 5 ∷ 6 ∷ 7 ∷ 8 ∷ 9 ∷ 10 ∷ 11 ∷ 12 ∷ 13 ∷ 14 ∷ 15 ∷ 16 ∷ 17 ∷ 18
-    ∷ 19 ∷ 20 ∷ cond (isSet (entered (bookOf m) (decode e))) (21 ∷ 22 ∷ 23 ∷ 24 ∷ []) []
-unfolding eventQuestions
-event-numbers m e =
-    rw (← at-the-end (entered (bookOf m) (decode e)))
-    (numbers-in-order derivatives (rosterOf m) (soundDesk m) (bookOf m) (tradingOf m) (decode e))
-  where
-    at-the-end : (x : Option Order) → positionNumbers x ≡ cond (isSet x) (21 ∷ 22 ∷ 23 ∷ 24 ∷ []) []
-    at-the-end none = refl
-    at-the-end (some o) = refl
 
 pub demand-2 : Demand2
 demand-2 =

@@ -2,12 +2,10 @@
 use Prim.Native.Nat.{ℕ}
 use mathlib.Core.Path.{_≡_, refl, sym, ap, _∙_}
 use mathlib.Core.Logic.{inl, inr, _≢_}
-use mathlib.Core.Bool.{Bool, true, false, true≢false, _&&_, _||_, cond}
+use mathlib.Core.Bool.{Bool, true, false, cond}
 use mathlib.Core.List.{List, [], _∷_}
-use lib.Dec.{eqb}
-use borrow.Author.Tests.{eqb-true}
-use Rattle.limits.specs.Questions.{Question, firstNo, allPass}
-use Rattle.limits.proofs.Answers.{both-true, and-true, Counted, pass-zero, zero-pass, append-passed}
+use Rattle.limits.specs.Questions.{Question, numbersOf, firstNo, allPass}
+use Rattle.limits.proofs.Answers.{and-true, Counted, pass-zero, zero-pass, append-passed}
 use Rattle.desk.specs.Demands.{OneOf, FirstFailed, Answers}
 
 -- ---- the first that fails
@@ -49,30 +47,13 @@ answers qs counted =
       accepted = (zero-pass qs counted, pass-zero qs);
     }
 
--- ---- one of the numbers
-abbrev pub isOneOf : ℕ → List ℕ → Bool
-isOneOf n [] = false
-isOneOf n (k ∷ ks) = eqb n k || isOneOf n ks
-
--- the questions have no other numbers
-abbrev pub numbered : List Question → List ℕ → Bool
-numbered [] ns = true
-numbered (q ∷ qs) ns = isOneOf (q .number) ns && numbered qs ns
-
-one-of : (n : ℕ) (ns : List ℕ) → isOneOf n ns ≡ true → OneOf n ns
-one-of n [] e = absurd (true≢false (sym e))
-one-of n (k ∷ ks) e = by (one-of n ks) (eqb n k) refl e
-  where
-    by : (isOneOf n ks ≡ true → OneOf n ks) → (t : Bool) → eqb n k ≡ t → t || isOneOf n ks ≡ true → OneOf n (k ∷ ks)
-    by rest true h e = inl (eqb-true n k h)
-    by rest false h e = inr (rest e)
-
-pub answer-one-of : (qs : List Question) (ns : List ℕ) → numbered qs ns ≡ true → OneOf (firstNo qs) (0 ∷ ns)
+-- ---- an answer is 0 or the number of a question
+pub answer-one-of : (qs : List Question) → OneOf (firstNo qs) (0 ∷ numbersOf qs)
 unfolding firstNo
-answer-one-of [] ns e = inl refl
-answer-one-of (q ∷ qs) ns e = by (answer-one-of qs ns) (q .passes) (both-true (isOneOf (q .number) ns) (numbered qs ns) e)
+answer-one-of [] = inl refl
+answer-one-of (q ∷ qs) = by (q .passes) (answer-one-of qs)
   where
-    by : (numbered qs ns ≡ true → OneOf (firstNo qs) (0 ∷ ns)) → (t : Bool) → (isOneOf (q .number) ns ≡ true) × (numbered qs ns ≡ true)
-        → OneOf (cond t (firstNo qs) (q .number)) (0 ∷ ns)
-    by rest true h = rest (h .1)
-    by rest false h = inr (one-of (q .number) ns (h .0))
+    by : (t : Bool) → OneOf (firstNo qs) (0 ∷ numbersOf qs) → OneOf (cond t (firstNo qs) (q .number)) (0 ∷ numbersOf (q ∷ qs))
+    by true (inl zero) = inl zero
+    by true (inr later) = inr (inr later)
+    by false rest = inr (inl refl)

@@ -2,8 +2,7 @@
 use Prim.Native.Nat.{ℕ, _≤_}
 use mathlib.Core.Path.{_≡_, refl, sym, ap, _∙_}
 use mathlib.Core.Logic.{_≢_, by-cases}
-use mathlib.Core.Bool.{true}
-use mathlib.Core.List.{List, [], _∷_, _++_}
+use mathlib.Core.List.{List, _∷_, _++_}
 use mathlib.Core.Option.{Option, none, some}
 use native.Mathlib.Omega.{arith}
 use native.Mathlib.Decide.{ℕ-discrete}
@@ -12,7 +11,7 @@ use lib.ListN.{getD}
 use borrow.Author.Tests.{eq-eqb, ne-eqb}
 use Rattle.ledger.specs.declared.order.Order.{Order}
 use Rattle.ledger.specs.Positions.{potential, ofInstrument}
-use Rattle.limits.specs.Questions.{Question, firstNo}
+use Rattle.limits.specs.Questions.{Question, numbersOf, firstNo}
 use Rattle.limits.specs.Asked.{positionQuestions}
 use Rattle.limits.proofs.Answers.{Counted}
 use Rattle.book.specs.Decoding.{decode}
@@ -32,14 +31,10 @@ use Rattle.working.proofs.Writes.{later-worked}
 use Rattle.desk.specs.Step.{eventQuestions, answerTo, afterEvent}
 use Rattle.desk.specs.Demands.{OneOf, Demand1, Answers, Demand2, gate, Demand3}
 use Rattle.desk.proofs.Readings.{instrument-read, group-read, shown-opened}
-use Rattle.desk.proofs.Checks.{numbered, answers, answer-one-of}
+use Rattle.desk.proofs.Checks.{answers, answer-one-of}
 use Rattle.desk.proofs.Gate.{first-passes, after-refused, after-accepted, answer-sound, shown-after, answers-table, demand-3-at}
 
--- ---- the questions' numbers
-abbrev event-numbers : List ℕ
-event-numbers =
-    5 ∷ 6 ∷ 7 ∷ 8 ∷ 9 ∷ 10 ∷ 11 ∷ 12 ∷ 13 ∷ 14 ∷ 15 ∷ 16 ∷ 17 ∷ 18 ∷ 19 ∷ 20 ∷ 21 ∷ 22 ∷ 23 ∷ 24 ∷ []
-
+-- ---- an event
 -- the table of an event, x being the order that it enters or raises
 abbrev table : List ℕ → List ℕ → Option Order → List Question
 table m e x =
@@ -56,30 +51,23 @@ unfolding questionsBefore positionQuestions
 counted-table m e none = omega arith
 counted-table m e (some o) = omega arith
 
-numbered-table : (m e : List ℕ) (x : Option Order) → numbered (table m e x) event-numbers ≡ true
-unfolding questionsBefore positionQuestions
-numbered-table m e none = refl
-numbered-table m e (some o) = refl
-
 event-answers : (m e : List ℕ) → Answers (eventQuestions m e) (answerTo m e)
 unfolding answerTo
 event-answers m e =
     rw (is-table m e) (answers (table m e (entered (bookOf m) (decode e))) (counted-table m e (entered (bookOf m) (decode e))))
 
-event-one-of : (m e : List ℕ) → OneOf (answerTo m e) (0 ∷ event-numbers)
+event-one-of : (m e : List ℕ) → OneOf (answerTo m e) (0 ∷ numbersOf (eventQuestions m e))
 unfolding answerTo
-event-one-of m e =
-    rw (is-table m e) (answer-one-of (table m e (entered (bookOf m) (decode e))) event-numbers
-    (numbered-table m e (entered (bookOf m) (decode e))))
+event-one-of m e = answer-one-of (eventQuestions m e)
 
 -- ---- an opening and a reading
 opening-answers : (m s : List ℕ) → Answers (openingQuestions m s) (openingAnswer m s)
 unfolding openingAnswer openingQuestions
 opening-answers m s = answers (openingQuestions m s) (omega arith)
 
-opening-one-of : (m s : List ℕ) → OneOf (openingAnswer m s) (0 ∷ 1 ∷ 2 ∷ 3 ∷ 4 ∷ [])
-unfolding openingAnswer openingQuestions
-opening-one-of m s = answer-one-of (openingQuestions m s) (1 ∷ 2 ∷ 3 ∷ 4 ∷ []) refl
+opening-one-of : (m s : List ℕ) → OneOf (openingAnswer m s) (0 ∷ numbersOf (openingQuestions m s))
+unfolding openingAnswer
+opening-one-of m s = answer-one-of (openingQuestions m s)
 
 opening-refused : (m s : List ℕ) → openingAnswer m s ≢ 0 → afterOpening m s ≡ m
 unfolding afterOpening

@@ -8,7 +8,7 @@ use lib.ListN.{length}
 use borrow.Author.Tests.{eq-eqb}
 use lib.Dec.{eqb}
 use Rattle.limits.specs.InBytes.{lineAt, groupLineAt}
-use Rattle.limits.proofs.Answers.{both-true, and-true, pass-each, zero-pass}
+use Rattle.limits.proofs.Answers.{both-true, and-true, passed, zero-pass}
 use Rattle.book.specs.Market.{derivatives}
 use Rattle.book.specs.Sound.{RosterFits, LineFits, GroupLineFits}
 use Rattle.book.specs.EventLists.{begun}
@@ -36,11 +36,11 @@ module _ (m s : List ℕ) (zero : openingAnswer m s ≡ 0) where
   unfolding openingAnswer openingQuestions lengthsFit rosterSound
   fits =
       let r = rosterFrom s in
-      let yes-each = pass-each (openingQuestions m s) (zero-pass (openingQuestions m s) (omega arith) zero) in
-      let sizes = both-true (sizesFit r) (eqb (length s) (rosterLength r)) (yes-each .1 .0) .0 in
+      let yes = passed (openingQuestions m s) (zero-pass (openingQuestions m s) (omega arith) zero) in
+      let sizes = both-true (sizesFit r) (eqb (length s) (rosterLength r)) (yes 2) .0 in
       rw (roster-opened m s ok) at (roster-out (opened m s)
       (rw (roster-opened m s ok) (and-true (sizesFit r && namesFit r) (weightsFit r)
-      (and-true (sizesFit r) (namesFit r) sizes (yes-each .1 .1 .0)) (yes-each .1 .1 .1 .0))))
+      (and-true (sizesFit r) (namesFit r) sizes (yes 3)) (yes 4))))
 
   -- the figures of every line are 0
   line-blank : (k : ℕ) → 77 ≤ k → k + 1 < 8192 → LineFits 1000000000 (lineAt (opened m s) k)

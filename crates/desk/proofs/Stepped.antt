@@ -8,13 +8,13 @@ use native.Mathlib.Omega.{arith}
 use borrow.Author.Tests.{eq-eqb, ne-eqb}
 use Rattle.ledger.specs.declared.order.Side.{Side}
 use Rattle.book.specs.declared.Event.{Event}
-use Rattle.book.specs.declared.Answer.{Answer}
-use Rattle.book.specs.declared.Answer.the-variants.{Accepted}
-use Rattle.book.specs.Answers.{numberOf}
+use Rattle.limits.specs.declared.answer.Answer.{Answer}
+use Rattle.limits.specs.declared.answer.Answer.the-variants.{Accepted}
+use Rattle.limits.specs.Answers.{numberOf}
 use Rattle.book.specs.Decoding.{decode}
 use Rattle.book.specs.Market.{derivatives}
 use Rattle.book.proofs.Accepted.{unsound-answer}
-use Rattle.book.proofs.Refused.{Refusal, not-zero}
+use Rattle.limits.proofs.Refused.{Refusal, not-zero}
 use Rattle.layout.specs.View.{rosterOf, bookOf, tradingOf}
 use Rattle.layout.specs.Judged.{judged}
 use Rattle.soundness.specs.Soundness.{soundDesk}

@@ -11,7 +11,7 @@ use Rattle.words.specs.Bytes.{Bytes}
 use Rattle.ledger.specs.declared.order.Side.the-variants.{Buy, Sell}
 use Rattle.ledger.specs.Derivatives.{one}
 use Rattle.ledger.specs.Positions.{Way, long, short, openOn, groupPart, sumGroup, ofInstrument}
-use Rattle.limits.specs.Questions.{Question, allPass}
+use Rattle.limits.specs.Questions.{Question, numbersOf, allPass}
 use Rattle.book.specs.Decoding.{between}
 use Rattle.book.specs.Market.{derivatives}
 use Rattle.book.specs.Table.{answer}
@@ -34,12 +34,10 @@ OneOf n (k ∷ ks) = (n ≡ k) ⊎ OneOf n ks
 -- refusal leaves every byte of the desk's memory unchanged." The answers are total functions of any lists; that the code always
 -- answers with them is the checker's claim of termination.
 pub record Demand1 : Type 0 where
-  pub roster : (m s : List ℕ) → OneOf (openingAnswer m s) (0 ∷ 1 ∷ 2 ∷ 3 ∷ 4 ∷ [])
+  -- the numbers are those of the questions that are asked
+  pub roster : (m s : List ℕ) → OneOf (openingAnswer m s) (0 ∷ numbersOf (openingQuestions m s))
   pub roster-refused : (m s : List ℕ) → openingAnswer m s ≢ 0 → afterOpening m s ≡ m
-  pub event :
-      (m e : List ℕ)
-      → OneOf (answerTo m e)
-      (0 ∷ 5 ∷ 6 ∷ 7 ∷ 8 ∷ 9 ∷ 10 ∷ 11 ∷ 12 ∷ 13 ∷ 14 ∷ 15 ∷ 16 ∷ 17 ∷ 18 ∷ 19 ∷ 20 ∷ 21 ∷ 22 ∷ 23 ∷ 24 ∷ [])
+  pub event : (m e : List ℕ) → OneOf (answerTo m e) (0 ∷ numbersOf (eventQuestions m e))
   pub event-refused : (m e : List ℕ) → answerTo m e ≢ 0 → afterEvent m e ≡ m
   -- "later bytes are never touched"
   pub later-opening : (m s : List ℕ) (k : ℕ) → 65536 ≤ k → getD (afterOpening m s) k 0 ≡ getD m k 0

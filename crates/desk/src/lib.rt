@@ -1,6 +1,5 @@
 // The desk in its lent memory: the exported functions, and the step of an event on a sound desk. Every answer is 0 or the number of
 // the question that is answered no.
-pub mod numbers;
 pub mod run;
 pub mod step;
 
@@ -9,9 +8,8 @@ ghost use Rattle.opening.specs.Questions.{openingAnswer};
 ghost use Rattle.opening.specs.Opening.{afterOpening};
 ghost use Rattle.reading.specs.Reading.{instrumentAnswer, groupAnswer, instrumentReport, groupReport, reported};
 ghost use Rattle.desk.specs.Step.{answerTo, afterEvent};
-use crate::numbers::number_of;
-use crate::numbers::opening_number;
 use crate::run::answer_next;
+use limits::answer::number_of;
 use opening::open_desk;
 use reading::read_group;
 use reading::read_instrument;
@@ -23,7 +21,7 @@ pub extern "C" fn desk_open(m: &mut [u8], roster: &[u8]) -> u8
     ensures answer { λ r. ⌜ r ≡ openingAnswer (now (m .entry)) (now (roster .entry)) ⌝ }
     ensures memory { λ r. ⌜ now (m .exit) ≡ afterOpening (now (m .entry)) (now (roster .entry)) ⌝ }
 {
-    opening_number(open_desk(m, roster))
+    number_of(open_desk(m, roster))
 }
 
 // Answers an event, and works it where it is accepted.

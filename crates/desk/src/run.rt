@@ -9,9 +9,9 @@ ghost use Rattle.soundness.specs.Cells.{Sums};
 ghost use Rattle.desk.specs.Step.{answerTo, afterEvent};
 ghost use Rattle.desk.specs.Days.{memoryOver};
 ghost use Rattle.desk.specs.Run.{eventsFor, answered};
-use crate::numbers::number_of;
 use crate::step::step;
 use decoding::decode;
+use limits::answer::number_of;
 use soundness::is_sound_with_sums;
 
 // The event at byte `at`: 48 bytes, or what is left.

@@ -1,15 +1,15 @@
 // One event on a sound desk: judged, and worked where it is accepted.
 ghost use mathlib.Core.Path.{_≡_};
 ghost use Rattle.ledger.specs.declared.order.Side.the-variants.{Buy, Sell};
-ghost use Rattle.book.specs.Answers.{numberOf};
+ghost use Rattle.limits.specs.Answers.{numberOf};
 ghost use Rattle.layout.specs.View.{openOrders};
 ghost use Rattle.layout.specs.Judged.{judged};
 ghost use Rattle.soundness.specs.Cells.{Sums};
 ghost use Rattle.soundness.specs.SoundMemory.{SoundMemory};
 ghost use Rattle.desk.specs.Step.{stepped, movedIn};
-use book::Answer;
 use book::Event;
 use judging::judge;
+use limits::answer::Answer;
 use sums::keep;
 use working::Moved;
 use working::nothing;

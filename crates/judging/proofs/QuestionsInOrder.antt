@@ -7,11 +7,11 @@ use native.Mathlib.Omega.{arith}
 use Rattle.ledger.specs.declared.order.Order.{Order}
 use Rattle.limits.specs.Questions.{Question, firstNo, allPass}
 use Rattle.limits.specs.Asked.{limitsSet}
-use Rattle.limits.proofs.Answers.{pass-each, zero-pass, append-passed, append-refused}
-use Rattle.book.specs.declared.Answer.{Answer}
-use Rattle.book.specs.declared.Answer.the-variants.{Accepted}
-use Rattle.book.specs.Answers.{numberOf}
-use Rattle.book.proofs.Refused.{Refusal, not-zero}
+use Rattle.limits.proofs.Answers.{passed, zero-pass, append-passed, append-refused}
+use Rattle.limits.specs.declared.answer.Answer.{Answer}
+use Rattle.limits.specs.declared.answer.Answer.the-variants.{Accepted}
+use Rattle.limits.specs.Answers.{numberOf}
+use Rattle.limits.proofs.Refused.{Refusal, not-zero}
 use Rattle.layout.specs.View.{rosterOf, linesOf}
 use Rattle.order_checks.specs.Questions.{admission}
 
@@ -33,4 +33,4 @@ module _ (m : List ℕ) (o : Order) (a : Answer) (e : numberOf a ≡ firstNo (ad
 
     pub limits-set : limitsSet (rosterOf m) (linesOf m (o .account)) o ≡ true
     unfolding admission
-    limits-set = pass-each (admission m o) pass .1 .1 .1 .0
+    limits-set = passed (admission m o) pass 17

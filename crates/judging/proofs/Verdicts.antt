@@ -3,9 +3,9 @@ use Prim.Native.Nat.{ℕ, _≤_}
 use mathlib.Core.Path.{_≡_, sym, ap, subst, _∙_}
 use mathlib.Core.List.{List}
 use native.Mathlib.Omega.{arith}
-use Rattle.book.specs.declared.Answer.{Answer}
+use Rattle.limits.specs.declared.answer.Answer.{Answer}
 use Rattle.book.specs.declared.Event.{Event}
-use Rattle.book.specs.Answers.{numberOf}
+use Rattle.limits.specs.Answers.{numberOf}
 use Rattle.layout.specs.View.{openOrders}
 use Rattle.layout.specs.Judged.{judged, NamedAt}
 use Rattle.judging.specs.declared.Verdict.{Verdict}

@@ -6,7 +6,7 @@ pub mod ranges;
 pub mod settings;
 
 ghost use mathlib.Core.Path.{_≡_};
-ghost use Rattle.book.specs.Answers.{numberOf};
+ghost use Rattle.limits.specs.Answers.{numberOf};
 ghost use Rattle.layout.specs.View.{openOrders};
 ghost use Rattle.layout.specs.Judged.{judged, NamedAt};
 ghost use Rattle.soundness.specs.Cells.{Sums};
@@ -18,8 +18,8 @@ use crate::orders::judge_fill;
 use crate::settings::judge_balance;
 use crate::settings::judge_block;
 use crate::settings::judge_limit;
-use book::Answer;
 use book::Event;
+use limits::answer::Answer;
 
 // An answer and, where an accepted event names an open order, that order's place; for an accepted NEW the place where its order
 // joins.

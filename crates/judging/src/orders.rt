@@ -4,18 +4,18 @@ ghost use mathlib.Core.Bool.{cond};
 ghost use lib.Dec.{leb};
 ghost use Rattle.ledger.specs.Orders.{remaining};
 ghost use Rattle.book.specs.declared.Event.the-variants.{Cancel, Fill};
-ghost use Rattle.book.specs.Answers.{numberOf};
+ghost use Rattle.limits.specs.Answers.{numberOf};
 ghost use Rattle.layout.specs.View.{openOrders};
 ghost use Rattle.layout.specs.Judged.{judged, NamedAt};
 ghost use Rattle.soundness.specs.SoundMemory.{SoundMemory};
 use crate::Verdict;
 use crate::plain;
 use crate::ranges::is_quantity;
-use book::Answer;
 use layout::orders::load_order;
 use layout::search::find_order;
 use ledger::find::Found;
 use ledger::order::Order;
+use limits::answer::Answer;
 
 // CANCEL: question 11.
 pub fn judge_cancel(m: &[u8], id: u64) -> Verdict

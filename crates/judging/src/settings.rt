@@ -2,7 +2,7 @@
 ghost use mathlib.Core.Path.{_≡_};
 ghost use Rattle.ledger.specs.Roster.{Numbered};
 ghost use Rattle.book.specs.declared.Event.the-variants.{Limit, Balance, Block};
-ghost use Rattle.book.specs.Answers.{numberOf};
+ghost use Rattle.limits.specs.Answers.{numberOf};
 ghost use Rattle.layout.specs.View.{rosterOf, tradingOf};
 ghost use Rattle.layout.specs.Judged.{judged};
 ghost use Rattle.soundness.specs.SoundMemory.{SoundMemory};
@@ -13,10 +13,10 @@ use crate::known::instrument_known;
 use crate::known::line_known;
 use crate::ranges::in_range;
 use crate::ranges::limit_fits;
-use book::Answer;
 use book::Blocked;
 use book::LimitLine;
 use layout::table::MARKS;
+use limits::answer::Answer;
 use words::word;
 
 // LIMIT: questions 7 to 9.

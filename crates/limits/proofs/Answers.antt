@@ -5,6 +5,7 @@ use mathlib.Core.Logic.{_≢_}
 use mathlib.Core.Bool.{Bool, true, false, not, _&&_, _||_, cond, true≢false, false≢true}
 use mathlib.Core.List.{List, [], _∷_, _++_}
 use native.Mathlib.Omega.{arith}
+use lib.Dec.{eqb}
 use Rattle.limits.specs.Questions.{Question, firstNo, allPass}
 
 -- ---- tests joined
@@ -40,6 +41,22 @@ pass-each [] e = tt
 pass-each (q ∷ qs) e =
     let h = both-true (q .passes) (allPass qs) e in
     (h .0, pass-each qs (h .1))
+
+-- a passed question is found by its number: the answer to question n, yes where no question has that number
+abbrev pub passesAt : ℕ → List Question → Bool
+passesAt n [] = true
+passesAt n (q ∷ qs) = cond (eqb (q .number) n) (q .passes) (passesAt n qs)
+
+pub passed : (qs : List Question) → allPass qs ≡ true → (n : ℕ) → passesAt n qs ≡ true
+unfolding allPass
+passed [] e n = refl
+passed (q ∷ qs) e n =
+    let h = both-true (q .passes) (allPass qs) e in
+    by (eqb (q .number) n) (h .0) (passed qs (h .1) n)
+  where
+    by : (t : Bool) → q .passes ≡ true → passesAt n qs ≡ true → cond t (q .passes) (passesAt n qs) ≡ true
+    by true here later = here
+    by false here later = later
 
 pub pass-zero : (qs : List Question) → allPass qs ≡ true → firstNo qs ≡ 0
 unfolding firstNo allPass

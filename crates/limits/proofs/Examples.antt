@@ -1,7 +1,7 @@
 -- Examples of lines and limits, computed.
 use Prim.Native.Nat.{ℕ}
 use mathlib.Core.Path.{_≡_, refl}
-use mathlib.Core.Bool.{true, false, cond}
+use mathlib.Core.Bool.{Bool, true, false, cond}
 use mathlib.Core.List.{[], _∷_}
 use mathlib.Core.Option.{Option, none, some}
 use lib.Dec.{eqb}
@@ -14,8 +14,9 @@ use Rattle.ledger.specs.Orders.{remaining}
 use Rattle.ledger.specs.Roster.{Roster, groupOfInstrument}
 use Rattle.ledger.specs.Positions.{instrument, group, long, standsIn, openOn, ofInstrument, groupPart, sumGroup, potential}
 use Rattle.limits.specs.Lines.{Line, Lines, lineInForce, limit}
-use Rattle.limits.specs.Questions.{firstNo}
+use Rattle.limits.specs.Questions.{firstNo, allPass}
 use Rattle.limits.specs.Asked.{limitsSet, sizeFits, movesInstrument, movesGroup, within, positionQuestions}
+use Rattle.limits.proofs.Answers.{passed}
 
 -- one contract and group; instruments 1, 2 and 3 of weight 10000, −5000 and 0
 abbrev roster : Roster
@@ -44,6 +45,10 @@ order s i n = record { id = 1; account = 1; instrument = i; side = s; total = n;
 -- the answer of questions 21 to 24 to an order that is the only one, at a balance of S
 abbrev judged : Lines → ℤ → Order → ℕ
 judged ls S o = firstNo (positionQuestions (λ o. 1) roster ls (o ∷ []) (λ i. S) o)
+
+-- ---- a passed question is found by its number, wherever it stands
+by-its-number : (t u : Bool) → allPass (record { number = 17; passes = t } ∷ record { number = 12; passes = u } ∷ []) ≡ true → u ≡ true
+by-its-number t u h = passed (record { number = 17; passes = t } ∷ record { number = 12; passes = u } ∷ []) h 12
 
 -- ---- the line in force
 -- the own line is taken whole: a figure of 0 in it is not filled from the default

@@ -7,6 +7,7 @@ mod Room
 mod Signs
 pub mod Examples
 pub mod Answers
+pub mod Refused
 pub mod LineLaws
 pub mod Asking
 pub mod Refusals

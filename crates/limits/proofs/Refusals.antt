@@ -18,7 +18,7 @@ use Rattle.ledger.proofs.Reached.{past-iff}
 use Rattle.limits.specs.Lines.{Lines, limit}
 use Rattle.limits.specs.Questions.{firstNo}
 use Rattle.limits.specs.Asked.{movesInstrument, movesGroup, within, positionQuestions}
-use Rattle.limits.proofs.Answers.{zero-pass, pass-each, asked-true, asked-false}
+use Rattle.limits.proofs.Answers.{passed, zero-pass, asked-true, asked-false}
 use Rattle.limits.proofs.Asking.{moves-instrument, moves-group}
 
 -- one of the four numbers, exactly where one of the four tests fails
@@ -110,8 +110,8 @@ module _ (unit : Order → ℕ) (r : Roster) (ls : Lines) (orders : List Order) 
   unfolding positionQuestions
   accepted-within e =
       let qs = positionQuestions unit r ls orders S o in
-      let h = pass-each qs (zero-pass qs (omega arith) e) in
-      all-within (both-ways instrumentPasses (h .0) (h .1 .0)) (both-ways groupPasses (h .1 .1 .0) (h .1 .1 .1 .0))
+      let yes = passed qs (zero-pass qs (omega arith) e) in
+      all-within (both-ways instrumentPasses (yes 21) (yes 22)) (both-ways groupPasses (yes 23) (yes 24))
 
   pub refused-iff : PositionNumber (firstNo (positionQuestions unit r ls orders S o)) ↔ SomePasses
   refused-iff = (there, back)

@@ -1,4 +1,4 @@
--- The numbers of the answers, and the tables of the questions that they answer.
+-- Questions 17, 19 and 20 as tables, and the number of a side's question.
 use Prim.Native.Nat.{ℕ}
 use mathlib.Core.List.{List, [], _∷_}
 use Rattle.ledger.specs.declared.order.Order.{Order}
@@ -6,31 +6,9 @@ use Rattle.ledger.specs.declared.order.Side.{Side}
 use Rattle.ledger.specs.declared.order.Side.the-variants.{Buy, Sell}
 use Rattle.ledger.specs.Roster.{Roster}
 use Rattle.ledger.specs.Positions.{Way, long, short}
-use Rattle.limits.specs.declared.questions.Existence.{Existence}
-use Rattle.limits.specs.declared.questions.Existence.the-variants.{Configured, NotConfigured}
-use Rattle.limits.specs.declared.questions.SizeAnswer.{SizeAnswer}
-use Rattle.limits.specs.declared.questions.SizeAnswer.the-variants.{Fits, BuyTooLarge, SellTooLarge}
-use Rattle.limits.specs.declared.within.PositionAnswer.{PositionAnswer}
-use Rattle.limits.specs.declared.within.PositionAnswer.the-variants.{Within, LongInstrument, ShortInstrument, LongGroup, ShortGroup}
 use Rattle.limits.specs.Lines.{Lines}
 use Rattle.limits.specs.Questions.{Question}
 use Rattle.limits.specs.Asked.{limitsSet, sizeFits}
-
-abbrev pub existenceNumber : Existence → ℕ
-existenceNumber Configured = 0
-existenceNumber NotConfigured = 17
-
-abbrev pub sizeNumber : SizeAnswer → ℕ
-sizeNumber Fits = 0
-sizeNumber BuyTooLarge = 19
-sizeNumber SellTooLarge = 20
-
-abbrev pub positionNumber : PositionAnswer → ℕ
-positionNumber Within = 0
-positionNumber LongInstrument = 21
-positionNumber ShortInstrument = 22
-positionNumber LongGroup = 23
-positionNumber ShortGroup = 24
 
 -- the question of an order's size, on a side
 abbrev pub orderNumber : Side → ℕ

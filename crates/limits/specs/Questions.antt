@@ -1,11 +1,14 @@
 -- Questions in order: a "no" gives the number, and the first "no" is the answer.
 use Prim.Native.Nat.{ℕ}
 use mathlib.Core.Bool.{Bool, true, _&&_, cond}
-use mathlib.Core.List.{List, [], _∷_}
+use mathlib.Core.List.{List, [], _∷_, map}
 
 pub record Question : Type 0 where
   pub number : ℕ
   pub passes : Bool
+
+abbrev pub numbersOf : List Question → List ℕ
+numbersOf qs = map (λ x. x .number) qs
 
 -- the number of the first question that is answered no, else 0
 unfoldable pub firstNo : List Question → ℕ

@@ -1,4 +1,5 @@
 // Limit lines and the questions about them, over the ledger's positions.
+pub mod answer;
 pub mod lines;
 pub mod questions;
 pub mod within;

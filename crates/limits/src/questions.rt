@@ -8,62 +8,51 @@ ghost use Rattle.ledger.specs.Roster.{Roster};
 ghost use Rattle.ledger.specs.Derivatives.{one};
 ghost use Rattle.limits.specs.Lines.{Lines};
 ghost use Rattle.limits.specs.Questions.{firstNo};
-ghost use Rattle.limits.specs.Numbers.{existenceNumber, existenceQuestions, sizeNumber, sizeQuestions};
+ghost use Rattle.limits.specs.Answers.{numberOf};
+ghost use Rattle.limits.specs.Numbers.{existenceQuestions, sizeQuestions};
 ghost use Rattle.limits.specs.Bounds.{SetWords, InForce};
+use crate::answer::Answer;
 use crate::lines::largest_order;
 use ledger::order::Side;
 use ledger::units::Contracts;
 
-// Question 17.
-pub enum Existence {
-    Configured,
-    NotConfigured,
-}
-
-// Questions 19 and 20.
-pub enum SizeAnswer {
-    Fits,
-    BuyTooLarge,
-    SellTooLarge,
-}
-
 // 17: are a line in force and the group line set? By the set words of the own line, the default line and the group line.
-pub fn limits_exist(own: u64, default: u64, group: u64) -> Existence
+pub fn limits_exist(own: u64, default: u64, group: u64) -> Answer
     ensures { λ a. ⌜
         ((r : Roster) (ls : Lines) (o : Order) →
         SetWords r ls o own default group →
-        existenceNumber a ≡ firstNo (existenceQuestions r ls o))
+        numberOf a ≡ firstNo (existenceQuestions r ls o))
         ⌝ }
 {
     if group == 0 {
-        return Existence::NotConfigured;
+        return Answer::NoLimitsConfigured;
     }
     if own != 0 {
-        return Existence::Configured;
+        return Answer::Accepted;
     }
     if default != 0 {
-        Existence::Configured
+        Answer::Accepted
     } else {
-        Existence::NotConfigured
+        Answer::NoLimitsConfigured
     }
 }
 
 // 19 and 20: is the total at most TCI, or TVI? `line` is the line in force.
-pub fn order_size(line: &[u8], side: Side, total: Contracts) -> SizeAnswer
+pub fn order_size(line: &[u8], side: Side, total: Contracts) -> Answer
     requires { ⌜ 16 ≤ length (now line) ⌝ }
     ensures { λ a. ⌜
         ((r : Roster) (ls : Lines) (o : Order) →
         InForce r ls o (now (line .entry)) →
         o .side ≡ side →
         pos (o .total) ≡ total .0 →
-        sizeNumber a ≡ firstNo (sizeQuestions one r ls o))
+        numberOf a ≡ firstNo (sizeQuestions one r ls o))
         ⌝ }
 {
     if total.at_most(largest_order(line, side)) {
-        return SizeAnswer::Fits;
+        return Answer::Accepted;
     }
     match side {
-        Side::Buy => SizeAnswer::BuyTooLarge,
-        Side::Sell => SizeAnswer::SellTooLarge,
+        Side::Buy => Answer::BuyTooLarge,
+        Side::Sell => Answer::SellTooLarge,
     }
 }

@@ -15,8 +15,10 @@ ghost use Rattle.limits.specs.Lines.{Lines};
 ghost use Rattle.limits.specs.Questions.{firstNo};
 ghost use Rattle.limits.specs.Asked.{positionQuestions};
 ghost use Rattle.limits.specs.Raised.{Raised};
-ghost use Rattle.limits.specs.Numbers.{positionNumber, instrumentNumber, groupNumber};
+ghost use Rattle.limits.specs.Answers.{numberOf};
+ghost use Rattle.limits.specs.Numbers.{instrumentNumber, groupNumber};
 ghost use Rattle.limits.specs.Bounds.{EventBounds, InForce, OfGroup};
+use crate::answer::Answer;
 use crate::lines::largest_of_group;
 use crate::lines::largest_position;
 use ledger::order::Order;
@@ -30,30 +32,23 @@ use positions::weigh;
 use words::signed_word;
 use words::word;
 
-// Questions 21 to 24.
-pub enum PositionAnswer {
-    Within,
-    LongInstrument,
-    ShortInstrument,
-    LongGroup,
-    ShortGroup,
-}
-
-fn instrument_refusal(side: Side) -> PositionAnswer
-    ensures { λ r. ⌜ positionNumber r ≡ instrumentNumber (wayOf side) ⌝ }
+// 21 or 22.
+fn instrument_refusal(side: Side) -> Answer
+    ensures { λ r. ⌜ numberOf r ≡ instrumentNumber (wayOf side) ⌝ }
 {
     match side {
-        Side::Buy => PositionAnswer::LongInstrument,
-        Side::Sell => PositionAnswer::ShortInstrument,
+        Side::Buy => Answer::InstrumentTooLong,
+        Side::Sell => Answer::InstrumentTooShort,
     }
 }
 
-fn group_refusal(side: Side) -> PositionAnswer
-    ensures { λ r. ⌜ positionNumber r ≡ groupNumber (wayOf side) ⌝ }
+// 23 or 24.
+fn group_refusal(side: Side) -> Answer
+    ensures { λ r. ⌜ numberOf r ≡ groupNumber (wayOf side) ⌝ }
 {
     match side {
-        Side::Buy => PositionAnswer::LongGroup,
-        Side::Sell => PositionAnswer::ShortGroup,
+        Side::Buy => Answer::GroupTooLong,
+        Side::Sell => Answer::GroupTooShort,
     }
 }
 
@@ -135,7 +130,7 @@ pub fn positions_within(
     group: &[u8],
     o: Order,
     added: Contracts,
-) -> PositionAnswer
+) -> Answer
     requires { ⌜ EventBounds (now cells) (now balances) (now roster) o (added .0) × (16 ≤ length (now line)) × (8 ≤ length (now group)) ⌝ }
     ensures { λ a. ⌜
         (let r = rosterIn (now (roster .entry)) in
@@ -145,7 +140,7 @@ pub fn positions_within(
         InForce r ls o (now (line .entry)) →
         OfGroup r ls o (now (group .entry)) →
         Raised n o before after →
-        positionNumber a ≡ firstNo (positionQuestions one r ls after (balancesIn (now (balances .entry))) o))
+        numberOf a ≡ firstNo (positionQuestions one r ls after (balancesIn (now (balances .entry))) o))
         ⌝ }
 {
     let side = o.side;
@@ -155,12 +150,12 @@ pub fn positions_within(
     }
     let weight = signed_word(roster, 43 + o.instrument as usize);
     if weight == 0 {
-        return PositionAnswer::Within;
+        return Answer::Accepted;
     }
     let to = group_side(side, weight);
     let most_of_group = largest_of_group(group, to).times(10000);
     if group_with(cells, balances, roster, o, added, weight, to).at_most(most_of_group) {
-        PositionAnswer::Within
+        Answer::Accepted
     } else {
         group_refusal(to)
     }

@@ -15,7 +15,7 @@ use Rattle.words.specs.Words.{wordAt, putWord, putSigned}
 use Rattle.words.proofs.Memory.{length-put, bytes-put, byte-put-other, word-put-same, word-put-other}
 use Rattle.words.proofs.Runs.{bytes-puts}
 use Rattle.ledger.specs.Roster.{Numbered}
-use Rattle.limits.proofs.Answers.{both-true, zero-pass, pass-each}
+use Rattle.limits.proofs.Answers.{both-true, zero-pass, passed}
 use Rattle.book.specs.Decoding.{between}
 use Rattle.book.specs.EventLists.{begun}
 use Rattle.book.proofs.Tables.{between-numbered}
@@ -42,13 +42,12 @@ pub record Accepted (m s : List ℕ) : Type 0 where
 pub accepted-out : (m s : List ℕ) → openingAnswer m s ≡ 0 → Accepted m s
 unfolding openingAnswer openingQuestions longEnough bytesWithin weightsWithin
 accepted-out m s e =
-    let h = pass-each (openingQuestions m s) (zero-pass (openingQuestions m s)
-    (omega arith, (omega arith, (omega arith, (omega arith, tt)))) e) in
+    let yes = passed (openingQuestions m s) (zero-pass (openingQuestions m s) (omega arith) e) in
     let names = both-true (every (u16At s 4) (λ k. between 1 (u16At s 2) (u8At s (7 + k))))
-    (every (u16At s 6) (λ k. between 1 (u16At s 4) (u8At s (7 + u16At s 4 + k)))) (sym (names-by s) ∙ h .1 .1 .0) in
+    (every (u16At s 6) (λ k. between 1 (u16At s 4) (u8At s (7 + u16At s 4 + k)))) (sym (names-by s) ∙ yes 3) in
     record {
-      long = leb-true 65536 (length m) (h .0);
-      sizes = lengths-out s (h .1 .0);
+      long = leb-true 65536 (length m) (yes 1);
+      sizes = lengths-out s (yes 2);
       groups =
           λ k low high. between-numbered (u16At s 2) (u8At s (7 + k))
           (every-out (λ j. between 1 (u16At s 2) (u8At s (7 + j))) (u16At s 4) (names .0) k (low, high));
@@ -58,7 +57,7 @@ accepted-out m s e =
       weights =
           λ k low high. leb-true (natAbs (i32At s (4 + u16At s 4 + u16At s 6 + 4 * k))) 1000000
           (every-out (λ j. leb (natAbs (i32At s (4 + u16At s 4 + u16At s 6 + 4 * j))) 1000000) (u16At s 6)
-          (sym (weights-by s) ∙ h .1 .1 .1 .0) k (low, high));
+          (sym (weights-by s) ∙ yes 4) k (low, high));
     }
 
 -- ---- any opening

@@ -7,17 +7,7 @@ use Rattle.words.specs.Words.{putWord, putSigned, putWords}
 use Rattle.ledger.specs.Roster.{Roster}
 use Rattle.layout.specs.Layout.{memoryWords, kindWord, rosterWord}
 use Rattle.words.specs.Fields.{u8At, i32At}
-use Rattle.opening.specs.declared.Opening.{Opening}
-use Rattle.opening.specs.declared.Opening.the-variants.{Opened, MemoryTooShort, WrongSizes, UnknownName, WeightOutOfRange}
 use Rattle.opening.specs.Questions.{rosterFrom, openingAnswer}
-
--- the number of an answer
-unfoldable pub openingNumber : Opening → ℕ
-openingNumber Opened = 0
-openingNumber MemoryTooShort = 1
-openingNumber WrongSizes = 2
-openingNumber UnknownName = 3
-openingNumber WeightOutOfRange = 4
 
 -- words 0 to n − 1 made 0
 unfoldable pub cleared : List ℕ → ℕ → List ℕ

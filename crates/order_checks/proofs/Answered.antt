@@ -1,6 +1,7 @@
 -- Questions 19 to 24 at a sound desk, as the functions below answer them.
-use Prim.Native.Nat.{ℕ, _≤_}
+use Prim.Native.Nat.{ℕ}
 use mathlib.Core.Path.{_≡_, _∙_, sym, ap}
+use mathlib.Core.Logic.{_≢_}
 use mathlib.Core.List.{List}
 use native.Mathlib.Omega.{arith}
 use lib.IntN.{ℤ, pos, natAbs}
@@ -46,12 +47,11 @@ module _ (m : List ℕ) (after : List Order) (o : Order) where
       (positionQuestions one (rosterOf m) (linesOf m (o .account)) after (balancesOf m (o .account)) o)
       (zero-pass (sizeQuestions one (rosterOf m) (linesOf m (o .account)) o) (omega arith) e)
 
-  pub size-refuses : (n : ℕ) → 1 ≤ n → sizes ≡ n → firstNo (withinLimits m after o) ≡ n
+  pub size-refuses : sizes ≢ 0 → firstNo (withinLimits m after o) ≡ sizes
   unfolding withinLimits derivatives
-  size-refuses n some e =
+  size-refuses =
       append-refused (sizeQuestions one (rosterOf m) (linesOf m (o .account)) o)
-      (positionQuestions one (rosterOf m) (linesOf m (o .account)) after (balancesOf m (o .account)) o) (λ z. omega arith)
-      ∙ e
+      (positionQuestions one (rosterOf m) (linesOf m (o .account)) after (balancesOf m (o .account)) o)
 
 -- ---- 21 to 24
 module _ (m : List ℕ) (cells : List ℕ) (o : Order) (z : ℤ) (n : ℕ) (s : Sizable m o n) (more : z ≡ pos n)

@@ -11,14 +11,13 @@ ghost use Rattle.ledger.specs.Derivatives.{one};
 ghost use Rattle.limits.specs.Raised.{Raised};
 ghost use Rattle.limits.specs.Questions.{firstNo};
 ghost use Rattle.limits.specs.Asked.{positionQuestions};
-ghost use Rattle.limits.specs.Numbers.{positionNumber, existenceQuestions};
-ghost use Rattle.book.specs.Answers.{numberOf};
+ghost use Rattle.limits.specs.Numbers.{existenceQuestions};
+ghost use Rattle.limits.specs.Answers.{numberOf};
 ghost use Rattle.layout.specs.View.{rosterOf, linesOf, balancesOf, openOrders};
 ghost use Rattle.soundness.specs.Cells.{Sums};
 ghost use Rattle.soundness.specs.SoundMemory.{SoundMemory};
 ghost use Rattle.order_checks.specs.Questions.{admission, withinLimits, OnRoster, Sizable};
 ghost use Rattle.order_checks.specs.OrderFields.{ContractOf, GroupOf, lineBytes, cellsOf};
-use book::Answer;
 use layout::table::ACCOUNT_BLOCKS;
 use layout::table::BALANCES;
 use layout::table::CONTRACTS_OF;
@@ -34,12 +33,10 @@ use layout::table::OWN_SET;
 use layout::table::ROSTER;
 use ledger::order::Order;
 use ledger::units::Contracts;
+use limits::answer::Answer;
 use limits::lines::line_in_force;
-use limits::questions::Existence;
-use limits::questions::SizeAnswer;
 use limits::questions::limits_exist;
 use limits::questions::order_size;
-use limits::within::PositionAnswer;
 use limits::within::positions_within;
 use words::part;
 use words::word;
@@ -70,10 +67,7 @@ fn configured(m: &[u8], o: Order, contract: usize, group: usize) -> Answer
     let own = word(m, OWN_SET + account * 32 + instrument);
     let default = word(m, DEFAULT_SET + account * 8 + contract);
     let of_group = word(m, GROUP_SET + account * 4 + group);
-    match limits_exist(own, default, of_group) {
-        Existence::Configured => Answer::Accepted,
-        Existence::NotConfigured => Answer::NoLimitsConfigured,
-    }
+    limits_exist(own, default, of_group)
 }
 
 // 14 to 17: are account, instrument and group unblocked, and are the limits set?
@@ -108,18 +102,6 @@ fn line_of<'a>(m: &'a [u8], o: Order, contract: usize) -> &'a [u8]
     let default = part(m, DEFAULT_LINES + account * 84, 18);
     let set = word(m, OWN_SET + account * 32 + instrument);
     line_in_force(own, default, set, instrument, contract)
-}
-
-fn position_answer(a: PositionAnswer) -> Answer
-    ensures { λ r. ⌜ numberOf r ≡ positionNumber a ⌝ }
-{
-    match a {
-        PositionAnswer::Within => Answer::Accepted,
-        PositionAnswer::LongInstrument => Answer::InstrumentTooLong,
-        PositionAnswer::ShortInstrument => Answer::InstrumentTooShort,
-        PositionAnswer::LongGroup => Answer::GroupTooLong,
-        PositionAnswer::ShortGroup => Answer::GroupTooShort,
-    }
 }
 
 // B and V of an account.
@@ -162,7 +144,7 @@ fn positions_of(
     let roster = part(m, ROSTER, 76);
     let of_groups = part(m, GROUP_LINES + account * 84, 5);
     let of_group = part(of_groups, group_of(m, contract), 1);
-    position_answer(positions_within(own, balances, roster, line, of_group, o, added))
+    positions_within(own, balances, roster, line, of_group, o, added)
 }
 
 // 19 to 24, of the order as the event enters it or raises it to, `added` contracts more of it then being open. The cells hold B and V of
@@ -179,8 +161,7 @@ pub fn within_limits(m: &[u8], cells: &[u64], o: Order, added: u64) -> Answer
     let line = line_of(m, o, contract);
     let side = o.side;
     match order_size(line, side, Contracts::of(o.total)) {
-        SizeAnswer::Fits => positions_of(m, cells, o, Contracts::of(added), line, contract),
-        SizeAnswer::BuyTooLarge => Answer::BuyTooLarge,
-        SizeAnswer::SellTooLarge => Answer::SellTooLarge,
+        Answer::Accepted => positions_of(m, cells, o, Contracts::of(added), line, contract),
+        no => no,
     }
 }

@@ -16,11 +16,11 @@ use Rattle.ledger.specs.Records.{ordersFrom}
 use Rattle.ledger.specs.Derivatives.{one}
 use Rattle.positions.specs.Answers.{InInstrument, InGroup}
 use Rattle.limits.specs.Questions.{firstNo}
-use Rattle.book.specs.declared.Answer.{Answer}
-use Rattle.book.specs.declared.Answer.the-variants.{Accepted}
-use Rattle.book.specs.Answers.{numberOf}
+use Rattle.limits.specs.declared.answer.Answer.{Answer}
+use Rattle.limits.specs.declared.answer.Answer.the-variants.{Accepted}
+use Rattle.limits.specs.Answers.{numberOf}
 use Rattle.book.specs.Decoding.{between}
-use Rattle.book.proofs.Refused.{Refusal, not-zero}
+use Rattle.limits.proofs.Refused.{Refusal, not-zero}
 use Rattle.book.specs.Market.{derivatives}
 use Rattle.book.proofs.Tables.{between-numbered}
 use Rattle.layout.specs.Layout.{rosterWord, countWord, balanceRow}

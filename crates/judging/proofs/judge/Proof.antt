@@ -3,7 +3,7 @@ use mathlib.Core.Path.{sym}
 use borrow.Author.Needs.{needs}
 use mir.Syntax.{w64}
 use mir.ValLaws.{toZ-ofZ}
-use Rattle.book.specs.Answers.{numberOf}
+use Rattle.limits.specs.Answers.{numberOf}
 use Rattle.judging.proofs.Verdicts.{says-same, says-plain}
 use Rattle.judging.proofs.ByKind.{junk-answer}
 use Rattle.judging.proofs.judge.Statement.{statement}

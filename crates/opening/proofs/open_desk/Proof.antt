@@ -3,17 +3,17 @@
 use mathlib.Core.Path.{_∙_, sym}
 use borrow.Author.Needs.{needs}
 use borrow.Author.Tests.{not-true, not-false}
-use Rattle.opening.specs.Opening.{openingNumber}
+use Rattle.limits.specs.Answers.{numberOf}
 use Rattle.opening.proofs.Answers.{too-short, wrong-sizes, unknown-name, weight-out, accepted}
 use Rattle.opening.proofs.open_desk.Statement.{statement}
 use Rattle.opening.proofs.open_desk.Tie as tie
 
 returns : tie.Need-returns
-unfolding openingNumber
+unfolding numberOf
 returns c = too-short _ _ (c .if1 .taken)
 
 returns-2 : tie.Need-returns-2
-unfolding openingNumber
+unfolding numberOf
 returns-2 c =
     wrong-sizes _ _ (c .before .before .if1 .left) (sym (c .before .lengths-fit .ensures) ∙ not-true _ (c .if2 .taken))
 
@@ -21,7 +21,7 @@ names-fit-requires : tie.Need-names-fit-requires
 names-fit-requires c κs = sym (c .before .lengths-fit .ensures) ∙ not-false _ (c .if2 .left)
 
 returns-3 : tie.Need-returns-3
-unfolding openingNumber
+unfolding numberOf
 returns-3 c =
     let two = c .before .before in
     unknown-name _ _ (two .before .before .if1 .left) (sym (two .before .lengths-fit .ensures) ∙ not-false _ (two .if2 .left))
@@ -33,7 +33,7 @@ weights-fit-requires c κs =
     sym (two .before .lengths-fit .ensures) ∙ not-false _ (two .if2 .left)
 
 returns-4 : tie.Need-returns-4
-unfolding openingNumber
+unfolding numberOf
 returns-4 c =
     let three = c .before .before in
     let two = three .before .before in
@@ -47,7 +47,7 @@ put-roster-requires c κs =
     (search needs, sym (two .before .lengths-fit .ensures) ∙ not-false _ (two .if2 .left))
 
 returns-5 : tie.Need-returns-5
-unfolding openingNumber
+unfolding numberOf
 returns-5 c =
     let put = c .before .before in
     let set = put .before .before .before .before in

@@ -2,7 +2,7 @@
 use mathlib.Core.Path.{refl, _∙_, sym}
 use borrow.Author.Tests.{eq-eqb, ne-eqb}
 use borrow.Author.Needs.{needs}
-use Rattle.book.specs.Answers.{numberOf}
+use Rattle.limits.specs.Answers.{numberOf}
 use Rattle.order_checks.proofs.Blocks.{by-blocks}
 use Rattle.order_checks.proofs.admitted.Statement.{statement}
 use Rattle.order_checks.proofs.admitted.Tie as tie

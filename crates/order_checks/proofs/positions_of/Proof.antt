@@ -36,22 +36,20 @@ positions-within-requires c κs =
 
 returns : tie.Need-returns
 returns c after raised =
-    let p4 = c .before .before in
+    let p4 = c .before in
     let p2 = p4 .before .before .before in
     let own = p2 .before .before in
     let s = own .before .before .before .before in
-    c .position-answer .ensures
-    ∙ by-words _ _ _ _ _ (s .pre .0) (s .pre .1) (s .pre .2) _
+    by-words _ _ _ _ _ (s .pre .0) (s .pre .1) (s .pre .2) _
     (rw (
       own .cells-of .ensures,
       p2 .before .part .ensures,
       p2 .part2 .ensures,
       s .pre .4,
       bytes p4,
-    ) at (c .before .positions-within .ensures)) after raised
+    ) at (c .positions-within .ensures)) after raised
 
 pub positions-of-spec : {M : Type 1} → statement M
 positions-of-spec =
     tie.close (tie.spec (λ c κs. search needs) (λ c. search needs) (λ c. search needs) (λ c κs. search needs) (λ c κs. search needs)
-    (λ c. search needs) (λ c. search needs) (λ c κs. search needs) (λ c κs. search needs) part-requires-4 positions-within-requires
-    (λ c κs. search needs) returns)
+    (λ c. search needs) (λ c. search needs) (λ c κs. search needs) (λ c κs. search needs) part-requires-4 positions-within-requires returns)

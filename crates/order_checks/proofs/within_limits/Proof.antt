@@ -5,8 +5,9 @@ use borrow.Author.Needs.{needs}
 use lib.ListN.{length}
 use Rattle.ledger.specs.Derivatives.{one}
 use Rattle.limits.specs.Questions.{firstNo}
-use Rattle.limits.specs.Numbers.{sizeNumber, sizeQuestions}
-use Rattle.book.specs.Answers.{numberOf}
+use Rattle.limits.specs.Numbers.{sizeQuestions}
+use Rattle.limits.specs.Answers.{numberOf}
+use Rattle.limits.proofs.Refused.{not-zero}
 use Rattle.layout.specs.View.{rosterOf, linesOf}
 use Rattle.order_checks.proofs.LineBytes.{line-long, line-in-force}
 use Rattle.order_checks.proofs.Answered.{size-fits, size-refuses}
@@ -21,7 +22,7 @@ order-size-requires c κs =
 
 size : (c : tie.After-order-size) →
     let a = c .before .before .before .before .before .before .args in
-    sizeNumber (c .order-size .result)
+    numberOf (c .order-size .result)
     ≡ firstNo (sizeQuestions one (rosterOf (a .m .now)) (linesOf (a .m .now) (a .o .account)) (a .o))
 size c =
     let read = c .before .before in
@@ -36,24 +37,20 @@ positions-of-requires c κs =
     rw (c .of2 .ensures) (s .pre .0, refl, s .pre .1, read .before .contract-of .ensures, read .line-of .ensures)
 
 returns : tie.Need-returns
+unfolding numberOf
 returns c after raised =
     let told = c .before .before in
     (rw (c .before .of2 .ensures) at (c .positions-of .ensures)) after raised
-    ∙ sym (size-fits _ after _ (sym (size (told .before .before)) ∙ ap sizeNumber (told .enum-told .given .1)))
+    ∙ sym (size-fits _ after _ (sym (size (told .before .before)) ∙ ap numberOf (told .enum-told .given .1)))
 
 returns-2 : tie.Need-returns-2
-unfolding numberOf
 returns-2 c after raised =
-    sym (size-refuses _ after _ 19 (omega arith) (sym (size (c .before .before)) ∙ ap sizeNumber (c .enum-told2 .given .1)))
-
-returns-3 : tie.Need-returns-3
-unfolding numberOf
-returns-3 c after raised =
-    sym (size-refuses _ after _ 20 (omega arith) (sym (size (c .before .before)) ∙ ap sizeNumber (c .enum-told3 .given .1)))
+    let sized = size (c .before) in
+    sized ∙ sym (size-refuses _ after _ (λ z. not-zero _ (c .match .keys2) (sized ∙ z)))
 
 pub within-limits-spec : {M : Type 1} → statement M
 within-limits-spec =
     tie.close (tie.spec (λ c κs. search needs) (λ c κs. search needs)
     (λ c κs. omega (arith, c .before .before .before .before .pre .0 .total)) order-size-requires (λ c. search needs)
     (λ c κs. omega (arith, c .before .before .before .before .before .before .before .before .pre .0 .small)) positions-of-requires
-    (λ c. search needs) (λ c. search needs) returns returns-2 returns-3)
+    returns returns-2)

@@ -2,7 +2,7 @@
 use mathlib.Core.Path.{_≡_}
 use mathlib.Core.Bool.{true}
 use borrow.Author.Needs.{needs}
-use Rattle.book.specs.Answers.{numberOf}
+use Rattle.limits.specs.Answers.{numberOf}
 use Rattle.book.specs.Decoding.{between}
 use Rattle.layout.specs.View.{rosterOf}
 use Rattle.soundness.specs.Soundness.{soundDesk}

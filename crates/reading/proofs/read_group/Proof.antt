@@ -1,6 +1,6 @@
 -- `answer_to` asks the questions; where it accepts, the account is on a sound desk's roster, and the report is `group_report`'s.
 use borrow.Author.Needs.{needs}
-use Rattle.book.specs.Answers.{numberOf}
+use Rattle.limits.specs.Answers.{numberOf}
 use Rattle.reading.specs.Reading.{itemAnswer, groupAnswer}
 use Rattle.reading.proofs.Reports.{allowed, is-zero, accepts, refuses}
 use Rattle.reading.proofs.read_group.Statement.{statement}

@@ -1,6 +1,6 @@
 -- `answer_to` asks the questions; where it accepts, both numbers are on a sound desk's roster, and the report is `instrument_report`'s.
 use borrow.Author.Needs.{needs}
-use Rattle.book.specs.Answers.{numberOf}
+use Rattle.limits.specs.Answers.{numberOf}
 use Rattle.reading.specs.Reading.{itemAnswer, instrumentAnswer}
 use Rattle.reading.proofs.Reports.{allowed, is-zero, accepts, refuses}
 use Rattle.reading.proofs.read_instrument.Statement.{statement}

@@ -5,8 +5,8 @@ use native.Mathlib.Omega.{arith}
 use borrow.Author.Needs.{needs}
 use mir.Syntax.{w64}
 use mir.ValLaws.{toZ-ofZ}
-use Rattle.book.specs.declared.Answer.the-variants.{UnknownAccount, UnknownItem, FigureOutOfRange}
-use Rattle.book.specs.Answers.{numberOf}
+use Rattle.limits.specs.declared.answer.Answer.the-variants.{UnknownAccount, UnknownItem, FigureOutOfRange}
+use Rattle.limits.specs.Answers.{numberOf}
 use Rattle.book.specs.Books.{newOrder}
 use Rattle.book.specs.Decoding.{between}
 use Rattle.book.specs.Table.{isQuantity}

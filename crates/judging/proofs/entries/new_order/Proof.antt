@@ -4,7 +4,7 @@ use mathlib.Core.Bool.{false}
 use borrow.Author.Needs.{needs}
 use Rattle.limits.specs.Lines.{isSet}
 use Rattle.limits.specs.Questions.{firstNo}
-use Rattle.book.specs.Answers.{numberOf}
+use Rattle.limits.specs.Answers.{numberOf}
 use Rattle.book.specs.OpenOrders.{find}
 use Rattle.layout.specs.View.{openOrders}
 use Rattle.judging.specs.QuestionsLeft.{newFrom13}

@@ -4,7 +4,7 @@ use borrow.Author.Needs.{needs}
 use borrow.Author.Tests.{lt-ltb, le-ltb}
 use lib.ListN.{length}
 use Rattle.limits.specs.Questions.{firstNo}
-use Rattle.book.specs.Answers.{numberOf}
+use Rattle.limits.specs.Answers.{numberOf}
 use Rattle.layout.specs.View.{openOrders}
 use Rattle.soundness.proofs.SoundDesk.{open-count}
 use Rattle.judging.specs.QuestionsLeft.{newFrom18}

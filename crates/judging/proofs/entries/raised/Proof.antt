@@ -4,7 +4,7 @@ use native.Mathlib.Omega.{arith}
 use borrow.Author.Needs.{needs}
 use Rattle.ledger.specs.Orders.{replacedTotal}
 use Rattle.limits.specs.Questions.{firstNo}
-use Rattle.book.specs.Answers.{numberOf}
+use Rattle.limits.specs.Answers.{numberOf}
 use Rattle.order_checks.specs.Questions.{admission}
 use Rattle.judging.specs.QuestionsLeft.{raisedFrom14}
 use Rattle.judging.proofs.QuestionsInOrder.{first-refuses, then-second, limits-set}

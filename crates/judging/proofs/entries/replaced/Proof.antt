@@ -4,7 +4,7 @@ use native.Mathlib.Omega.{arith}
 use borrow.Author.Needs.{needs}
 use borrow.Author.Tests.{lt-ltb, le-ltb}
 use Rattle.limits.specs.Questions.{firstNo}
-use Rattle.book.specs.Answers.{numberOf}
+use Rattle.limits.specs.Answers.{numberOf}
 use Rattle.judging.specs.QuestionsLeft.{replaceFrom12}
 use Rattle.judging.proofs.entries.replaced.Statement.{statement}
 use Rattle.judging.proofs.entries.replaced.Tie as tie

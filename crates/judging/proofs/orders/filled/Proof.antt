@@ -6,7 +6,7 @@ use native.Mathlib.Omega.{arith}
 use borrow.Author.Needs.{needs}
 use borrow.Author.Tests.{le-leb, lt-leb}
 use Rattle.ledger.specs.Orders.{remaining}
-use Rattle.book.specs.Answers.{numberOf}
+use Rattle.limits.specs.Answers.{numberOf}
 use Rattle.judging.proofs.orders.filled.Statement.{statement}
 use Rattle.judging.proofs.orders.filled.Tie as tie
 

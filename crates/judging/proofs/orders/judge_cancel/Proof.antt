@@ -3,8 +3,8 @@ use mathlib.Core.Path.{sym, _∙_}
 use mathlib.Core.Option.{none, some}
 use native.Mathlib.Omega.{arith}
 use borrow.Author.Needs.{needs}
-use Rattle.book.specs.declared.Answer.the-variants.{OrderNotFound}
-use Rattle.book.specs.Answers.{numberOf}
+use Rattle.limits.specs.declared.answer.Answer.the-variants.{OrderNotFound}
+use Rattle.limits.specs.Answers.{numberOf}
 use Rattle.judging.proofs.Verdicts.{refused}
 use Rattle.judging.proofs.ByKind.{cancel-answer}
 use Rattle.judging.proofs.Places.{sound-ranked, found-order, no-order}

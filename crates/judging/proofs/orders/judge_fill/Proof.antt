@@ -8,8 +8,8 @@ use mir.Syntax.{w64}
 use mir.ValLaws.{toZ-ofZ}
 use Rattle.ledger.specs.declared.find.Found.the-variants.{At}
 use Rattle.ledger.specs.Orders.{placeFrom}
-use Rattle.book.specs.declared.Answer.the-variants.{FigureOutOfRange, OrderNotFound}
-use Rattle.book.specs.Answers.{numberOf}
+use Rattle.limits.specs.declared.answer.Answer.the-variants.{FigureOutOfRange, OrderNotFound}
+use Rattle.limits.specs.Answers.{numberOf}
 use Rattle.book.specs.Table.{isQuantity}
 use Rattle.layout.specs.View.{openOrders}
 use Rattle.soundness.proofs.Asked.{answered-no, answered-yes}

@@ -4,7 +4,7 @@ use mathlib.Core.Bool.{Bool, true, false, not, cond}
 use borrow.Author.Needs.{needs}
 use lib.IntN.{pos, negsuc}
 use Rattle.book.specs.declared.Event.the-variants.{Balance}
-use Rattle.book.specs.Answers.{numberOf}
+use Rattle.limits.specs.Answers.{numberOf}
 use Rattle.book.specs.Decoding.{between}
 use Rattle.book.specs.Table.{betweenℤ}
 use Rattle.book.proofs.Tables.{between-numbered}

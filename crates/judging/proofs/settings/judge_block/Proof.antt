@@ -4,7 +4,7 @@ use mathlib.Core.Bool.{Bool, true, false, cond}
 use borrow.Author.Needs.{needs}
 use lib.IntN.{pos}
 use Rattle.book.specs.declared.Event.the-variants.{Block}
-use Rattle.book.specs.Answers.{numberOf}
+use Rattle.limits.specs.Answers.{numberOf}
 use Rattle.book.specs.Table.{blockAccountKnown, blockItemKnown, betweenℤ}
 use Rattle.layout.specs.View.{rosterOf}
 use Rattle.layout.specs.Judged.{judged}

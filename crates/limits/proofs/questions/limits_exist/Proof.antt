@@ -1,17 +1,21 @@
 -- 17 fails where the group's set word is 0, or both the own and the default one: the branches go through `existence`'s cases.
 use mathlib.Core.Path.{_∙_, sym}
+use Rattle.limits.specs.Answers.{numberOf}
 use Rattle.limits.proofs.InOrder.{word-set, word-unset, existence}
 use Rattle.limits.proofs.questions.limits_exist.Statement.{statement}
 use Rattle.limits.proofs.questions.limits_exist.Tie as tie
 
 returns : tie.Need-returns
+unfolding numberOf
 returns c r ls o sets = sym (existence r ls o _ _ _ sets ∙ simp (word-unset _ (c .if1 .taken)))
 
 returns-2 : tie.Need-returns-2
+unfolding numberOf
 returns-2 c r ls o sets =
     sym (existence r ls o _ _ _ sets ∙ simp (word-set _ (c .before .if1 .left), word-set _ (c .if2 .taken)))
 
 returns-3 : tie.Need-returns-3
+unfolding numberOf
 returns-3 c r ls o sets =
     sym (existence r ls o _ _ _ sets ∙ simp (
       word-set _ (c .before .before .if1 .left),
@@ -20,6 +24,7 @@ returns-3 c r ls o sets =
     ))
 
 returns-4 : tie.Need-returns-4
+unfolding numberOf
 returns-4 c r ls o sets =
     sym (existence r ls o _ _ _ sets ∙ simp (
       word-set _ (c .before .before .if1 .left),

@@ -22,6 +22,7 @@ use Rattle.limits.specs.Lines.{Lines}
 use Rattle.limits.specs.Questions.{firstNo}
 use Rattle.limits.specs.Asked.{positionQuestions}
 use Rattle.limits.specs.Raised.{Raised}
+use Rattle.limits.specs.Answers.{numberOf}
 use Rattle.limits.specs.Numbers.{groupNumber}
 use Rattle.limits.specs.Bounds.{InForce, OfGroup}
 use Rattle.limits.proofs.LinesRead.{group-figure-small}
@@ -69,6 +70,7 @@ weight c =
     ∙ weight-word _ _
 
 returns-2 : tie.Need-returns-2
+unfolding numberOf
 returns-2 c ls n before after more gathered in-force of-group raised =
     let at = c .before .before in
     sym (no-group _ ls before after _ _ _ _ _ in-force of-group raised _ _ (instrument-found (at .before .before) n before more gathered)
@@ -125,6 +127,7 @@ judged c ls n before after more gathered in-force of-group raised t test =
     (sym (c .at-most2 .ensures) ∙ test)
 
 returns-3 : tie.Need-returns-3
+unfolding numberOf
 returns-3 c ls n before after more gathered in-force of-group raised =
     sym (judged (c .before) ls n before after more gathered in-force of-group raised true (c .if3 .taken))
 
