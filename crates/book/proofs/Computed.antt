@@ -13,7 +13,7 @@ use Rattle.limits.specs.Lines.{lineInForce, limit}
 use Rattle.limits.specs.Questions.{firstNo, allPass}
 use Rattle.limits.specs.Asked.{limitsSet, sizeFits, movesInstrument, movesGroup, within, positionQuestions}
 use Rattle.book.specs.Market.{derivatives}
-use Rattle.book.specs.Decoding.{named, wellFormed, eventOf, decode}
+use Rattle.book.specs.Decoding.{named, fieldsFit, wellFormed, eventOf, decode}
 use Rattle.book.specs.OpenOrders.{find, insert, change, kept}
 use Rattle.book.specs.Books.{emptyBook, unsets, lineOf, groupLineOf, setLine, setBlock, newOrder, changed, changedBalances, bookAfter}
 use Rattle.book.specs.States.{mark}
@@ -34,8 +34,9 @@ unfolding
     number u8At u16At u64At i64At signedOf sumOver below remaining filledBy replacedTotal closes groupOfInstrument sideOf standsIn openOn
     ofInstrument groupPart sumGroup potential position fillMoves balanceAfter lineInForce limit firstNo allPass limitsSet sizeFits
     movesInstrument
-    movesGroup within positionQuestions derivatives one named wellFormed eventOf decode find insert change kept emptyBook unsets lineOf
-    groupLineOf setLine setBlock newOrder changed changedBalances bookAfter mark isEvent accountKnown itemKnown figuresFit notYetTrading idOpen quantityFits entered
+    movesGroup within positionQuestions derivatives one named fieldsFit wellFormed eventOf decode find insert change kept emptyBook unsets lineOf
+    groupLineOf setLine setBlock newOrder changed changedBalances bookAfter mark isEvent accountKnown itemKnown
+    figuresFit notYetTrading idOpen quantityFits entered
     idFree placeFree questionsBefore limitQuestions answer keep memoryAfter stateAfter lineSet lineOver asBytes bytesOf figureBytes
     eventBytes bitsOf instrumentIn groupIn rosterOfTables edgeTables starredEdges listingTables listingEvents longerTables
     morning

@@ -9,7 +9,10 @@ use Rattle.words.specs.Fields.{u8At, u16At, u64At, i64At}
 use Rattle.ledger.specs.Records.{sideOf}
 use Rattle.limits.specs.Asked.{isZero}
 use Rattle.book.specs.declared.Figures.{Figures}
+use Rattle.book.specs.declared.Named.{Named}
 use Rattle.book.specs.declared.Event.{Event}
+use Rattle.book.specs.declared.LimitLine.{LimitLine}
+use Rattle.book.specs.declared.Blocked.{Blocked}
 use Rattle.book.specs.declared.LimitLine.the-variants.{Own, Default, OfGroup}
 use Rattle.book.specs.declared.Blocked.the-variants.{Account, Instrument, GroupFor}
 use Rattle.book.specs.declared.OrderChange.the-variants.{Replace, Cancel, Fill}
@@ -52,15 +55,6 @@ byLevel l one two three = cond (eqb l 1) one (cond (eqb l 2) two three)
 abbrev pub between : ℕ → ℕ → ℕ → Bool
 between low high n = leb low n && leb n high
 
--- which fields a kind and level names, and how many figures
-pub record Named : Type 0 where
-  pub side : Bool
-  pub account : Bool
-  pub item : Bool
-  pub level : Bool
-  pub id : Bool
-  pub figures : ℕ
-
 -- LIMIT: account, item, level, figures
 abbrev pub limitNames : ℕ → Named
 limitNames n = record { side = false; account = true; item = true; level = true; id = false; figures = n }
@@ -93,14 +87,10 @@ named kind level =
     (orderNames 0)
     (orderNames 1)
 
--- 6: is the event 48 bytes, the kind 1 to 7, a named side and level one of the listed values, a named id non-zero, every
--- unnamed field zero?
-unfoldable pub wellFormed : List ℕ → Bool
-wellFormed e =
-    let n = named (kindOf e) (levelField e) in
-    eqb (length e) 48
-    && between 1 7 (kindOf e)
-    && cond (n .side) (between 1 2 (sideField e)) (eqb (sideField e) 0)
+-- is a named side and level one of the listed values, a named id non-zero, every unnamed field zero?
+unfoldable pub fieldsFit : Named → List ℕ → Bool
+fieldsFit n e =
+    cond (n .side) (between 1 2 (sideField e)) (eqb (sideField e) 0)
     && (n .account || eqb (accountField e) 0)
     && (n .item || eqb (itemField e) 0)
     && cond (n .level) (between 1 3 (levelField e)) (eqb (levelField e) 0)
@@ -111,26 +101,36 @@ wellFormed e =
     && (ltb 2 (n .figures) || isZero (figureField e 2))
     && (ltb 3 (n .figures) || isZero (figureField e 3))
 
+-- 6: is the event 48 bytes, the kind 1 to 7, and does each field fit what the kind and level name?
+unfoldable pub wellFormed : List ℕ → Bool
+wellFormed e = eqb (length e) 48 && between 1 7 (kindOf e) && fieldsFit (named (kindOf e) (levelField e)) e
+
 abbrev pub figuresOf : List ℕ → Figures
 figuresOf e =
     record { tci = figureField e 0; tvi = figureField e 1; lci = figureField e 2; lvi = figureField e 3 }
+
+-- what a LIMIT sets, and what a BLOCK blocks, by the level
+abbrev pub lineField : List ℕ → LimitLine
+lineField e =
+    byLevel (levelField e)
+    (Own (itemField e) (figuresOf e))
+    (Default (itemField e) (figuresOf e))
+    (OfGroup (itemField e) (figureField e 0) (figureField e 1))
+
+abbrev pub blockedField : List ℕ → Blocked
+blockedField e =
+    byLevel (levelField e)
+    (Account (accountField e))
+    (Instrument (itemField e))
+    (GroupFor (accountField e) (itemField e))
 
 -- the event that well-formed bytes name
 unfoldable pub eventOf : List ℕ → Event
 eventOf e =
     byKind (kindOf e)
-    (Limit (accountField e)
-    (byLevel (levelField e)
-    (Own (itemField e) (figuresOf e))
-    (Default (itemField e) (figuresOf e))
-    (OfGroup (itemField e) (figureField e 0) (figureField e 1))))
+    (Limit (accountField e) (lineField e))
     (Balance (accountField e) (itemField e) (figureField e 0))
-    (Block
-    (byLevel (levelField e)
-    (Account (accountField e))
-    (Instrument (itemField e))
-    (GroupFor (accountField e) (itemField e)))
-    (figureField e 0))
+    (Block (blockedField e) (figureField e 0))
     (New (sideOf (sideField e)) (accountField e) (itemField e) (idField e) (figureField e 0))
     (Change (idField e) (Replace (figureField e 0)))
     (Change (idField e) Cancel)

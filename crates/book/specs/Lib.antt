@@ -3,7 +3,7 @@ pub mod Decoding
 pub mod OpenOrders
 pub mod Books
 pub mod States
-pub mod Named
+pub mod Names
 pub mod Table
 pub mod Sound
 pub mod EventLists

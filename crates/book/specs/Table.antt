@@ -27,7 +27,7 @@ use Rattle.book.specs.Decoding.{between}
 use Rattle.book.specs.OpenOrders.{find}
 use Rattle.book.specs.Books.{Book, isMinusOne, unsets, newOrder}
 use Rattle.book.specs.States.{State, work}
-use Rattle.book.specs.Named.{Item, anInstrument, aContract, aGroup, namedAccount, namedItem, balanceAccount, newOrderOf, changeOf}
+use Rattle.book.specs.Names.{Item, anInstrument, aContract, aGroup, namedAccount, namedItem, balanceAccount, newOrderOf, changeOf}
 
 -- is it so of what is named, where something is
 abbrev pub whereSome : {A : Type 0} → (A → Bool) → Option A → Bool

@@ -50,6 +50,16 @@ pub enum Blocked {
     GroupFor { account: u64, group: u64 },
 }
 
+// The fields that a kind and level names, and how many figures.
+pub struct Named {
+    pub side: bool,
+    pub account: bool,
+    pub item: bool,
+    pub level: bool,
+    pub id: bool,
+    pub figures: u8,
+}
+
 // What changes an open order.
 pub enum OrderChange {
     Replace { total: i64 },

@@ -1,14 +1,17 @@
 // 48 bytes to an event, by value: question 6. Any other bytes are junk.
 ghost use mathlib.Core.Path.{_≡_};
+ghost use mathlib.Core.Bool.{not, _||_, cond};
 ghost use Prim.Native.Nat.{_+_, _≤_};
+ghost use lib.Dec.{eqb};
 ghost use lib.ListN.{length};
-ghost use Rattle.words.specs.Fields.{u16At};
-ghost use Rattle.book.specs.Decoding.{decode, idField, figuresOf};
-ghost use Rattle.decoding.specs.Kinds.{OfKind, noneAfterTwo, noneAfterOne, noHeader, ofOrder, idAndFigure, limitAt, blockAt};
+ghost use Rattle.words.specs.Fields.{u16At, i64At};
+ghost use Rattle.limits.specs.Asked.{isZero};
+ghost use Rattle.book.specs.Decoding.{kindOf, figuresOf, between, named, fieldsFit, wellFormed, lineField, blockedField, eventOf, decode};
 use book::Blocked;
 use book::Event;
 use book::Figures;
 use book::LimitLine;
+use book::Named;
 use ledger::records::side_of;
 use words::fields::i64_at;
 use words::fields::u8_at;
@@ -35,65 +38,91 @@ fn number_at(e: &[u8], a: usize) -> u64
     wide16(u16_at(e, a))
 }
 
-// Are figures three and four zero?
-fn none_after_two(e: &[u8]) -> bool
+// A line of the table.
+fn names(side: bool, account: bool, item: bool, level: bool, id: bool, figures: u8) -> Named
+    ensures { λ r. ⌜ r ≡ record { side = side; account = account; item = item; level = level; id = id; figures = figures } ⌝ }
+{
+    Named {
+        side,
+        account,
+        item,
+        level,
+        id,
+        figures,
+    }
+}
+
+// The table: does a kind and level name the side, the account, the item, the level and the id, and how many figures?
+fn named(kind: u8, level: u8) -> Named
+    ensures { λ r. ⌜ r ≡ named kind level ⌝ }
+{
+    match kind {
+        // LIMIT
+        1 => match level {
+            1 => names(false, true, true, true, false, 4),
+            2 => names(false, true, true, true, false, 4),
+            _ => names(false, true, true, true, false, 2),
+        },
+        // BALANCE
+        2 => names(false, true, true, false, false, 1),
+        // BLOCK
+        3 => match level {
+            1 => names(false, true, false, true, false, 1),
+            2 => names(false, false, true, true, false, 1),
+            _ => names(false, true, true, true, false, 1),
+        },
+        // NEW
+        4 => names(true, true, true, false, true, 1),
+        // REPLACE, CANCEL and FILL
+        5 => names(false, false, false, false, true, 1),
+        6 => names(false, false, false, false, true, 0),
+        _ => names(false, false, false, false, true, 1),
+    }
+}
+
+// A named side or level is one of the listed values, an unnamed one zero.
+fn listed(named: bool, most: u8, n: u8) -> bool
+    ensures { λ r. ⌜ r ≡ cond named (between 1 most n) (eqb n 0) ⌝ }
+{
+    if named {
+        return (1 <= n) & (n <= most);
+    }
+    n == 0
+}
+
+// A named id is not zero, an unnamed one is.
+fn given(named: bool, id: u64) -> bool
+    ensures { λ r. ⌜ r ≡ cond named (not (eqb id 0)) (eqb id 0) ⌝ }
+{
+    if named {
+        return id != 0;
+    }
+    id == 0
+}
+
+// An unnamed figure is zero.
+fn figure_fits(named: bool, e: &[u8], a: usize) -> bool
+    requires { ⌜ a + 8 ≤ length (now e) ⌝ }
+    ensures { λ r. ⌜ r ≡ (named || isZero (i64At (now (e .entry)) a)) ⌝ }
+{
+    named | (u64_at(e, a) == 0)
+}
+
+// Does each field fit what is named? All are tested and the answers joined, so that no test waits for the one before.
+fn fields_fit(n: Named, e: &[u8]) -> bool
     requires { ⌜ length (now e) ≡ 48 ⌝ }
-    ensures { λ r. ⌜ r ≡ noneAfterTwo (now (e .entry)) ⌝ }
+    ensures { λ r. ⌜ r ≡ fieldsFit n (now (e .entry)) ⌝ }
 {
-    if u64_at(e, 32) != 0 {
-        return false;
-    }
-    u64_at(e, 40) == 0
-}
-
-// Are figures two, three and four zero?
-fn none_after_one(e: &[u8]) -> bool
-    requires { ⌜ length (now e) ≡ 48 ⌝ }
-    ensures { λ r. ⌜ r ≡ noneAfterOne (now (e .entry)) ⌝ }
-{
-    if u64_at(e, 24) != 0 {
-        return false;
-    }
-    none_after_two(e)
-}
-
-// Are the side, account, item and level zero?
-fn no_header(e: &[u8]) -> bool
-    requires { ⌜ length (now e) ≡ 48 ⌝ }
-    ensures { λ r. ⌜ r ≡ noHeader (now (e .entry)) ⌝ }
-{
-    if u8_at(e, 1) != 0 {
-        return false;
-    }
-    if u16_at(e, 2) != 0 {
-        return false;
-    }
-    if u16_at(e, 4) != 0 {
-        return false;
-    }
-    u8_at(e, 6) == 0
-}
-
-// Is there an id, and of the figures the first at most?
-fn of_order(e: &[u8], id: u64) -> bool
-    requires { ⌜ (length (now e) ≡ 48) × (id ≡ idField (now e)) ⌝ }
-    ensures { λ r. ⌜ r ≡ ofOrder (now (e .entry)) ⌝ }
-{
-    if id == 0 {
-        return false;
-    }
-    none_after_one(e)
-}
-
-// Is there an id, and of all else figure one at most?
-fn id_and_figure(e: &[u8], id: u64) -> bool
-    requires { ⌜ (length (now e) ≡ 48) × (id ≡ idField (now e)) ⌝ }
-    ensures { λ r. ⌜ r ≡ idAndFigure (now (e .entry)) ⌝ }
-{
-    if !no_header(e) {
-        return false;
-    }
-    of_order(e, id)
+    listed(n.side, 2, u8_at(e, 1))
+        & (n.account | (u16_at(e, 2) == 0))
+        & (n.item | (u16_at(e, 4) == 0))
+        & listed(n.level, 3, u8_at(e, 6))
+        & (u8_at(e, 7) == 0)
+        & given(n.id, u64_at(e, 8))
+        & figure_fits(0 < n.figures, e, 16)
+        & figure_fits(1 < n.figures, e, 24)
+        & figure_fits(2 < n.figures, e, 32)
+        & figure_fits(3 < n.figures, e, 40)
 }
 
 fn figures(e: &[u8]) -> Figures
@@ -108,221 +137,121 @@ fn figures(e: &[u8]) -> Figures
     }
 }
 
-// LIMIT: account, item, level, and four figures, or the two of a group.
-fn limit(e: &[u8]) -> Event
-    requires { ⌜ OfKind 1 (now e) ⌝ }
-    ensures { λ r. ⌜ r ≡ decode (now (e .entry)) ⌝ }
-{
-    if u8_at(e, 1) != 0 {
-        return Event::Junk;
-    }
-    if u64_at(e, 8) != 0 {
-        return Event::Junk;
-    }
-    limit_at(u8_at(e, 6), number_at(e, 2), number_at(e, 4), e)
-}
-
-fn limit_at(level: u8, account: u64, item: u64, e: &[u8]) -> Event
+// What a LIMIT sets.
+fn line(e: &[u8]) -> LimitLine
     requires { ⌜ length (now e) ≡ 48 ⌝ }
-    ensures { λ r. ⌜ r ≡ limitAt level account item (now (e .entry)) ⌝ }
+    ensures { λ r. ⌜ r ≡ lineField (now (e .entry)) ⌝ }
 {
-    match level {
+    match u8_at(e, 6) {
+        1 => LimitLine::Own {
+            instrument: number_at(e, 4),
+            figures: figures(e),
+        },
+        2 => LimitLine::Default {
+            contract: number_at(e, 4),
+            figures: figures(e),
+        },
+        _ => LimitLine::OfGroup {
+            group: number_at(e, 4),
+            lcc: i64_at(e, 16),
+            lvc: i64_at(e, 24),
+        },
+    }
+}
+
+// What a BLOCK blocks.
+fn blocked(e: &[u8]) -> Blocked
+    requires { ⌜ length (now e) ≡ 48 ⌝ }
+    ensures { λ r. ⌜ r ≡ blockedField (now (e .entry)) ⌝ }
+{
+    match u8_at(e, 6) {
+        1 => Blocked::Account {
+            account: number_at(e, 2),
+        },
+        2 => Blocked::Instrument {
+            instrument: number_at(e, 4),
+        },
+        _ => Blocked::GroupFor {
+            account: number_at(e, 2),
+            group: number_at(e, 4),
+        },
+    }
+}
+
+// The event of bytes whose fields fit.
+fn event_of(kind: u8, e: &[u8]) -> Event
+    requires { ⌜ (length (now e) ≡ 48) × (kindOf (now e) ≡ kind) ⌝ }
+    ensures { λ r. ⌜ r ≡ eventOf (now (e .entry)) ⌝ }
+{
+    match kind {
         1 => Event::Limit {
-            account,
-            line: LimitLine::Own {
-                instrument: item,
-                figures: figures(e),
-            },
+            account: number_at(e, 2),
+            line: line(e),
         },
-        2 => Event::Limit {
-            account,
-            line: LimitLine::Default {
-                contract: item,
-                figures: figures(e),
-            },
+        2 => Event::Balance {
+            account: number_at(e, 2),
+            instrument: number_at(e, 4),
+            balance: i64_at(e, 16),
         },
-        3 => {
-            if !none_after_two(e) {
-                return Event::Junk;
-            }
-            Event::Limit {
-                account,
-                line: LimitLine::OfGroup {
-                    group: item,
-                    lcc: i64_at(e, 16),
-                    lvc: i64_at(e, 24),
-                },
-            }
-        }
-        _ => Event::Junk,
-    }
-}
-
-// BALANCE: account, item and figure one.
-fn balance(e: &[u8]) -> Event
-    requires { ⌜ OfKind 2 (now e) ⌝ }
-    ensures { λ r. ⌜ r ≡ decode (now (e .entry)) ⌝ }
-{
-    if u8_at(e, 1) != 0 {
-        return Event::Junk;
-    }
-    if u8_at(e, 6) != 0 {
-        return Event::Junk;
-    }
-    if u64_at(e, 8) != 0 {
-        return Event::Junk;
-    }
-    if !none_after_one(e) {
-        return Event::Junk;
-    }
-    Event::Balance {
-        account: number_at(e, 2),
-        instrument: number_at(e, 4),
-        balance: i64_at(e, 16),
-    }
-}
-
-// BLOCK: level, figure one, and the account, the item or both.
-fn block(e: &[u8]) -> Event
-    requires { ⌜ OfKind 3 (now e) ⌝ }
-    ensures { λ r. ⌜ r ≡ decode (now (e .entry)) ⌝ }
-{
-    if u8_at(e, 1) != 0 {
-        return Event::Junk;
-    }
-    if u64_at(e, 8) != 0 {
-        return Event::Junk;
-    }
-    if !none_after_one(e) {
-        return Event::Junk;
-    }
-    block_at(u8_at(e, 6), number_at(e, 2), number_at(e, 4), i64_at(e, 16))
-}
-
-fn block_at(level: u8, account: u64, item: u64, on: i64) -> Event
-    ensures { λ r. ⌜ r ≡ blockAt level account item on ⌝ }
-{
-    match level {
-        1 => {
-            if item != 0 {
-                return Event::Junk;
-            }
-            Event::Block {
-                what: Blocked::Account { account },
-                on,
-            }
-        }
-        2 => {
-            if account != 0 {
-                return Event::Junk;
-            }
-            Event::Block {
-                what: Blocked::Instrument { instrument: item },
-                on,
-            }
-        }
         3 => Event::Block {
-            what: Blocked::GroupFor {
-                account,
-                group: item,
-            },
-            on,
+            what: blocked(e),
+            on: i64_at(e, 16),
         },
-        _ => Event::Junk,
+        4 => Event::New {
+            side: side_of(wide8(u8_at(e, 1))),
+            account: number_at(e, 2),
+            instrument: number_at(e, 4),
+            id: u64_at(e, 8),
+            quantity: i64_at(e, 16),
+        },
+        5 => Event::Replace {
+            id: u64_at(e, 8),
+            total: i64_at(e, 16),
+        },
+        6 => Event::Cancel { id: u64_at(e, 8) },
+        _ => Event::Fill {
+            id: u64_at(e, 8),
+            quantity: i64_at(e, 16),
+        },
     }
 }
 
-// NEW: side, account, item, id and figure one.
-fn new(e: &[u8]) -> Event
-    requires { ⌜ OfKind 4 (now e) ⌝ }
+// Is the kind listed, and do the fields fit its line of the table?
+fn well_formed(kind: u8, e: &[u8]) -> bool
+    requires { ⌜ (length (now e) ≡ 48) × (kindOf (now e) ≡ kind) ⌝ }
+    ensures { λ r. ⌜ r ≡ wellFormed (now (e .entry)) ⌝ }
+{
+    listed(true, 7, kind) & fields_fit(named(kind, u8_at(e, 6)), e)
+}
+
+// The event of bytes of a kind, or junk.
+fn of_kind(kind: u8, e: &[u8]) -> Event
+    requires { ⌜ (length (now e) ≡ 48) × (kindOf (now e) ≡ kind) ⌝ }
     ensures { λ r. ⌜ r ≡ decode (now (e .entry)) ⌝ }
 {
-    let side = wide8(u8_at(e, 1));
-    if side < 1 {
-        return Event::Junk;
+    if well_formed(kind, e) {
+        return event_of(kind, e);
     }
-    if 2 < side {
-        return Event::Junk;
-    }
-    if u8_at(e, 6) != 0 {
-        return Event::Junk;
-    }
-    let id = u64_at(e, 8);
-    if !of_order(e, id) {
-        return Event::Junk;
-    }
-    Event::New {
-        side: side_of(side),
-        account: number_at(e, 2),
-        instrument: number_at(e, 4),
-        id,
-        quantity: i64_at(e, 16),
-    }
+    Event::Junk
 }
 
-// REPLACE: id and figure one.
-fn replace(e: &[u8]) -> Event
-    requires { ⌜ OfKind 5 (now e) ⌝ }
-    ensures { λ r. ⌜ r ≡ decode (now (e .entry)) ⌝ }
-{
-    let id = u64_at(e, 8);
-    if !id_and_figure(e, id) {
-        return Event::Junk;
-    }
-    Event::Replace {
-        id,
-        total: i64_at(e, 16),
-    }
-}
-
-// CANCEL: id, and no figure.
-fn cancel(e: &[u8]) -> Event
-    requires { ⌜ OfKind 6 (now e) ⌝ }
-    ensures { λ r. ⌜ r ≡ decode (now (e .entry)) ⌝ }
-{
-    let id = u64_at(e, 8);
-    if !id_and_figure(e, id) {
-        return Event::Junk;
-    }
-    if u64_at(e, 16) != 0 {
-        return Event::Junk;
-    }
-    Event::Cancel { id }
-}
-
-// FILL: id and figure one.
-fn fill(e: &[u8]) -> Event
-    requires { ⌜ OfKind 7 (now e) ⌝ }
-    ensures { λ r. ⌜ r ≡ decode (now (e .entry)) ⌝ }
-{
-    let id = u64_at(e, 8);
-    if !id_and_figure(e, id) {
-        return Event::Junk;
-    }
-    Event::Fill {
-        id,
-        quantity: i64_at(e, 16),
-    }
-}
-
-// The event that the bytes are, or that they are none.
+// The event that the bytes are, or that they are none. Each kind stands here as a constant, for which its line of the table and its
+// event are compiled by themselves.
 pub fn decode(e: &[u8]) -> Event
     ensures { λ r. ⌜ r ≡ decode (now (e .entry)) ⌝ }
 {
     if e.len() != 48 {
         return Event::Junk;
     }
-    if u8_at(e, 7) != 0 {
-        return Event::Junk;
-    }
-    match u8_at(e, 0) {
-        1 => limit(e),
-        2 => balance(e),
-        3 => block(e),
-        4 => new(e),
-        5 => replace(e),
-        6 => cancel(e),
-        7 => fill(e),
-        _ => Event::Junk,
+    let kind = u8_at(e, 0);
+    match kind {
+        1 => of_kind(1, e),
+        2 => of_kind(2, e),
+        3 => of_kind(3, e),
+        4 => of_kind(4, e),
+        5 => of_kind(5, e),
+        6 => of_kind(6, e),
+        7 => of_kind(7, e),
+        _ => of_kind(kind, e),
     }
 }

@@ -28,7 +28,7 @@ use Rattle.book.specs.Market.{derivatives}
 use Rattle.book.specs.OpenOrders.{find}
 use Rattle.book.specs.Sound.{OrderFits, Sound}
 use Rattle.book.specs.Decoding.{between}
-use Rattle.book.specs.Named.{limitedItem, blockedAccount, blockedItem}
+use Rattle.book.specs.Names.{limitedItem, blockedAccount, blockedItem}
 use Rattle.book.specs.Table.{whereSome, accountKnown, isListed, itemKnown, isQuantity, lineFits, changeInRange, figuresFit, fitsOrder}
 use Rattle.book.specs.Table.{placeFree}
 use Rattle.book.proofs.Accepted.{Passed, accepted}
