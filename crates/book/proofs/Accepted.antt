@@ -11,7 +11,7 @@ use Rattle.ledger.specs.Positions.{Way, Scope}
 use Rattle.ledger.specs.Moves.{Moves}
 use Rattle.limits.specs.Questions.{firstNo, allPass}
 use Rattle.limits.specs.Asked.{limitsSet, positionQuestions}
-use Rattle.limits.proofs.Answers.{Counted, pass-each, append-zero, append-passed, never-answered}
+use Rattle.limits.proofs.Answers.{Counted, passed, append-zero, append-passed, never-answered}
 use Rattle.limits.proofs.Refusals.{accepted-within}
 use Rattle.book.specs.declared.Event.{Event}
 use Rattle.book.specs.States.{State, work}
@@ -56,18 +56,18 @@ module _ (k : State) (e : Event) where
   pub passes-each : allPass (questionsBefore k e) ≡ true → Passed k e
   unfolding questionsBefore
   passes-each h =
-      let y = pass-each (questionsBefore k e) h in
+      let yes = passed (questionsBefore k e) h in
       record {
-        event = y .0;
-        account = y .1 .0;
-        item = y .1 .1 .0;
-        figures = y .1 .1 .1 .0;
-        idle = y .1 .1 .1 .1 .0;
-        found = y .1 .1 .1 .1 .1 .0;
-        quantity = y .1 .1 .1 .1 .1 .1 .0;
-        fresh = y .1 .1 .1 .1 .1 .1 .1 .0;
-        limits = y .1 .1 .1 .1 .1 .1 .1 .1 .1 .1 .1 .0;
-        room = y .1 .1 .1 .1 .1 .1 .1 .1 .1 .1 .1 .1 .0;
+        event = yes 6;
+        account = yes 7;
+        item = yes 8;
+        figures = yes 9;
+        idle = yes 10;
+        found = yes 11;
+        quantity = yes 12;
+        fresh = yes 13;
+        limits = yes 17;
+        room = yes 18;
       }
 
   -- past the questions before the position limits, the answer is theirs

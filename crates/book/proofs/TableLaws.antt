@@ -3,13 +3,13 @@ use Prim.Native.Nat.{ℕ, _<_}
 use mathlib.Core.Path.{_≡_, refl, sym, ap}
 use mathlib.Core.Logic.{_↔_, _⊎_, inl, inr, ⊎-elim}
 use mathlib.Core.Bool.{Bool}
-use mathlib.Core.List.{List, [], _∷_, map}
+use mathlib.Core.List.{List, [], _∷_}
 use mathlib.Core.Option.{Option, none, some}
 use lib.IntN.{ℤ, natAbs}
 use borrow.Author.Tests.{lt-ltb}
 use Rattle.ledger.specs.declared.order.Order.{Order}
 use Rattle.ledger.specs.Orders.{replacedTotal}
-use Rattle.limits.specs.Questions.{Question}
+use Rattle.limits.specs.Questions.{numbersOf}
 use Rattle.limits.specs.Asked.{positionQuestions}
 use Rattle.book.specs.declared.Event.{Event}
 use Rattle.book.specs.declared.OrderChange.the-variants.{Replace}
@@ -19,9 +19,6 @@ use Rattle.book.specs.Books.{Book, newOrder}
 use Rattle.book.specs.States.{State, work}
 use Rattle.book.specs.Table.{entered, questionsBefore, positionsAfter, limitQuestions, questions}
 use Rattle.book.proofs.OrdersEntered.{none-enters, raised-found}
-
-abbrev pub numbersOf : List Question → List ℕ
-numbersOf qs = map (λ q. q .number) qs
 
 -- 21 to 24 are asked where an order is entered or raised
 abbrev pub positionNumbers : Option Order → List ℕ

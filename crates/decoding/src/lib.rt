@@ -12,6 +12,7 @@ use book::Event;
 use book::Figures;
 use book::LimitLine;
 use book::Named;
+use book::OrderChange;
 use ledger::records::side_of;
 use words::fields::i64_at;
 use words::fields::u8_at;
@@ -204,14 +205,21 @@ fn event_of(kind: u8, e: &[u8]) -> Event
             id: u64_at(e, 8),
             quantity: i64_at(e, 16),
         },
-        5 => Event::Replace {
+        5 => Event::Change {
             id: u64_at(e, 8),
-            total: i64_at(e, 16),
+            change: OrderChange::Replace {
+                total: i64_at(e, 16),
+            },
         },
-        6 => Event::Cancel { id: u64_at(e, 8) },
-        _ => Event::Fill {
+        6 => Event::Change {
             id: u64_at(e, 8),
-            quantity: i64_at(e, 16),
+            change: OrderChange::Cancel,
+        },
+        _ => Event::Change {
+            id: u64_at(e, 8),
+            change: OrderChange::Fill {
+                quantity: i64_at(e, 16),
+            },
         },
     }
 }

@@ -1,6 +1,6 @@
 -- An accepted opening: the roster that it leaves is that of the bytes, the view has just begun, and nothing else changed.
 use Prim.Native.Nat.{ℕ, _+_, _*_, _≤_, _<_}
-use mathlib.Core.Path.{_≡_, refl, _∙_, sym}
+use mathlib.Core.Path.{_≡_, refl, _∙_, sym, ap}
 use mathlib.Core.List.{List, [], _∷_}
 use native.Mathlib.Omega.{arith}
 use lib.Dec.{leb, eqb}
@@ -17,7 +17,8 @@ use Rattle.words.proofs.Runs.{bytes-puts}
 use Rattle.ledger.specs.Roster.{Numbered}
 use Rattle.limits.proofs.Answers.{both-true, zero-pass, passed}
 use Rattle.book.specs.Decoding.{between}
-use Rattle.book.specs.EventLists.{begun}
+use Rattle.book.specs.Market.{derivatives}
+use Rattle.book.specs.States.{begun}
 use Rattle.book.proofs.Tables.{between-numbered}
 use Rattle.layout.specs.Layout.{memoryWords, kindWord}
 use Rattle.layout.specs.Rosters.{listed, every, longEnough}
@@ -117,8 +118,10 @@ module _ (m s : List ℕ) where
         let sizes = ok .sizes in
         rw roster-opened (record { accounts = omega arith; groups = omega arith; contracts = omega arith; instruments = omega arith })
 
-    pub view-opened : view (opened m s) ≡ begun
-    view-opened = view-blank (opened m s) sized-opened (λ k low high. blank-opened k (omega arith) (omega arith))
+    pub view-opened : view (opened m s) ≡ begun derivatives (rosterFrom s)
+    view-opened =
+        view-blank (opened m s) sized-opened (λ k low high. blank-opened k (omega arith) (omega arith))
+        ∙ ap (begun derivatives) roster-opened
 
     pub length-opened : length (opened m s) ≡ length m
     unfolding opened
