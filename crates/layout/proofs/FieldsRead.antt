@@ -1,19 +1,25 @@
 -- The words that the readers of single fields read are the view's fields, where account and number are on the roster.
 use Prim.Native.Nat.{ℕ, _+_, _*_, _≤_, _<_}
 use mathlib.Core.Path.{_≡_, _∙_, sym, ap}
-use mathlib.Core.Bool.{false}
+use mathlib.Core.Bool.{true, false}
 use mathlib.Core.List.{List}
 use native.Mathlib.Omega.{arith}
 use lib.IntN.{pos}
 use lib.ListN.{length}
+use borrow.Author.Tests.{leb-true}
 use Rattle.words.specs.Words.{signedAt, partOf}
 use Rattle.words.proofs.Parts.{length-part, word-part}
 use Rattle.ledger.specs.Roster.{Numbered}
 use Rattle.layout.specs.Layout.{markWord, accountBlockWord, instrumentBlockWord, groupBlockRow, balanceRow}
+use Rattle.layout.specs.Rosters.{longEnough}
 use Rattle.layout.specs.View.{rosterOf, flag, balancesPart, balancesOf, blocksOf, tradingOf}
 use Rattle.layout.specs.Readable.{Readable}
 use Rattle.layout.proofs.RosterLaws.{numbered-between}
 use Rattle.layout.proofs.GuardedTables.{on-here}
+
+pub long-out : (m : List ℕ) → longEnough m ≡ true → 65536 ≤ length m
+unfolding longEnough
+long-out m e = leb-true 65536 (length m) e
 
 -- a signed word of a part is one of the whole
 signed-part : (m : List ℕ) (k n j : ℕ) → j < n → signedAt (partOf m k n) j ≡ signedAt m (k + j)
