@@ -11,12 +11,12 @@ use mir.Val.{SFits, toZ, ofZ}
 use mir.ValLaws.{toZ-ofZ}
 use Rattle.integers.specs.Magnitude.{sized, magnitude-sum, magnitude-negation}
 use Rattle.integers.specs.Parts.{signed, magnitude-parts}
-use Rattle.words.specs.Words.{signedAt}
 use Rattle.ledger.specs.declared.order.Side.{Side}
 use Rattle.ledger.specs.declared.find.Found.the-variants.{At}
 use Rattle.ledger.specs.declared.order.Side.the-variants.{Buy, Sell}
 use Rattle.ledger.specs.declared.order.Order.{Order}
 use Rattle.ledger.specs.Orders.{remaining, filledBy}
+use Rattle.ledger.specs.Roster.{Numbered}
 use Rattle.ledger.specs.Positions.{toward, wayOf}
 use Rattle.ledger.specs.Fillings.{fillMoves}
 use Rattle.ledger.specs.Derivatives.{one}
@@ -25,12 +25,12 @@ use Rattle.book.specs.declared.Event.the-variants.{Fill}
 use Rattle.book.specs.Market.{derivatives}
 use Rattle.book.specs.OpenOrders.{find, change, kept}
 use Rattle.book.specs.Sound.{OrderFits}
-use Rattle.layout.specs.Layout.{memoryBytes, balanceRow}
+use Rattle.layout.specs.Layout.{memoryBytes}
 use Rattle.layout.specs.View.{rosterOf, balancesOf, openOrders}
+use Rattle.layout.specs.Readable.{Readable}
 use Rattle.layout.specs.Stores.{orderIn, storeFrom}
 use Rattle.layout.specs.FieldStores.{storeBalance}
-use Rattle.layout.proofs.GuardedTables.{on-here}
-use Rattle.soundness.proofs.Bounded.{balance-small}
+use Rattle.soundness.proofs.Bounded.{sound-readable, balance-small}
 use Rattle.working.specs.Working.{Ready, Stands, keptFirst, worked, moved, onSide}
 use Rattle.working.proofs.AcceptedFacts.{AcceptedFacts, laid, records, accepted-facts}
 use Rattle.working.proofs.Rooms.{Cast, cast-fits}
@@ -83,6 +83,9 @@ module _ {m : List ℕ} {id : ℕ} {n : ℤ} {p : ℕ} (ready : Ready m (Fill id
         let i = order-fits .instrument in
         omega (arith, ready .held .long)
 
+    pub fill-readable : Readable m × Numbered (rosterOf m .accounts) (o .account) × Numbered (rosterOf m .instruments) (o .instrument)
+    fill-readable = (sound-readable m (ready .held), order-fits .account, order-fits .instrument)
+
     own-id : o .id ≡ id
     own-id = ap (λ x. x .id) loaded ∙ named-id m id p (ready .named)
 
@@ -97,14 +100,9 @@ module _ {m : List ℕ} {id : ℕ} {n : ℤ} {p : ℕ} (ready : Ready m (Fill id
         }
 
     -- s is the balance that was read
-    module _ {s : ℤ} (fits-s : SFits w64 s) (read : s ≡ signedAt m (balanceRow (o .account) + o .instrument)) where
+    module _ {s : ℤ} (fits-s : SFits w64 s) (read : s ≡ balancesOf m (o .account) (o .instrument)) where
       same-balance : toZ w64 (ofZ w64 s) ≡ balancesOf m (o .account) (o .instrument)
-      unfolding balancesOf
-      same-balance =
-          toZ-ofZ w64 s fits-s
-          ∙ read
-          ∙ sym (on-here (rosterOf m .accounts) (rosterOf m .instruments) (o .account) (o .instrument) _ _ (order-fits .account)
-          (order-fits .instrument))
+      same-balance = toZ-ofZ w64 s fits-s ∙ read
 
       pub fill-small : (natAbs (toZ w64 (ofZ w64 s)) ≤ 1000000000) × (quantity ≤ 1000000)
       fill-small =

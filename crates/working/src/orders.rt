@@ -16,13 +16,12 @@ use layout::orders::insert_order;
 use layout::orders::load_order;
 use layout::orders::remove_order;
 use layout::orders::replace_order;
+use layout::readers::balance;
 use layout::stores::set_balance;
 use layout::stores::set_mark;
-use layout::table::BALANCES;
 use ledger::order::Order;
 use ledger::order::Side;
 use ledger::units::Contracts;
-use words::signed_word;
 
 // NEW: an order joins, with filled 0, and its account is marked as trading.
 pub fn work_new(
@@ -116,9 +115,9 @@ pub fn work_fill(m: &mut [u8], id: u64, quantity: i64, place: usize) -> Moved
     let account = o.account as usize;
     let instrument = o.instrument as usize;
     let side = o.side;
-    let balance = Contracts(signed_word(m, BALANCES + account * 32 + instrument));
+    let before = Contracts(balance(m, account, instrument));
     fill_record(m, place, o, n);
-    let next = balance_after(side, balance, Contracts(quantity));
+    let next = balance_after(side, before, Contracts(quantity));
     set_balance(m, account, instrument, next.0);
     moved_by(side, n)
 }

@@ -4,7 +4,7 @@ use borrow.Author.Needs.{needs}
 use Rattle.ledger.specs.declared.order.Side.the-variants.{Buy, Sell}
 use Rattle.working.proofs.AcceptedFacts.{records}
 use Rattle.working.proofs.Changing.{loadable}
-use Rattle.working.proofs.Filling.{fill-cast, fill-room, fill-stands, fill-small, fill-worked, fill-moved}
+use Rattle.working.proofs.Filling.{fill-cast, fill-room, fill-readable, fill-stands, fill-small, fill-worked, fill-moved}
 use Rattle.working.proofs.orders.work_fill.Statement.{statement}
 use Rattle.working.proofs.orders.work_fill.Tie as tie
 
@@ -18,25 +18,10 @@ cast-n c =
     let start = c .before .before .before in
     fill-cast (start .pre) (start .fits .quantity)
 
-mul-signed-word : tie.Need-mul-signed-word
-mul-signed-word c =
+balance-requires : tie.Need-balance-requires
+balance-requires c κs =
     let start = c .before .before .before .before in
-    omega (arith, fill-room (start .pre) (start .fits .quantity) (c .before .load-order .ensures))
-
-add-signed-word : tie.Need-add-signed-word
-add-signed-word c =
-    let start = c .before .before .before .before in
-    omega (arith, fill-room (start .pre) (start .fits .quantity) (c .before .load-order .ensures))
-
-add-signed-word-2 : tie.Need-add-signed-word-2
-add-signed-word-2 c =
-    let start = c .before .before .before .before in
-    omega (arith, fill-room (start .pre) (start .fits .quantity) (c .before .load-order .ensures))
-
-signed-word-requires : tie.Need-signed-word-requires
-signed-word-requires c κs =
-    let start = c .before .before .before .before in
-    omega (arith, fill-room (start .pre) (start .fits .quantity) (c .before .load-order .ensures))
+    fill-readable (start .pre) (start .fits .quantity) (c .before .load-order .ensures)
 
 fill-record-requires : tie.Need-fill-record-requires
 fill-record-requires c κs =
@@ -51,8 +36,8 @@ balance-after-requires c κs =
     let start = loaded .before .before .before in
     omega (
       arith,
-      fill-small (start .pre) (start .fits .quantity) (loaded .load-order .ensures) (record { sfits = read .signed-word .ok })
-          (read .signed-word .ensures),
+      fill-small (start .pre) (start .fits .quantity) (loaded .load-order .ensures) (record { sfits = read .balance .ok })
+          (read .balance .ensures),
     )
 
 set-balance-requires : tie.Need-set-balance-requires
@@ -68,8 +53,8 @@ returns c =
     let read = stored .before .before in
     let loaded = read .before .before in
     let start = loaded .before .before .before in (
-      fill-worked (start .pre) (start .fits .quantity) (loaded .load-order .ensures) (record { sfits = read .signed-word .ok })
-          (read .signed-word .ensures) (stored .fill-record .ensures) (after .balance-after .ensures)
+      fill-worked (start .pre) (start .fits .quantity) (loaded .load-order .ensures) (record { sfits = read .balance .ok })
+          (read .balance .ensures) (stored .fill-record .ensures) (after .balance-after .ensures)
           (c .before .before .before .set-balance .ensures),
       (
         fill-moved (start .pre) (start .fits .quantity) (loaded .load-order .ensures) Buy _ (c .moved-by .ensures .0),
@@ -79,5 +64,4 @@ returns c =
 
 pub work-fill-spec : {M : Type 1} → statement M
 work-fill-spec =
-    tie.close (tie.spec load-order-requires cast-n mul-signed-word add-signed-word add-signed-word-2 signed-word-requires
-    fill-record-requires balance-after-requires set-balance-requires (λ c κs. search needs) (λ c. search needs) returns)
+    tie.close (tie.spec load-order-requires cast-n balance-requires fill-record-requires balance-after-requires set-balance-requires (λ c κs. search needs) (λ c. search needs) returns)
