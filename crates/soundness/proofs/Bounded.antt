@@ -1,5 +1,5 @@
 -- What a memory that holds a sound desk gives to the functions over its parts: the records are there, and no number is too large.
-use Prim.Native.Nat.{ℕ, _+_, _*_, _≤_, _<_}
+use Prim.Native.Nat.{ℕ, _*_, _≤_, _<_}
 use mathlib.Core.Path.{ap}
 use mathlib.Core.List.{List}
 use native.Mathlib.Omega.{arith}

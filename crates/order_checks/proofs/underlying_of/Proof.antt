@@ -1,5 +1,5 @@
 -- What was read is the instrument's contract and that contract's group; a sound roster names its own.
-use mathlib.Core.Path.{_∙_, ap}
+use mathlib.Core.Path.{_∙_}
 use borrow.Author.Needs.{needs}
 use Rattle.ledger.specs.Roster.{groupOfInstrument}
 use Rattle.soundness.proofs.Bounded.{sound-readable}

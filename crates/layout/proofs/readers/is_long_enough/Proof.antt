@@ -1,6 +1,5 @@
 -- The test is that of question 1.
 use mathlib.Core.Path.{refl}
-use borrow.Author.Needs.{needs}
 use Rattle.layout.specs.Rosters.{longEnough}
 use Rattle.layout.proofs.readers.is_long_enough.Statement.{statement}
 use Rattle.layout.proofs.readers.is_long_enough.Tie as tie

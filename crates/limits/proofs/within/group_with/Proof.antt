@@ -1,5 +1,4 @@
 -- What the weighed cells give on the side, and the rise times the weight's magnitude: both fit, and their sum is taken.
-use Prim.Native.Nat.{_≤_}
 use mathlib.Core.Path.{_≡_, _∙_, ap}
 use native.Mathlib.Omega.{arith}
 use borrow.Author.Needs.{needs}
