@@ -51,7 +51,7 @@ module _ (id : ℕ) where
 -- ---- at a sound desk
 module _ (m : List ℕ) (held : SoundMemory m) where
   pub sound-ids : Ascending 0 (openOrders m)
-  unfolding view bookOf
+  unfolding bookOf
   sound-ids = held .book .ids
 
   pub sound-ranked : Ranked m

@@ -23,7 +23,7 @@ entered-raises o os e =
 
 module _ (m : List ℕ) (o : Order) (total : ℕ) (r : Replaceable m o total) where
   open-fits : OrderFits (rosterOf m) o
-  unfolding view bookOf
+  unfolding bookOf
   open-fits = r .held .book .fits o (standing-member (standing (o .id) (openOrders m) o (r .found)))
 
   pub replaced-on : OnRoster m (replacedTotal o total)

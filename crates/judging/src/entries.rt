@@ -11,25 +11,27 @@ ghost use Rattle.layout.specs.Stores.{rank};
 ghost use Rattle.layout.specs.Judged.{judged, NamedAt};
 ghost use Rattle.soundness.specs.Cells.{Sums};
 ghost use Rattle.soundness.specs.SoundMemory.{SoundMemory};
+ghost use Rattle.order_checks.specs.OrderFields.{Under};
 ghost use Rattle.order_checks.specs.Questions.{Sizable};
 ghost use Rattle.judging.specs.QuestionsLeft.{newFrom18, newFrom13, Fresh, raisedFrom14, replaceFrom12, Replaceable};
 use crate::Verdict;
-use crate::known::account_known;
-use crate::known::instrument_known;
 use crate::plain;
 use crate::ranges::is_quantity;
+use layout::orders::count;
 use layout::orders::load_order;
+use layout::roster::account_known;
+use layout::roster::instrument_known;
 use layout::search::find_order;
 use layout::search::id_at;
 use layout::search::place;
-use layout::table::COUNT;
 use ledger::find::Found;
 use ledger::order::Order;
 use ledger::order::Side;
 use limits::answer::Answer;
+use order_checks::Underlying;
 use order_checks::admitted;
+use order_checks::underlying_of;
 use order_checks::within_limits;
-use words::word;
 
 // Whether an order with that id is open, `p` being the place of the first larger id. Ids ascend, so that it stands just before `p`: one
 // comparison, and no search.
@@ -41,14 +43,14 @@ fn is_open(m: &[u8], p: usize, id: u64) -> bool
 }
 
 // 18 to 24 of a NEW.
-fn new_within(m: &[u8], cells: &[u64], o: Order) -> Answer
-    requires { ⌜ Fresh (now m) o × Sizable (now m) o (o .total) × Sums (now cells) (openOrders (now m)) ⌝ }
+fn new_within(m: &[u8], cells: &[u64], o: Order, under: Underlying) -> Answer
+    requires { ⌜ Fresh (now m) o × Sizable (now m) o (o .total) × Sums (now cells) (openOrders (now m)) × Under (now m) o under ⌝ }
     ensures { λ r. ⌜ numberOf r ≡ firstNo (newFrom18 (now (m .entry)) o) ⌝ }
 {
-    if 256 <= word(m, COUNT) {
+    if 256 <= count(m) {
         return Answer::NoPlaceFree;
     }
-    within_limits(m, cells, o, o.total)
+    within_limits(m, cells, o, o.total, under)
 }
 
 // 13 to 24 of a NEW. Its order would join at place `p`.
@@ -59,8 +61,9 @@ fn new_order(m: &[u8], cells: &[u64], o: Order, p: usize) -> Answer
     if is_open(m, p, o.id) {
         return Answer::DuplicateOrder;
     }
-    match admitted(m, o) {
-        Answer::Accepted => new_within(m, cells, o),
+    let under = underlying_of(m, o);
+    match admitted(m, o, under) {
+        Answer::Accepted => new_within(m, cells, o, under),
         no => no,
     }
 }
@@ -111,8 +114,9 @@ fn raised(m: &[u8], cells: &[u64], o: Order, total: u64) -> Answer
 {
     let before = o.total;
     let after = o.replaced_total(total);
-    match admitted(m, after) {
-        Answer::Accepted => within_limits(m, cells, after, total - before),
+    let under = underlying_of(m, after);
+    match admitted(m, after, under) {
+        Answer::Accepted => within_limits(m, cells, after, total - before, under),
         no => no,
     }
 }

@@ -1,44 +1,14 @@
-// Questions 7 and 8: is a named account, or a named item, on the roster?
+// Questions 7 and 8: is the account, or the item, that an event names on the roster?
 ghost use mathlib.Core.Path.{_≡_};
-ghost use Rattle.book.specs.Decoding.{between};
 ghost use Rattle.book.specs.Table.{blockAccountKnown, lineKnown, blockItemKnown};
 ghost use Rattle.layout.specs.View.{rosterOf};
 ghost use Rattle.soundness.specs.SoundMemory.{SoundMemory};
 use book::Blocked;
 use book::LimitLine;
-use soundness::ranges::between;
-use soundness::roster::accounts;
-use soundness::roster::contracts;
-use soundness::roster::groups;
-use soundness::roster::instruments;
-
-pub fn account_known(m: &[u8], account: u64) -> bool
-    requires { ⌜ SoundMemory (now m) ⌝ }
-    ensures { λ r. ⌜ r ≡ between 1 (rosterOf (now (m .entry)) .accounts) account ⌝ }
-{
-    between(1, accounts(m), account)
-}
-
-pub fn instrument_known(m: &[u8], instrument: u64) -> bool
-    requires { ⌜ SoundMemory (now m) ⌝ }
-    ensures { λ r. ⌜ r ≡ between 1 (rosterOf (now (m .entry)) .instruments) instrument ⌝ }
-{
-    between(1, instruments(m), instrument)
-}
-
-fn contract_known(m: &[u8], contract: u64) -> bool
-    requires { ⌜ SoundMemory (now m) ⌝ }
-    ensures { λ r. ⌜ r ≡ between 1 (rosterOf (now (m .entry)) .contracts) contract ⌝ }
-{
-    between(1, contracts(m), contract)
-}
-
-fn group_known(m: &[u8], group: u64) -> bool
-    requires { ⌜ SoundMemory (now m) ⌝ }
-    ensures { λ r. ⌜ r ≡ between 1 (rosterOf (now (m .entry)) .groups) group ⌝ }
-{
-    between(1, groups(m), group)
-}
+use layout::roster::account_known;
+use layout::roster::contract_known;
+use layout::roster::group_known;
+use layout::roster::instrument_known;
 
 // The item of a LIMIT.
 pub fn line_known(m: &[u8], line: LimitLine) -> bool

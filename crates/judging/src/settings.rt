@@ -1,23 +1,20 @@
 // The judge of LIMIT, BALANCE and BLOCK.
 ghost use mathlib.Core.Path.{_≡_};
-ghost use Rattle.ledger.specs.Roster.{Numbered};
 ghost use Rattle.book.specs.declared.Event.the-variants.{Limit, Balance, Block};
 ghost use Rattle.limits.specs.Answers.{numberOf};
-ghost use Rattle.layout.specs.View.{rosterOf, tradingOf};
 ghost use Rattle.layout.specs.Judged.{judged};
 ghost use Rattle.soundness.specs.SoundMemory.{SoundMemory};
-use crate::known::account_known;
 use crate::known::blocked_account_known;
 use crate::known::blocked_item_known;
-use crate::known::instrument_known;
 use crate::known::line_known;
 use crate::ranges::in_range;
 use crate::ranges::limit_fits;
 use book::Blocked;
 use book::LimitLine;
-use layout::table::MARKS;
+use layout::readers::is_trading;
+use layout::roster::account_known;
+use layout::roster::instrument_known;
 use limits::answer::Answer;
-use words::word;
 
 // LIMIT: questions 7 to 9.
 pub fn judge_limit(m: &[u8], account: u64, line: LimitLine) -> Answer
@@ -36,14 +33,6 @@ pub fn judge_limit(m: &[u8], account: u64, line: LimitLine) -> Answer
     Answer::Accepted
 }
 
-// Is the account marked as trading?
-fn is_trading(m: &[u8], account: u64) -> bool
-    requires { ⌜ SoundMemory (now m) × Numbered (rosterOf (now m) .accounts) account ⌝ }
-    ensures { λ r. ⌜ r ≡ tradingOf (now (m .entry)) account ⌝ }
-{
-    word(m, MARKS + account as usize) != 0
-}
-
 // BALANCE: questions 7 to 10.
 pub fn judge_balance(m: &[u8], account: u64, instrument: u64, balance: i64) -> Answer
     requires { ⌜ SoundMemory (now m) ⌝ }
@@ -58,7 +47,7 @@ pub fn judge_balance(m: &[u8], account: u64, instrument: u64, balance: i64) -> A
     if !in_range(-1000000000, 1000000000, balance) {
         return Answer::FigureOutOfRange;
     }
-    if is_trading(m, account) {
+    if is_trading(m, account as usize) {
         return Answer::AlreadyTrading;
     }
     Answer::Accepted

@@ -1,7 +1,9 @@
 -- Laws of the memory: which words a field of the view is made of, what each store changes, and records that move. One module a subject.
 pub mod RosterLaws
 pub mod Every
+pub mod RosterRead
 pub mod GuardedTables
+pub mod FieldsRead
 pub mod Blank
 pub mod OrderRecords
 pub mod Stored

@@ -9,7 +9,7 @@ use Rattle.words.specs.Words.{wordAt, signedAt, partOf}
 use Rattle.ledger.specs.Roster.{Roster}
 use Rattle.ledger.specs.declared.order.Order.{Order}
 use Rattle.ledger.specs.Records.{rosterIn, ordersFrom}
-use Rattle.limits.specs.Lines.{Lines}
+use Rattle.limits.specs.Lines.{Line, GroupLine, Lines}
 use Rattle.limits.specs.InBytes.{lineAt, groupLineAt}
 use Rattle.book.specs.Decoding.{between}
 use Rattle.book.specs.Books.{Blocks, Book}
@@ -19,10 +19,14 @@ use Rattle.layout.specs.Layout.{rosterWord, countWord, firstWord, orders
 use Rattle.layout.specs.Layout.{groupBlockRow, balanceRow, ownSetRow, defaultSetRow, groupSetRow, ownRow, defaultRow, groupRow}
 use Rattle.layout.specs.Rosters.{listed}
 
+-- the part with the roster
+abbrev pub rosterPart : List ℕ → List ℕ
+rosterPart m = partOf m rosterWord 76
+
 -- the roster
 unfoldable pub rosterOf : List ℕ → Roster
 rosterOf m =
-    let r = rosterIn (partOf m rosterWord 76) in
+    let r = rosterIn (rosterPart m) in
     listed (r .accounts) (r .groups) (r .contracts) (r .instruments) (r .groupOf) (r .contractOf) (r .weight)
 
 -- a word that is not 0 means yes
@@ -33,18 +37,45 @@ flag m k = not (eqb (wordAt m k) 0)
 abbrev pub onRoster : {A : Type 0} → ℕ → ℕ → ℕ → ℕ → A → A → A
 onRoster accounts numbers a n x otherwise = cond (between 1 accounts a && between 1 numbers n) x otherwise
 
+-- the figures of a line, set or not: an instrument's own, a contract's default, a group's
+abbrev pub ownFigures : List ℕ → ℕ → ℕ → Line
+ownFigures m a i = lineAt m (ownRow a + i * 2)
+
+abbrev pub defaultFigures : List ℕ → ℕ → ℕ → Line
+defaultFigures m a c = lineAt m (defaultRow a + c * 2)
+
+abbrev pub groupFigures : List ℕ → ℕ → ℕ → GroupLine
+groupFigures m a g = groupLineAt m (groupRow a + g)
+
+-- the parts with an account's lines: all from number 1 on; and each kind's from number 0 on, whose words are another kind's
+abbrev pub linesRow : List ℕ → ℕ → List ℕ
+linesRow m a = partOf m (ownRow a + 2) 84
+
+abbrev pub ownLines : List ℕ → ℕ → List ℕ
+ownLines m a = partOf m (ownRow a) 66
+
+abbrev pub defaultLines : List ℕ → ℕ → List ℕ
+defaultLines m a = partOf m (defaultRow a) 18
+
+abbrev pub groupLines : List ℕ → ℕ → List ℕ
+groupLines m a = partOf m (groupRow a) 5
+
 unfoldable pub linesOf : List ℕ → ℕ → Lines
 linesOf m a =
     let r = rosterOf m in
     record {
       ownOf =
-          λ i. onRoster (r .accounts) (r .instruments) a i (cond (flag m (ownSetRow a + i)) (some (lineAt m (ownRow a + i * 2))) none) none;
+          λ i. onRoster (r .accounts) (r .instruments) a i (cond (flag m (ownSetRow a + i)) (some (ownFigures m a i)) none) none;
       defaultOf =
-          λ c. onRoster (r .accounts) (r .contracts) a c (cond (flag m (defaultSetRow a + c)) (some (lineAt m (defaultRow a + c * 2))) none)
+          λ c. onRoster (r .accounts) (r .contracts) a c (cond (flag m (defaultSetRow a + c)) (some (defaultFigures m a c)) none)
           none;
       lineOfGroup =
-          λ g. onRoster (r .accounts) (r .groups) a g (cond (flag m (groupSetRow a + g)) (some (groupLineAt m (groupRow a + g))) none) none;
+          λ g. onRoster (r .accounts) (r .groups) a g (cond (flag m (groupSetRow a + g)) (some (groupFigures m a g)) none) none;
     }
+
+-- the part with an account's balances
+abbrev pub balancesPart : List ℕ → ℕ → List ℕ
+balancesPart m a = partOf m (balanceRow a) 33
 
 -- S, signed
 unfoldable pub balancesOf : List ℕ → ℕ → ℕ → ℤ

@@ -23,9 +23,17 @@ use words::words_copied;
 use words::words_down;
 use words::words_up;
 
+// How many open orders there are.
+pub fn count(m: &[u8]) -> usize
+    requires { ⌜ memoryBytes ≤ length (now m) ⌝ }
+    ensures { λ r. ⌜ r ≡ length (openOrders (now (m .entry))) ⌝ }
+{
+    word(m, COUNT) as usize
+}
+
 // How many records of the region stand before those in use.
-fn first_of(m: &[u8]) -> usize
-    requires { ⌜ Records (now m) ⌝ }
+pub fn first_of(m: &[u8]) -> usize
+    requires { ⌜ memoryBytes ≤ length (now m) ⌝ }
     ensures { λ r. ⌜ r ≡ firstOf (now (m .entry)) ⌝ }
 {
     word(m, FIRST) as usize

@@ -1,7 +1,6 @@
 -- Laws of orders, sums, positions and fillings: no filling passes a potential position, and one reaches it. And of records and bounds.
 pub mod Fits
 pub mod Search
-pub mod RosterWords
 pub mod Agreement
 pub mod Ways
 pub mod Amounts

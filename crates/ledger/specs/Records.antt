@@ -97,6 +97,10 @@ ordersFrom m p (suc n) = orderAt m p ∷ ordersFrom m (p + 1) n
 abbrev pub balancesIn : List ℕ → ℕ → ℤ
 balancesIn m i = signedAt m i
 
+-- the bytes of a roster
+abbrev pub rosterBytes : ℕ
+rosterBytes = 608
+
 -- the roster: words 0 to 3 are its sizes, then come the groups of 8 contracts, the contracts of 32 instruments and their weights
 unfoldable pub rosterIn : List ℕ → Roster
 rosterIn m =

@@ -3,4 +3,5 @@
 pub mod find;
 pub mod order;
 pub mod records;
+pub mod roster;
 pub mod units;

@@ -13,14 +13,12 @@ use Rattle.words.specs.Words.{wordAt, partOf}
 use Rattle.words.proofs.Memory.{word-below}
 use Rattle.words.proofs.HalfWords.{lower-field, upper-field}
 use Rattle.words.proofs.Parts.{length-part, word-part}
-use Rattle.ledger.specs.declared.order.Order.{Order}
 use Rattle.ledger.specs.declared.order.Side.{Side}
 use Rattle.ledger.specs.declared.order.Side.the-variants.{Buy, Sell}
-use Rattle.ledger.specs.Roster.{Roster, groupOfInstrument}
+use Rattle.ledger.specs.Roster.{Roster}
 use Rattle.ledger.specs.Positions.{wayOf}
-use Rattle.limits.specs.Lines.{Line, largestOrder, largestPosition, largestOfGroup, orElse, lineInForce, isSet}
+use Rattle.limits.specs.Lines.{Line, Lines, largestOrder, largestPosition, largestOfGroup, orElse, lineInForce, isSet}
 use Rattle.limits.specs.InBytes.{lineAt, groupLineAt, sideByte, saysSet, whereSet, linesIn, linePart}
-use Rattle.limits.specs.Bounds.{SetWords, InForce, OfGroup}
 
 -- ---- a side's figure
 pub side-below : (s : Side) → sideByte s ≤ 4
@@ -81,7 +79,7 @@ module _ (own default : List ℕ) (set i c : ℕ) where
         by false = length-part default (c * 2) 2 (omega arith)
 
 -- ---- which lines are set
-set-by-word : {A : Type 0} (w : ℕ) (l : A) → isSet (whereSet w l) ≡ saysSet w
+pub set-by-word : {A : Type 0} (w : ℕ) (l : A) → isSet (whereSet w l) ≡ saysSet w
 unfolding whereSet
 set-by-word {A} w l = by (saysSet w)
   where
@@ -105,32 +103,19 @@ whole true u l d x y e f h = rw e
 whole false true l d x y e f h = rw f
 whole false false l d x y e f h = absurd (false≢true h)
 
-module _ (own ownSet default defaultSet ofGroup groupSet : List ℕ) (r : Roster) (o : Order) where
-  -- the set words that question 17 takes
-  pub set-words : SetWords r (linesIn own ownSet default defaultSet ofGroup groupSet) o (wordAt ownSet (o .instrument))
-      (wordAt defaultSet (r .contractOf (o .instrument))) (wordAt groupSet (groupOfInstrument r (o .instrument)))
-  unfolding linesIn
-  set-words =
-      record {
-        own = set-by-word (wordAt ownSet (o .instrument)) _;
-        default = set-by-word (wordAt defaultSet (r .contractOf (o .instrument))) _;
-        of-group = set-by-word (wordAt groupSet (groupOfInstrument r (o .instrument))) _;
-      }
+module _ (own ownSet default defaultSet ofGroup groupSet : List ℕ) where
+  abbrev lines : Lines
+  lines = linesIn own ownSet default defaultSet ofGroup groupSet
 
   -- the line in force, where it is set, stands in its part
-  pub in-force : isSet (lineInForce r (linesIn own ownSet default defaultSet ofGroup groupSet) (o .instrument)) ≡ true
-      → InForce r (linesIn own ownSet default defaultSet ofGroup groupSet) o
-      (linePart own default (wordAt ownSet (o .instrument)) (o .instrument) (r .contractOf (o .instrument)))
+  pub in-force : (r : Roster) (i : ℕ) → isSet (lineInForce r lines i) ≡ true
+      → lineInForce r lines i ≡ some (lineAt (linePart own default (wordAt ownSet i) i (r .contractOf i)) 0)
   unfolding linesIn lineInForce linePart whereSet
-  in-force =
-      whole (saysSet (wordAt ownSet (o .instrument))) (saysSet (wordAt defaultSet (r .contractOf (o .instrument)))) _ _ _ _
-      (line-in-part own (o .instrument * 2))
-      (line-in-part default (r .contractOf (o .instrument) * 2))
+  in-force r i =
+      whole (saysSet (wordAt ownSet i)) (saysSet (wordAt defaultSet (r .contractOf i))) _ _ _ _ (line-in-part own (i * 2))
+      (line-in-part default (r .contractOf i * 2))
 
   -- the group's line, where it is set, stands in its part
-  pub of-group : isSet (linesIn own ownSet default defaultSet ofGroup groupSet .lineOfGroup (groupOfInstrument r (o .instrument))) ≡ true
-      → OfGroup r (linesIn own ownSet default defaultSet ofGroup groupSet) o (partOf ofGroup (groupOfInstrument r (o .instrument)) 1)
+  pub of-group : (g : ℕ) → isSet (lines .lineOfGroup g) ≡ true → lines .lineOfGroup g ≡ some (groupLineAt (partOf ofGroup g 1) 0)
   unfolding linesIn
-  of-group e =
-      rw (group-line-in-part ofGroup (groupOfInstrument r (o .instrument)))
-      (where-set (wordAt groupSet (groupOfInstrument r (o .instrument))) (groupLineAt ofGroup (groupOfInstrument r (o .instrument))) e)
+  of-group g e = rw (group-line-in-part ofGroup g) (where-set (wordAt groupSet g) (groupLineAt ofGroup g) e)

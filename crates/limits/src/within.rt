@@ -23,6 +23,8 @@ use crate::lines::largest_of_group;
 use crate::lines::largest_position;
 use ledger::order::Order;
 use ledger::order::Side;
+use ledger::roster::instrument_group_in;
+use ledger::roster::weight_in;
 use ledger::units::Contracts;
 use ledger::units::Weighted;
 use positions::GroupPosition;
@@ -30,7 +32,6 @@ use positions::cell;
 use positions::potential;
 use positions::weigh;
 use words::signed_word;
-use words::word;
 
 // 21 or 22.
 fn instrument_refusal(side: Side) -> Answer
@@ -113,8 +114,7 @@ fn group_with(
         +ℤ pos (natAbs weight) *ℤ added .0)
         ⌝ }
 {
-    let contract = word(roster, 11 + o.instrument as usize) as usize;
-    let group = word(roster, 3 + contract);
+    let group = instrument_group_in(roster, o.instrument as usize);
     let before = weigh(cells, balances, roster, group);
     let rise = added.times(magnitude(weight));
     on_side(to, before).plus(rise)
@@ -148,7 +148,7 @@ pub fn positions_within(
     if !instrument_with(cells, balances, o, added).at_most(most) {
         return instrument_refusal(side);
     }
-    let weight = signed_word(roster, 43 + o.instrument as usize);
+    let weight = weight_in(roster, o.instrument as usize);
     if weight == 0 {
         return Answer::Accepted;
     }

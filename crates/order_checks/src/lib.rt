@@ -6,102 +6,80 @@ ghost use Prim.Native.Nat.{_≤_};
 ghost use lib.ListN.{length};
 ghost use lib.IntN.{pos, natAbs};
 ghost use Rattle.ledger.specs.declared.order.Order.{Order};
-ghost use Rattle.ledger.specs.Roster.{Numbered};
 ghost use Rattle.ledger.specs.Derivatives.{one};
+ghost use Rattle.limits.specs.Lines.{lineInForce};
 ghost use Rattle.limits.specs.Raised.{Raised};
 ghost use Rattle.limits.specs.Questions.{firstNo};
 ghost use Rattle.limits.specs.Asked.{positionQuestions};
 ghost use Rattle.limits.specs.Numbers.{existenceQuestions};
 ghost use Rattle.limits.specs.Answers.{numberOf};
 ghost use Rattle.layout.specs.View.{rosterOf, linesOf, balancesOf, openOrders};
+ghost use Rattle.layout.specs.Readable.{HoldsLine};
 ghost use Rattle.soundness.specs.Cells.{Sums};
-ghost use Rattle.soundness.specs.SoundMemory.{SoundMemory};
 ghost use Rattle.order_checks.specs.Questions.{admission, withinLimits, OnRoster, Sizable};
-ghost use Rattle.order_checks.specs.OrderFields.{ContractOf, GroupOf, lineBytes, cellsOf};
-use layout::table::ACCOUNT_BLOCKS;
-use layout::table::BALANCES;
-use layout::table::CONTRACTS_OF;
-use layout::table::DEFAULT_LINES;
-use layout::table::DEFAULT_SET;
-use layout::table::GROUP_BLOCKS;
-use layout::table::GROUP_LINES;
-use layout::table::GROUP_SET;
-use layout::table::GROUPS_OF;
-use layout::table::INSTRUMENT_BLOCKS;
-use layout::table::OWN_LINES;
-use layout::table::OWN_SET;
-use layout::table::ROSTER;
+ghost use Rattle.order_checks.specs.OrderFields.{Under, cellsOf};
+use layout::readers::account_is_blocked;
+use layout::readers::balances;
+use layout::readers::default_set;
+use layout::readers::group_is_blocked;
+use layout::readers::group_line;
+use layout::readers::group_set;
+use layout::readers::instrument_is_blocked;
+use layout::readers::line_in_force;
+use layout::readers::own_set;
+use layout::roster::contract_of;
+use layout::roster::group_of;
+use layout::roster::roster;
 use ledger::order::Order;
 use ledger::units::Contracts;
 use limits::answer::Answer;
-use limits::lines::line_in_force;
 use limits::questions::limits_exist;
 use limits::questions::order_size;
 use limits::within::positions_within;
-use words::part;
-use words::word;
 
-// The contract of an instrument.
-fn contract_of(m: &[u8], instrument: usize) -> usize
-    requires { ⌜ SoundMemory (now m) × Numbered (rosterOf (now m) .instruments) instrument ⌝ }
-    ensures { λ r. ⌜ ContractOf (now (m .entry)) instrument r ⌝ }
-{
-    word(m, CONTRACTS_OF + instrument) as usize
+// The contract and the group of an order's instrument, looked up once for an event.
+pub struct Underlying {
+    pub contract: usize,
+    pub group: usize,
 }
 
-// The group of a contract.
-fn group_of(m: &[u8], contract: usize) -> usize
-    requires { ⌜ SoundMemory (now m) × Numbered (rosterOf (now m) .contracts) contract ⌝ }
-    ensures { λ r. ⌜ GroupOf (now (m .entry)) contract r ⌝ }
+pub fn underlying_of(m: &[u8], o: Order) -> Underlying
+    requires { ⌜ OnRoster (now m) o ⌝ }
+    ensures { λ r. ⌜ Under (now (m .entry)) o r ⌝ }
 {
-    word(m, GROUPS_OF + contract) as usize
+    let contract = contract_of(m, o.instrument as usize);
+    let group = group_of(m, contract);
+    Underlying { contract, group }
 }
 
 // 17.
-fn configured(m: &[u8], o: Order, contract: usize, group: usize) -> Answer
-    requires { ⌜ OnRoster (now m) o × ContractOf (now m) (o .instrument) contract × GroupOf (now m) contract group ⌝ }
+fn configured(m: &[u8], o: Order, under: Underlying) -> Answer
+    requires { ⌜ OnRoster (now m) o × Under (now m) o under ⌝ }
     ensures { λ r. ⌜ numberOf r ≡ firstNo (existenceQuestions (rosterOf (now (m .entry))) (linesOf (now (m .entry)) (o .account)) o) ⌝ }
 {
     let account = o.account as usize;
-    let instrument = o.instrument as usize;
-    let own = word(m, OWN_SET + account * 32 + instrument);
-    let default = word(m, DEFAULT_SET + account * 8 + contract);
-    let of_group = word(m, GROUP_SET + account * 4 + group);
+    let own = own_set(m, account, o.instrument as usize);
+    let default = default_set(m, account, under.contract);
+    let of_group = group_set(m, account, under.group);
     limits_exist(own, default, of_group)
 }
 
 // 14 to 17: are account, instrument and group unblocked, and are the limits set?
-pub fn admitted(m: &[u8], o: Order) -> Answer
-    requires { ⌜ OnRoster (now m) o ⌝ }
+pub fn admitted(m: &[u8], o: Order, under: Underlying) -> Answer
+    requires { ⌜ OnRoster (now m) o × Under (now m) o under ⌝ }
     ensures { λ r. ⌜ numberOf r ≡ firstNo (admission (now (m .entry)) o) ⌝ }
 {
     let account = o.account as usize;
-    let instrument = o.instrument as usize;
-    let contract = contract_of(m, instrument);
-    let group = group_of(m, contract);
-    if word(m, ACCOUNT_BLOCKS + account) != 0 {
+    if account_is_blocked(m, account) {
         return Answer::AccountBlocked;
     }
-    if word(m, INSTRUMENT_BLOCKS + instrument) != 0 {
+    if instrument_is_blocked(m, o.instrument as usize) {
         return Answer::InstrumentBlocked;
     }
-    if word(m, GROUP_BLOCKS + account * 4 + group) != 0 {
+    if group_is_blocked(m, account, under.group) {
         return Answer::GroupBlocked;
     }
-    configured(m, o, contract, group)
-}
-
-// The bytes of the line in force.
-fn line_of<'a>(m: &'a [u8], o: Order, contract: usize) -> &'a [u8]
-    requires { ⌜ OnRoster (now m) o × ContractOf (now m) (o .instrument) contract ⌝ }
-    ensures { λ r. ⌜ now r ≡ lineBytes (now (m .entry)) o ⌝ }
-{
-    let account = o.account as usize;
-    let instrument = o.instrument as usize;
-    let own = part(m, OWN_LINES + account * 84, 66);
-    let default = part(m, DEFAULT_LINES + account * 84, 18);
-    let set = word(m, OWN_SET + account * 32 + instrument);
-    line_in_force(own, default, set, instrument, contract)
+    configured(m, o, under)
 }
 
 // B and V of an account.
@@ -121,14 +99,14 @@ fn positions_of(
     o: Order,
     added: Contracts,
     line: &[u8],
-    contract: usize,
+    under: Underlying,
 ) -> Answer
     requires { ⌜
         Sizable (now m) o (natAbs (added .0))
         × (added .0 ≡ pos (natAbs (added .0)))
         × Sums (now cells) (openOrders (now m))
-        × ContractOf (now m) (o .instrument) contract
-        × (now line ≡ lineBytes (now m) o)
+        × Under (now m) o under
+        × HoldsLine (now line) (lineInForce (rosterOf (now m)) (linesOf (now m) (o .account)) (o .instrument))
         ⌝ }
     ensures { λ r. ⌜
         ((after : List Order) →
@@ -140,28 +118,25 @@ fn positions_of(
 {
     let account = o.account as usize;
     let own = cells_of(cells, account);
-    let balances = part(m, BALANCES + account * 32, 33);
-    let roster = part(m, ROSTER, 76);
-    let of_groups = part(m, GROUP_LINES + account * 84, 5);
-    let of_group = part(of_groups, group_of(m, contract), 1);
-    positions_within(own, balances, roster, line, of_group, o, added)
+    let of_account = balances(m, account);
+    let of_group = group_line(m, account, under.group);
+    positions_within(own, of_account, roster(m), line, of_group, o, added)
 }
 
 // 19 to 24, of the order as the event enters it or raises it to, `added` contracts more of it then being open. The cells hold B and V of
 // all accounts.
-pub fn within_limits(m: &[u8], cells: &[u64], o: Order, added: u64) -> Answer
-    requires { ⌜ Sizable (now m) o added × Sums (now cells) (openOrders (now m)) ⌝ }
+pub fn within_limits(m: &[u8], cells: &[u64], o: Order, added: u64, under: Underlying) -> Answer
+    requires { ⌜ Sizable (now m) o added × Sums (now cells) (openOrders (now m)) × Under (now m) o under ⌝ }
     ensures { λ r. ⌜
         ((after : List Order) →
         Raised added o (openOrders (now (m .entry))) after →
         numberOf r ≡ firstNo (withinLimits (now (m .entry)) after o))
         ⌝ }
 {
-    let contract = contract_of(m, o.instrument as usize);
-    let line = line_of(m, o, contract);
+    let line = line_in_force(m, o.account as usize, o.instrument as usize, under.contract);
     let side = o.side;
     match order_size(line, side, Contracts::of(o.total)) {
-        Answer::Accepted => positions_of(m, cells, o, Contracts::of(added), line, contract),
+        Answer::Accepted => positions_of(m, cells, o, Contracts::of(added), line, under),
         no => no,
     }
 }

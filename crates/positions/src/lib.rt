@@ -15,10 +15,12 @@ ghost use Rattle.positions.specs.Bounds.{CellBounds, GatherBounds, Roste
 use ledger::order::Order;
 use ledger::order::Side;
 use ledger::records::load;
+use ledger::roster::instrument_group_in;
+use ledger::roster::instruments_in;
+use ledger::roster::weight_in;
 use ledger::units::Contracts;
 use ledger::units::Weighted;
 use words::signed_word;
-use words::word;
 
 // The balance of an instrument and its potential positions.
 pub struct InstrumentPosition {
@@ -185,11 +187,10 @@ fn with_part(
     ensures { λ r. ⌜ ((w : Way) → onWay w (r .long .0) (r .short .0) ≡ onWay w (sum .long .0) (sum .short .0) +ℤ partByCells
         (now (cells .entry)) (balancesIn (now (balances .entry))) (rosterIn (now (roster .entry))) group i w) ⌝ }
 {
-    let contract = word(roster, 11 + i) as usize;
-    if word(roster, 3 + contract) != group {
+    if instrument_group_in(roster, i) != group {
         return sum;
     }
-    let weight = signed_word(roster, 43 + i);
+    let weight = weight_in(roster, i);
     let at = by_cells(cells, balances, i);
     let long = group_part(Side::Buy, weight, at.long, at.short);
     let short = group_part(Side::Sell, weight, at.long, at.short);
@@ -205,7 +206,7 @@ pub fn weigh(cells: &[u64], balances: &[u8], roster: &[u8], group: u64) -> Group
     ensures { λ r. ⌜ ((w : Way) → onWay w (r .long .0) (r .short .0) ≡ sumByCells (now (cells .entry)) (balancesIn (now (balances .entry)))
         (rosterIn (now (roster .entry))) group (rosterIn (now (roster .entry)) .instruments) w) ⌝ }
 {
-    let instruments = word(roster, 3) as usize;
+    let instruments = instruments_in(roster) as usize;
     let mut sum = GroupPosition {
         long: Weighted::none(),
         short: Weighted::none(),

@@ -7,7 +7,7 @@ use native.Mathlib.Omega.{arith}
 use lib.IntN.{ℤ}
 use lib.ListN.{length}
 use borrow.Author.Tests.{eq-eqb, ne-eqb}
-use Rattle.words.specs.Words.{wordAt, partOf}
+use Rattle.words.specs.Words.{wordAt}
 use Rattle.positions.specs.declared.InstrumentPosition.{InstrumentPosition}
 use Rattle.positions.specs.declared.GroupPosition.{GroupPosition}
 use Rattle.ledger.specs.Roster.{Numbered}
@@ -23,11 +23,12 @@ use Rattle.book.specs.Decoding.{between}
 use Rattle.limits.proofs.Refused.{Refusal, not-zero}
 use Rattle.book.specs.Market.{derivatives}
 use Rattle.book.proofs.Tables.{between-numbered}
-use Rattle.layout.specs.Layout.{rosterWord, countWord, balanceRow}
-use Rattle.layout.specs.View.{rosterOf, recordsOf, openOrders}
+use Rattle.layout.specs.Layout.{countWord}
+use Rattle.layout.specs.View.{rosterPart, rosterOf, balancesPart, recordsOf, openOrders}
+use Rattle.layout.proofs.FieldsRead.{balance-in}
 use Rattle.soundness.specs.Soundness.{soundDesk}
 use Rattle.soundness.proofs.SoundDesk.{sound-out}
-use Rattle.soundness.proofs.Bounded.{row-balance}
+use Rattle.soundness.proofs.Bounded.{sound-readable}
 use Rattle.soundness.proofs.Agreement.{words-potential}
 use Rattle.reading.specs.declared.Item.{Item}
 use Rattle.reading.specs.Reading.{Read, itemsOf, numberIn, itemAnswer}
@@ -89,14 +90,14 @@ module _ {answer : ℕ} (r : Answer) (told : numberOf r ≡ answer) where
 -- ---- what the ledger answers over the desk's parts is the report
 module _ (m : List ℕ) (a : ℕ) (read : Read m a) where
   pub instrument-told : (i : ℕ) → Numbered (rosterOf m .instruments) i → (p : InstrumentPosition)
-      → InInstrument (recordsOf m) (wordAt m countWord) (partOf m (balanceRow a) 33) a i p
+      → InInstrument (recordsOf m) (wordAt m countWord) (balancesPart m a) a i p
       → p .balance .0 ∷ p .long .0 ∷ p .short .0 ∷ [] ≡ instrumentReport m a i
   unfolding instrumentReport positionIn openOrders derivatives potential
   instrument-told i on p told =
       let os = ordersFrom (recordsOf m) 0 (wordAt m countWord) in
       rw (
         told .its-balance,
-        row-balance m (read .held) a (read .account) i on,
+        balance-in m a (read .account) (sound-readable m (read .held)) i on,
         told .its-long,
         told .its-short,
         ← words-potential m (read .held) a (read .account) one os (instrument i) on long,
@@ -104,7 +105,7 @@ module _ (m : List ℕ) (a : ℕ) (read : Read m a) where
       )
 
   pub group-told : (g : ℕ) (p : GroupPosition)
-      → InGroup (recordsOf m) (wordAt m countWord) (partOf m (balanceRow a) 33) (partOf m rosterWord 76) a g p
+      → InGroup (recordsOf m) (wordAt m countWord) (balancesPart m a) (rosterPart m) a g p
       → p .long .0 ∷ p .short .0 ∷ [] ≡ groupReport m a g
   unfolding groupReport positionIn openOrders derivatives
   group-told g p told =

@@ -8,22 +8,20 @@ ghost use Rattle.layout.specs.View.{rosterOf};
 ghost use Rattle.book.specs.Decoding.{between};
 ghost use Rattle.reading.specs.Reading.{itemsOf, numberIn, itemAnswer};
 ghost use Rattle.reading.specs.Reading.{Read, instrumentAnswer, groupAnswer, instrumentReport, groupReport, reported};
+use layout::orders::count;
 use layout::orders::records;
-use layout::table::BALANCES;
-use layout::table::COUNT;
-use layout::table::ROSTER;
+use layout::readers::balances;
+use layout::roster::account_known;
+use layout::roster::between;
+use layout::roster::groups;
+use layout::roster::instruments;
+use layout::roster::roster;
 use ledger::units::Contracts;
 use ledger::units::Weighted;
 use limits::answer::Answer;
 use order_list::listed_position;
 use positions::group_position;
 use soundness::is_sound;
-use soundness::ranges::between;
-use soundness::roster::accounts;
-use soundness::roster::groups;
-use soundness::roster::instruments;
-use words::part;
-use words::word;
 
 // What positions are read of.
 pub enum Item {
@@ -51,8 +49,8 @@ fn instrument_report(m: &[u8], account: u64, instrument: u64) -> [i64; 3]
 {
     let at = listed_position(
         records(m),
-        word(m, COUNT) as usize,
-        part(m, BALANCES + account as usize * 32, 33),
+        count(m),
+        balances(m, account as usize),
         account,
         instrument,
     );
@@ -69,9 +67,9 @@ fn group_report(m: &[u8], account: u64, group: u64) -> [i64; 2]
 {
     let at = group_position(
         records(m),
-        word(m, COUNT) as usize,
-        part(m, BALANCES + account as usize * 32, 33),
-        part(m, ROSTER, 76),
+        count(m),
+        balances(m, account as usize),
+        roster(m),
         account,
         group,
     );
@@ -98,7 +96,7 @@ fn answer_to(m: &[u8], account: u64, item: Item) -> Answer
     if !is_sound(m) {
         return Answer::NoSoundDesk;
     }
-    if !between(1, accounts(m), account) {
+    if !account_known(m, account) {
         return Answer::UnknownAccount;
     }
     if !on_roster(m, item) {

@@ -8,9 +8,6 @@ use lib.IntN.{ℤ, pos, negsuc, natAbs}
 use lib.Signed.{leZ, ltZ}
 use borrow.Author.Tests.{not-true, not-false, le-leb, lt-leb}
 use Rattle.integers.specs.Parts.{signed, magnitude-parts}
-use Rattle.ledger.specs.Roster.{Numbered}
-use Rattle.limits.proofs.Answers.{and-true}
-use Rattle.book.specs.Decoding.{between}
 
 -- the answer t to a test u, asked by `!`
 pub answered-no : (t u : Bool) → t ≡ u → not t ≡ true → u ≡ false
@@ -24,16 +21,7 @@ pub same-test : (t u : Bool) → (t ≡ true → u ≡ true) → (t ≡ false �
 same-test true u f g = sym (f refl)
 same-test false u f g = sym (g refl)
 
-pub numbered-between : (most n : ℕ) → Numbered most n → between 1 most n ≡ true
-numbered-between most n h = and-true (leb 1 n) (leb n most) (le-leb 1 n (h .0)) (le-leb n most (h .1))
-
 -- ---- what the code's tests answer
-pub below-range : (low high n : ℕ) → n < low → false ≡ between low high n
-below-range low high n h = rw (lt-leb low n h)
-
-pub above-low : (low high n : ℕ) → low ≤ n → leb n high ≡ between low high n
-above-low low high n h = rw (le-leb low n h)
-
 -- x is what was read of y
 pub over : (most x y : ℕ) → x ≡ y → most < x → leb y most ≡ false
 over most x y e h = lt-leb y most (omega arith)

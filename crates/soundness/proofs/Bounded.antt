@@ -1,13 +1,12 @@
 -- What a memory that holds a sound desk gives to the functions over its parts: the records are there, and no number is too large.
-use Prim.Native.Nat.{ℕ, _+_, _*_, _≤_, _<_}
-use mathlib.Core.Path.{_≡_, refl, sym, ap, _∙_}
+use Prim.Native.Nat.{ℕ, _*_, _≤_, _<_}
+use mathlib.Core.Path.{ap}
 use mathlib.Core.List.{List}
 use native.Mathlib.Omega.{arith}
 use lib.IntN.{negℤ, natAbs}
 use lib.ListN.{length}
 use Rattle.integers.specs.Parts.{signed, sum-parts, negation-parts, magnitude-parts}
-use Rattle.words.specs.Words.{wordAt, signedAt, partOf}
-use Rattle.words.proofs.Parts.{length-part, word-part}
+use Rattle.words.specs.Words.{wordAt}
 use Rattle.ledger.specs.declared.order.Side.{Side}
 use Rattle.ledger.specs.declared.order.Side.the-variants.{Buy, Sell}
 use Rattle.ledger.specs.Orders.{remaining}
@@ -19,36 +18,15 @@ use Rattle.ledger.specs.Derivatives.{one}
 use Rattle.positions.proofs.Counting.{small-orders}
 use Rattle.ledger.proofs.Sums.{open-nonneg}
 use Rattle.book.specs.Market.{derivatives}
-use Rattle.layout.specs.Layout.{countWord, rosterWord, balanceRow}
-use Rattle.layout.specs.Rosters.{listed}
-use Rattle.layout.specs.View.{rosterOf, balancesOf, recordsOf, openOrders, bookOf, tradingOf, view}
+use Rattle.layout.specs.Layout.{countWord}
+use Rattle.layout.specs.View.{rosterPart, rosterOf, balancesPart, balancesOf, recordsOf, openOrders, bookOf, tradingOf, view}
+use Rattle.layout.specs.Readable.{Readable}
 use Rattle.layout.proofs.OrderRecords.{records-long}
-use Rattle.soundness.specs.Cells.{Readable}
+use Rattle.layout.proofs.RosterRead.{roster-long, instruments-same, contract-same, weight-same}
+use Rattle.layout.proofs.FieldsRead.{balances-long, balance-in}
 use Rattle.soundness.specs.SoundMemory.{SoundMemory}
-use Rattle.soundness.proofs.PositionTests.{balance-word}
 use Rattle.soundness.proofs.Records.{remaining-small}
-use Rattle.soundness.proofs.RosterLaws.{roster-long, contract-word, weight-word}
 use Rattle.soundness.proofs.SoundDesk.{all-fit, sound-count, sound-records}
-
--- a signed word of a part is one of the whole
-signed-part : (m : List ℕ) (k n j : ℕ) → j < n → signedAt (partOf m k n) j ≡ signedAt m (k + j)
-unfolding signedAt
-signed-part m k n j h = rw (word-part m k n j h)
-
--- what the roster's words say, where they are on the roster
-module _ (m : List ℕ) where
-  pub instruments-same : rosterIn (partOf m rosterWord 76) .instruments ≡ rosterOf m .instruments
-  unfolding rosterOf listed
-  instruments-same = refl
-
-  pub contract-same : (i : ℕ) → Numbered (rosterOf m .instruments) i
-      → rosterOf m .contractOf i ≡ rosterIn (partOf m rosterWord 76) .contractOf i
-  unfolding rosterIn
-  contract-same = contract-word m
-
-  pub weight-same : (i : ℕ) → Numbered (rosterOf m .instruments) i → rosterOf m .weight i ≡ rosterIn (partOf m rosterWord 76) .weight i
-  unfolding rosterIn
-  weight-same = weight-word m
 
 module _ (m : List ℕ) (h : SoundMemory m) where
   pub sound-readable : Readable m
@@ -64,7 +42,7 @@ module _ (m : List ℕ) (h : SoundMemory m) where
       }
 
   -- ---- the roster
-  pub roster-bounds : RosterBounds (partOf m rosterWord 76) (rosterIn (partOf m rosterWord 76))
+  pub roster-bounds : RosterBounds (rosterPart m) (rosterIn (rosterPart m))
   roster-bounds =
       let f = h .book .roster in
       record {
@@ -114,20 +92,13 @@ module _ (m : List ℕ) (h : SoundMemory m) where
       )
 
   module _ (a : ℕ) (on : Numbered (rosterOf m .accounts) a) where
-    pub row-there : length (partOf m (balanceRow a) 33) ≡ 264
-    row-there = length-part m (balanceRow a) 33 (omega (arith, h .long, sound-readable .accounts))
-
-    pub row-balance : (i : ℕ) → Numbered (rosterOf m .instruments) i → signedAt (partOf m (balanceRow a) 33) i ≡ balancesOf m a i
-    row-balance i l =
-        signed-part m (balanceRow a) 33 i (omega (arith, sound-readable .instruments)) ∙ sym (balance-word m a i on l)
-
     pub instrument-bounds : (i : ℕ) → Numbered (rosterOf m .instruments) i
-        → InstrumentBounds (recordsOf m) (wordAt m countWord) (partOf m (balanceRow a) 33) a i
+        → InstrumentBounds (recordsOf m) (wordAt m countWord) (balancesPart m a) a i
     instrument-bounds i l =
         record {
           orders-long = records-there;
-          balances-long = omega (arith, row-there, sound-readable .instruments);
-          small = λ s. omega (arith, open-small s a i, ap natAbs (row-balance i l), balance-small a i);
+          balances-long = omega (arith, balances-long m a on sound-readable, sound-readable .instruments);
+          small = λ s. omega (arith, open-small s a i, ap natAbs (balance-in m a on sound-readable i l), balance-small a i);
         }
 
     gather-bounds : GatherBounds (recordsOf m) (wordAt m countWord) a
@@ -138,12 +109,12 @@ module _ (m : List ℕ) (h : SoundMemory m) where
           unfilled = λ s i. omega (arith, open-small s a i);
         }
 
-    balance-bounds : BalanceBounds (partOf m (balanceRow a) 33) (rosterIn (partOf m rosterWord 76) .instruments)
+    balance-bounds : BalanceBounds (balancesPart m a) (rosterIn (rosterPart m) .instruments)
     balance-bounds =
         record {
-          long = omega (arith, row-there);
-          balance = λ i l. omega (arith, ap natAbs (row-balance i (rw (instruments-same m) at l)), balance-small a i);
+          long = omega (arith, balances-long m a on sound-readable);
+          balance = λ i l. omega (arith, ap natAbs (balance-in m a on sound-readable i (rw (instruments-same m) at l)), balance-small a i);
         }
 
-    pub group-bounds : GroupBounds (recordsOf m) (wordAt m countWord) (partOf m (balanceRow a) 33) (partOf m rosterWord 76) a
+    pub group-bounds : GroupBounds (recordsOf m) (wordAt m countWord) (balancesPart m a) (rosterPart m) a
     group-bounds = record { orders-small = gather-bounds; balances-small = balance-bounds; roster-small = roster-bounds }

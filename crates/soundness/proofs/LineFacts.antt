@@ -1,5 +1,5 @@
 -- The lines' condition as facts, and back: the figures of every line on the roster are in range, and so those that are set.
-use Prim.Native.Nat.{ℕ, _+_, _*_, _≤_, _<_}
+use Prim.Native.Nat.{ℕ, _+_, _<_}
 use mathlib.Core.Path.{_≡_, refl}
 use mathlib.Core.Bool.{Bool, true, false, _&&_, cond}
 use mathlib.Core.List.{List}
@@ -7,19 +7,18 @@ use mathlib.Core.Option.{none, some}
 use native.Mathlib.Omega.{arith}
 use lib.Dec.{leb}
 use borrow.Author.Tests.{leb-true, le-leb}
-use Rattle.words.specs.Bytes.{Bytes}
-use Rattle.words.specs.Fields.{u32At}
-use Rattle.words.proofs.HalfWords.{lower-field, upper-field}
 use Rattle.ledger.specs.Roster.{Numbered}
 use Rattle.limits.specs.Lines.{Line, GroupLine}
-use Rattle.limits.specs.InBytes.{lineAt, groupLineAt}
+use Rattle.limits.specs.InBytes.{groupLineAt}
 use Rattle.limits.proofs.Answers.{both-true}
 use Rattle.book.specs.Decoding.{between}
 use Rattle.book.specs.Sound.{LineFits, GroupLineFits, LinesFit}
 use Rattle.book.proofs.Tables.{between-numbered}
-use Rattle.layout.specs.Layout.{ownSetRow, defaultSetRow, groupSetRow, ownRow, defaultRow, groupRow}
+use Rattle.layout.specs.Layout.{ownSetRow, defaultSetRow, groupSetRow}
 use Rattle.layout.specs.Rosters.{every}
-use Rattle.layout.specs.View.{rosterOf, flag, onRoster, linesOf}
+use Rattle.layout.specs.View.{rosterOf, flag, onRoster, ownFigures, defaultFigures, groupFigures, linesRow, linesOf}
+use Rattle.layout.specs.Readable.{Readable}
+use Rattle.layout.proofs.LinesInRows.{own-fits, default-fits, group-fits}
 use Rattle.soundness.specs.Soundness.{lineInRange, groupLineInRange, accountLinesSound, linesSound}
 use Rattle.soundness.specs.SoundMemory.{Figures}
 use Rattle.layout.proofs.Every.{every-out, every-in}
@@ -54,49 +53,28 @@ pub group-line-in : (l : GroupLine) → GroupLineFits 1000000000 l → groupLine
 unfolding groupLineInRange
 group-line-in l f = rw (le-leb (l .lcc) 1000000000 (f .lcc)) (le-leb (l .lvc) 1000000000 (f .lvc))
 
--- ---- the 168 figures of an account's row, as numbers of 32 bits
-module _ (m : List ℕ) (bytes : Bytes m) (a : ℕ) (all : (p : ℕ) → (ownRow a + 2) * 2 ≤ p → p < (ownRow a + 2) * 2 + 168
-    → u32At m (p * 4) ≤ 1000000000) where
-  word-within : (k : ℕ) → ownRow a + 2 ≤ k → k < ownRow a + 86 → GroupLineFits 1000000000 (groupLineAt m k)
-  unfolding groupLineAt
-  word-within k low high =
-      let first : k * 2 * 4 ≡ k * 8 = omega arith in
-      let second : (k * 2 + 1) * 4 ≡ k * 8 + 4 = omega arith in
-      record {
-        lcc = rw (← lower-field m k bytes, ← first) (all (k * 2) (omega arith) (omega arith));
-        lvc = rw (← upper-field m k bytes, ← second) (all (k * 2 + 1) (omega arith) (omega arith));
-      }
-
-  line-within : (k : ℕ) → ownRow a + 2 ≤ k → k + 1 < ownRow a + 86 → LineFits 1000000000 (lineAt m k)
-  unfolding lineAt groupLineAt
-  line-within k low high =
-      let x = word-within k low (omega arith) in
-      let y = word-within (k + 1) (omega arith) high in
-      record { tci = x .lcc; tvi = x .lvc; lci = y .lcc; lvi = y .lvc }
-
-  pub row-within : rosterOf m .instruments ≤ 32 → rosterOf m .contracts ≤ 8 → rosterOf m .groups ≤ 4 → accountLinesSound m a ≡ true
-  unfolding accountLinesSound
-  row-within instruments contracts groups =
-      let r = rosterOf m in
-      rw (
-        every-in (λ i. lineInRange (lineAt m (ownRow a + i * 2))) (r .instruments)
-            (λ i h. line-in _ (line-within (ownRow a + i * 2) (omega arith) (omega arith))),
-        every-in (λ c. lineInRange (lineAt m (defaultRow a + c * 2))) (r .contracts)
-            (λ c h. line-in _ (line-within (defaultRow a + c * 2) (omega arith) (omega arith))),
-      )
-      (every-in (λ g. groupLineInRange (groupLineAt m (groupRow a + g))) (r .groups)
-      (λ g h. group-line-in _ (word-within (groupRow a + g) (omega arith) (omega arith))))
+-- ---- every word of an account's row in range at once
+pub row-within : (m : List ℕ) → Readable m → (a : ℕ) → Numbered (rosterOf m .accounts) a
+    → ((j : ℕ) → j < 84 → GroupLineFits 1000000000 (groupLineAt (linesRow m a) j)) → accountLinesSound m a ≡ true
+unfolding accountLinesSound
+row-within m readable a on fits =
+    let r = rosterOf m in
+    rw (
+      every-in (λ i. lineInRange (ownFigures m a i)) (r .instruments) (λ i h. line-in _ (own-fits m readable a on _ fits i h)),
+      every-in (λ c. lineInRange (defaultFigures m a c)) (r .contracts) (λ c h. line-in _ (default-fits m readable a on _ fits c h)),
+    )
+    (every-in (λ g. groupLineInRange (groupFigures m a g)) (r .groups) (λ g h. group-line-in _ (group-fits m readable a on _ fits g h)))
 
 -- ---- all lines of the roster
 module _ (m : List ℕ) where
   own-test : ℕ → ℕ → Bool
-  own-test a i = lineInRange (lineAt m (ownRow a + i * 2))
+  own-test a i = lineInRange (ownFigures m a i)
 
   default-test : ℕ → ℕ → Bool
-  default-test a c = lineInRange (lineAt m (defaultRow a + c * 2))
+  default-test a c = lineInRange (defaultFigures m a c)
 
   group-test : ℕ → ℕ → Bool
-  group-test a g = groupLineInRange (groupLineAt m (groupRow a + g))
+  group-test a g = groupLineInRange (groupFigures m a g)
 
   -- the three rows of an account
   rows : linesSound m ≡ true → (a : ℕ) → Numbered (rosterOf m .accounts) a → (every (rosterOf m .instruments) (own-test a) ≡ true)
@@ -112,11 +90,11 @@ module _ (m : List ℕ) where
   unfolding own-test default-test group-test
   figures-out e =
       record {
-        own = λ a i h l. line-out (lineAt m (ownRow a + i * 2)) (every-out (own-test a) (rosterOf m .instruments) (rows e a h .0) i l);
+        own = λ a i h l. line-out (ownFigures m a i) (every-out (own-test a) (rosterOf m .instruments) (rows e a h .0) i l);
         default =
-            λ a c h l. line-out (lineAt m (defaultRow a + c * 2)) (every-out (default-test a) (rosterOf m .contracts) (rows e a h .1) c l);
+            λ a c h l. line-out (defaultFigures m a c) (every-out (default-test a) (rosterOf m .contracts) (rows e a h .1) c l);
         ofGroup =
-            λ a g h l. group-line-out (groupLineAt m (groupRow a + g)) (every-out (group-test a) (rosterOf m .groups) (rows e a h .2) g l);
+            λ a g h l. group-line-out (groupFigures m a g) (every-out (group-test a) (rosterOf m .groups) (rows e a h .2) g l);
       }
 
   pub figures-in : Figures m → linesSound m ≡ true
@@ -124,10 +102,10 @@ module _ (m : List ℕ) where
   figures-in f =
       every-in (accountLinesSound m) (rosterOf m .accounts)
       (λ a h. rw (
-        every-in (own-test a) (rosterOf m .instruments) (λ i l. line-in (lineAt m (ownRow a + i * 2)) (f .own a i h l)),
-        every-in (default-test a) (rosterOf m .contracts) (λ c l. line-in (lineAt m (defaultRow a + c * 2)) (f .default a c h l)),
+        every-in (own-test a) (rosterOf m .instruments) (λ i l. line-in (ownFigures m a i) (f .own a i h l)),
+        every-in (default-test a) (rosterOf m .contracts) (λ c l. line-in (defaultFigures m a c) (f .default a c h l)),
       )
-      (every-in (group-test a) (rosterOf m .groups) (λ g l. group-line-in (groupLineAt m (groupRow a + g)) (f .ofGroup a g h l))))
+      (every-in (group-test a) (rosterOf m .groups) (λ g l. group-line-in (groupFigures m a g) (f .ofGroup a g h l))))
 
   -- ---- those that are set
   set-on : {A : Type 0} (P : A → Type 0) (accounts numbers a n : ℕ) (t : Bool) (x l : A) → (Numbered accounts a → Numbered numbers n → P x)
@@ -148,11 +126,11 @@ module _ (m : List ℕ) where
       record {
         own =
             λ i l. set-on (LineFits 1000000000) (r .accounts) (r .instruments) a i (flag m (ownSetRow a + i))
-            (lineAt m (ownRow a + i * 2)) l (f .own a i);
+            (ownFigures m a i) l (f .own a i);
         default =
             λ c l. set-on (LineFits 1000000000) (r .accounts) (r .contracts) a c (flag m (defaultSetRow a + c))
-            (lineAt m (defaultRow a + c * 2)) l (f .default a c);
+            (defaultFigures m a c) l (f .default a c);
         ofGroup =
             λ g l. set-on (GroupLineFits 1000000000) (r .accounts) (r .groups) a g (flag m (groupSetRow a + g))
-            (groupLineAt m (groupRow a + g)) l (f .ofGroup a g);
+            (groupFigures m a g) l (f .ofGroup a g);
       }

@@ -1,13 +1,12 @@
 -- The orders' conditions as facts of the list of open orders, and back.
 use Prim.Native.Nat.{ℕ, zero, suc, _+_, _≤_, _<_}
-use mathlib.Core.Path.{_≡_, refl, ap}
+use mathlib.Core.Path.{_≡_, refl}
 use mathlib.Core.Logic.{⊎-elim}
 use mathlib.Core.Bool.{Bool, true}
 use mathlib.Core.List.{List, [], _∷_, List·Memᴰ, List·Memᴰ·head, List·Memᴰ·tail, List·Memᴰ·not-nil, List·Memᴰ·cases-cons}
 use native.Mathlib.Decide.{ℕ-discrete}
 use native.Mathlib.Omega.{arith}
 use lib.Dec.{ltb}
-use lib.ListN.{length}
 use borrow.Author.Tests.{ltb-true, lt-ltb}
 use Rattle.ledger.specs.declared.order.Order.{Order}
 use Rattle.ledger.specs.Roster.{Roster}
@@ -32,11 +31,6 @@ ascend-in (next {least} {o} {os} l a) = and-true (ltb least (o .id)) (ascend (o 
 
 -- ---- the list of n records from record p on
 module _ (s : List ℕ) where
-  pub length-orders : (p n : ℕ) → length (ordersFrom s p n) ≡ n
-  unfolding ordersFrom
-  length-orders p zero = refl
-  length-orders p (suc n) = ap suc (length-orders (p + 1) n)
-
   pub order-member : (p n q : ℕ) → p ≤ q → q < p + n → List·Memᴰ (orderAt s q) (ordersFrom s p n)
   unfolding ordersFrom
   order-member p zero q h l = absurd (omega arith)

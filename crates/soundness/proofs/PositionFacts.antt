@@ -17,7 +17,7 @@ use Rattle.book.specs.Sound.{OrderFits}
 use Rattle.book.proofs.Tables.{between-numbered}
 use Rattle.layout.specs.View.{rosterOf, balancesOf, openOrders}
 use Rattle.soundness.specs.Soundness.{positionSound, instrumentSound, accountSound, positionsSound}
-use Rattle.soundness.proofs.Asked.{numbered-between}
+use Rattle.layout.proofs.RosterLaws.{numbered-between}
 use Rattle.layout.proofs.Every.{every-out, every-in}
 
 -- the position of account a and instrument i on a side

@@ -8,21 +8,22 @@ use lib.ListN.{getD}
 use lib.IntN.{ℤ, pos, negℤ, natAbs, _+ℤ_, _-ℤ_}
 use lib.Signed.{leZ}
 use Rattle.integers.specs.Parts.{signed, sum-parts, difference-parts, negation-parts, magnitude-parts}
-use Rattle.words.specs.Words.{signedAt}
 use Rattle.ledger.specs.declared.order.Side.{Side}
 use Rattle.ledger.specs.declared.order.Side.the-variants.{Buy, Sell}
 use Rattle.ledger.specs.Roster.{Numbered}
 use Rattle.ledger.specs.Positions.{Way, long, short, toward, sideTo, ofInstrument}
+use Rattle.ledger.specs.Records.{balancesIn}
 use Rattle.ledger.specs.Derivatives.{one}
 use Rattle.positions.specs.Gathered.{cell}
 use Rattle.limits.proofs.Answers.{and-true}
 use Rattle.book.specs.Market.{derivatives}
-use Rattle.layout.specs.Layout.{balanceRow}
 use Rattle.layout.specs.Rosters.{every}
-use Rattle.layout.specs.View.{rosterOf, balancesOf, openOrders}
+use Rattle.layout.specs.View.{rosterOf, balancesPart, balancesOf, openOrders}
 use Rattle.soundness.specs.Soundness.{positionSound, instrumentSound}
-use Rattle.soundness.specs.Cells.{Readable, row, SmallSums}
-use Rattle.soundness.proofs.Asked.{same-test, numbered-between}
+use Rattle.layout.specs.Readable.{Readable}
+use Rattle.layout.proofs.FieldsRead.{balance-in}
+use Rattle.soundness.specs.Cells.{row, SmallSums}
+use Rattle.soundness.proofs.Asked.{same-test}
 use Rattle.layout.proofs.Every.{every-in}
 
 -- ---- positions
@@ -30,12 +31,6 @@ use Rattle.layout.proofs.Every.{every-in}
 pub unit-one : derivatives .unit ≡ one
 unfolding derivatives one
 unit-one = refl
-
--- the balance of an account and instrument on the roster
-pub balance-word : (m : List ℕ) (a i : ℕ) → Numbered (rosterOf m .accounts) a → Numbered (rosterOf m .instruments) i
-    → balancesOf m a i ≡ signedAt m (balanceRow a + i)
-unfolding balancesOf
-balance-word m a i h l = rw (numbered-between (rosterOf m .accounts) a h, numbered-between (rosterOf m .instruments) i l)
 
 -- the two tests of the code, beside any s
 long-same : (s : ℤ) (b : ℕ) → leZ s (pos 1000000000 -ℤ pos b) ≡ leZ (s +ℤ pos b) (pos 1000000000)
@@ -63,18 +58,17 @@ module _ (m cells : List ℕ) (a i : ℕ) (readable : Readable m) (gathered : Sm
   cell-small s = gathered .small s a i (h .0, omega (arith, readable .accounts)) (l .0, omega (arith, readable .instruments))
 
   position-cell : (w : Way) → positionSound m a i w ≡ leZ
-      (toward w (signedAt m (balanceRow a + i)) +ℤ pos (getD cells (row a + cell (sideTo w) i) 0)) (pos 1000000000)
+      (toward w (balancesOf m a i) +ℤ pos (getD cells (row a + cell (sideTo w) i) 0)) (pos 1000000000)
   unfolding positionSound ofInstrument
   position-cell w =
       rw (
         unit-one,
-        balance-word m a i h l,
         gathered .sums .accounts a (h .0, omega (arith, readable .accounts)) .sums (sideTo w) i
             (l .0, omega (arith, readable .instruments)),
       )
 
   -- s is the balance, b and v what the two cells hold
-  pub instrument-tested : (s b v : ℤ) → s ≡ signedAt m (balanceRow a + i) → b ≡ pos (getD cells (row a + cell Buy i) 0) →
+  pub instrument-tested : (s b v : ℤ) → s ≡ balancesOf m a i → b ≡ pos (getD cells (row a + cell Buy i) 0) →
       v ≡ pos (getD cells (row a + cell Sell i) 0) →
       (leZ s (pos 1000000000 +ℤ negℤ b) && leZ (v +ℤ negℤ (pos 1000000000)) s) ≡ instrumentSound m a i
   unfolding instrumentSound
@@ -84,10 +78,10 @@ module _ (m cells : List ℕ) (a i : ℕ) (readable : Readable m) (gathered : Sm
       rw (position-cell long, position-cell short, ← read, buys, sells, ← long-same s x, ← short-same s y)
 
   -- where it is small, whatever the cells hold
-  pub place-small : natAbs (signedAt m (balanceRow a + i)) ≤ 536870912 → instrumentSound m a i ≡ true
+  pub place-small : natAbs (balancesOf m a i) ≤ 536870912 → instrumentSound m a i ≡ true
   unfolding instrumentSound
   place-small small =
-      let s = signedAt m (balanceRow a + i) in
+      let s = balancesOf m a i in
       let within : (w : Way) → leZ (toward w s +ℤ pos (getD cells (row a + cell (sideTo w) i) 0)) (pos 1000000000) ≡ true =
       λ w. small-within w s (getD cells (row a + cell (sideTo w) i) 0) small (cell-small (sideTo w)) in
       and-true (positionSound m a i long) (positionSound m a i short) (position-cell long ∙ within long)
@@ -95,9 +89,9 @@ module _ (m cells : List ℕ) (a i : ℕ) (readable : Readable m) (gathered : Sm
 
 -- ---- the row of account a, all of it small
 pub row-small : (m cells : List ℕ) (a : ℕ) → Readable m → SmallSums cells (openOrders m) → Numbered (rosterOf m .accounts) a
-    → ((p : ℕ) → balanceRow a + 1 ≤ p → p < balanceRow a + 1 + 32 → natAbs (signedAt m p) ≤ 536870912)
+    → ((p : ℕ) → 1 ≤ p → p < 1 + 32 → natAbs (balancesIn (balancesPart m a) p) ≤ 536870912)
     → true ≡ every (rosterOf m .instruments) (instrumentSound m a)
 row-small m cells a readable gathered h small =
     sym (every-in (instrumentSound m a) (rosterOf m .instruments)
     (λ i l. place-small m cells a i readable gathered h l
-    (small (balanceRow a + i) (omega arith) (omega (arith, readable .instruments)))))
+    (rw (balance-in m a h readable i l) at (small i (omega arith) (omega (arith, readable .instruments))))))

@@ -12,7 +12,7 @@ use Rattle.limits.proofs.Answers.{both-true}
 use Rattle.book.specs.Decoding.{between}
 use Rattle.book.proofs.Tables.{between-numbered}
 use Rattle.soundness.specs.Soundness.{orderSound}
-use Rattle.soundness.proofs.Asked.{numbered-between}
+use Rattle.layout.proofs.RosterLaws.{numbered-between}
 
 pub record Fit (r : Roster) (trading : ℕ → Bool) (o : Order) : Type 0 where
   pub account : Numbered (r .accounts) (o .account)

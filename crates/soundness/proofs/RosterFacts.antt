@@ -13,7 +13,7 @@ use Rattle.book.proofs.Tables.{between-numbered}
 use Rattle.layout.specs.Rosters.{every, sizesFit, namesFit, weightsFit}
 use Rattle.layout.specs.View.{rosterOf}
 use Rattle.soundness.specs.Soundness.{rosterSound}
-use Rattle.soundness.proofs.Asked.{numbered-between}
+use Rattle.layout.proofs.RosterLaws.{numbered-between}
 use Rattle.layout.proofs.Every.{every-out, every-in}
 use Rattle.soundness.proofs.RosterLaws.{sound-sizes, sizes-numbered}
 

@@ -1,68 +1,43 @@
--- The roster that a memory holds: where its sizes and tables stand, and what acceptance asks of those words.
-use Prim.Native.Nat.{ℕ, _+_, _≤_}
-use mathlib.Core.Path.{_≡_, refl}
+-- The roster that a memory holds: what acceptance asks of the part with it, and what its sizes say.
+use Prim.Native.Nat.{ℕ, _≤_}
+use mathlib.Core.Path.{_≡_}
 use mathlib.Core.Bool.{true, _&&_}
 use mathlib.Core.List.{List}
-use native.Mathlib.Omega.{arith}
 use lib.Dec.{leb}
 use lib.IntN.{natAbs}
 use lib.ListN.{length}
-use Rattle.words.specs.Words.{wordAt, signedAt, partOf}
-use Rattle.words.proofs.Parts.{length-part}
 use Rattle.ledger.specs.Roster.{Numbered}
 use Rattle.ledger.specs.Records.{rosterIn}
 use Rattle.limits.proofs.Answers.{both-true}
 use Rattle.book.specs.Decoding.{between}
 use Rattle.book.proofs.Tables.{between-numbered}
-use Rattle.layout.specs.Layout.{rosterWord}
-use Rattle.layout.specs.Rosters.{listed, every, sizesFit, namesFit, weightsFit}
-use Rattle.layout.specs.View.{rosterOf}
+use Rattle.layout.specs.Rosters.{every, sizesFit, namesFit, weightsFit}
+use Rattle.layout.specs.View.{rosterPart, rosterOf}
 use Rattle.soundness.specs.Soundness.{rosterSound}
-use Rattle.soundness.specs.Cells.{Readable}
-use Rattle.soundness.proofs.Asked.{numbered-between}
+use Rattle.layout.specs.Readable.{Readable}
+use Rattle.layout.proofs.RosterRead.{group-same, contract-same, weight-same}
 use Rattle.layout.proofs.Every.{every-same}
 
--- the words of the roster
-pub roster-long : (m : List ℕ) → 65536 ≤ length m → length (partOf m rosterWord 76) ≡ 608
-roster-long m h = length-part m rosterWord 76 (omega arith)
-
 module _ (m : List ℕ) where
-  pub size-words : (wordAt (partOf m rosterWord 76) 0 ≡ rosterOf m .accounts) × (wordAt (partOf m rosterWord 76) 1 ≡ rosterOf m .groups)
-      × (wordAt (partOf m rosterWord 76) 2 ≡ rosterOf m .contracts) × (wordAt (partOf m rosterWord 76) 3 ≡ rosterOf m .instruments)
-  unfolding rosterOf listed rosterIn
-  size-words = (refl, refl, refl, refl)
-
-  pub group-word : (c : ℕ) → Numbered (rosterOf m .contracts) c → rosterOf m .groupOf c ≡ wordAt (partOf m rosterWord 76) (3 + c)
-  unfolding rosterOf listed rosterIn
-  group-word c h = rw (numbered-between (wordAt (partOf m rosterWord 76) 2) c h)
-
-  pub contract-word : (i : ℕ) → Numbered (rosterOf m .instruments) i → rosterOf m .contractOf i ≡ wordAt (partOf m rosterWord 76) (11 + i)
-  unfolding rosterOf listed rosterIn
-  contract-word i h = rw (numbered-between (wordAt (partOf m rosterWord 76) 3) i h)
-
-  pub weight-word : (i : ℕ) → Numbered (rosterOf m .instruments) i → rosterOf m .weight i ≡ signedAt (partOf m rosterWord 76) (43 + i)
-  unfolding rosterOf listed rosterIn
-  weight-word i h = rw (numbered-between (wordAt (partOf m rosterWord 76) 3) i h)
-
-  -- ---- acceptance, asked of those words
+  -- ---- acceptance, asked of the part with the roster
   pub names-tests : namesFit (rosterOf m) ≡ (every (rosterOf m .contracts)
-      (λ c. between 1 (rosterOf m .groups) (wordAt (partOf m rosterWord 76) (3 + c))) && every (rosterOf m .instruments)
-      (λ i. between 1 (rosterOf m .contracts) (wordAt (partOf m rosterWord 76) (11 + i))))
+      (λ c. between 1 (rosterOf m .groups) (rosterIn (rosterPart m) .groupOf c)) && every (rosterOf m .instruments)
+      (λ i. between 1 (rosterOf m .contracts) (rosterIn (rosterPart m) .contractOf i)))
   unfolding namesFit
   names-tests =
       rw (
         every-same (λ c. between 1 (rosterOf m .groups) (rosterOf m .groupOf c))
-            (λ c. between 1 (rosterOf m .groups) (wordAt (partOf m rosterWord 76) (3 + c))) (rosterOf m .contracts)
-            (λ c h. rw (group-word c h)),
+            (λ c. between 1 (rosterOf m .groups) (rosterIn (rosterPart m) .groupOf c)) (rosterOf m .contracts)
+            (λ c h. rw (group-same m c h)),
         every-same (λ i. between 1 (rosterOf m .contracts) (rosterOf m .contractOf i))
-            (λ i. between 1 (rosterOf m .contracts) (wordAt (partOf m rosterWord 76) (11 + i))) (rosterOf m .instruments)
-            (λ i h. rw (contract-word i h)),
+            (λ i. between 1 (rosterOf m .contracts) (rosterIn (rosterPart m) .contractOf i)) (rosterOf m .instruments)
+            (λ i h. rw (contract-same m i h)),
       )
 
   pub weights-tests : weightsFit (rosterOf m) ≡ every (rosterOf m .instruments)
-      (λ i. leb (natAbs (signedAt (partOf m rosterWord 76) (43 + i))) 1000000)
+      (λ i. leb (natAbs (rosterIn (rosterPart m) .weight i)) 1000000)
   unfolding weightsFit
-  weights-tests = every-same _ _ (rosterOf m .instruments) (λ i h. rw (weight-word i h))
+  weights-tests = every-same _ _ (rosterOf m .instruments) (λ i h. rw (weight-same m i h))
 
   -- ---- what the sizes say
   pub sizes-numbered : sizesFit (rosterOf m) ≡ true → Numbered 16 (rosterOf m .accounts) × Numbered 4 (rosterOf m .groups)

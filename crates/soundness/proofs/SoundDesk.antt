@@ -4,7 +4,6 @@ use mathlib.Core.Path.{_≡_}
 use mathlib.Core.Bool.{true}
 use mathlib.Core.List.{List, List·Memᴰ}
 use native.Mathlib.Omega.{arith}
-use lib.ListN.{length}
 use Rattle.words.specs.Words.{wordAt}
 use Rattle.ledger.specs.declared.order.Order.{Order}
 use Rattle.ledger.specs.Records.{orderAt}
@@ -13,18 +12,15 @@ use Rattle.book.specs.Sound.{OrderFits, Sound}
 use Rattle.layout.specs.Layout.{countWord}
 use Rattle.layout.specs.View.{rosterOf, recordsOf, openOrders, bookOf, tradingOf, view}
 use Rattle.layout.specs.Stores.{Records}
+use Rattle.layout.proofs.Lengths.{length-open}
 use Rattle.soundness.specs.Soundness.{ordersSound, soundDesk}
 use Rattle.soundness.specs.SoundMemory.{SoundMemory}
 use Rattle.soundness.proofs.Records.{Fit}
 use Rattle.soundness.proofs.Questions.{Conditions, each-out, each-in}
 use Rattle.soundness.proofs.RosterFacts.{roster-out, roster-in}
 use Rattle.soundness.proofs.LineFacts.{figures-out, figures-in, lines-fit}
-use Rattle.soundness.proofs.OrderFacts.{ascend-out, ascend-in, length-orders, order-member, each-member, records-out, records-in}
+use Rattle.soundness.proofs.OrderFacts.{ascend-out, ascend-in, order-member, each-member, records-out, records-in}
 use Rattle.soundness.proofs.PositionFacts.{positions-out, positions-in}
-
-pub open-count : (m : List ℕ) → length (openOrders m) ≡ wordAt m countWord
-unfolding openOrders
-open-count m = length-orders (recordsOf m) 0 (wordAt m countWord)
 
 -- ---- out
 module _ (m : List ℕ) (c : Conditions m) where
@@ -56,7 +52,7 @@ module _ (m : List ℕ) (c : Conditions m) where
       record {
         roster = roster-out m (c .roster);
         lines = lines-fit m (figures-out m (c .lines));
-        count = omega (arith, open-count m, c .count);
+        count = omega (arith, length-open m, c .count);
         fits = member-fits;
         ids = ascend-out 0 (openOrders m) (c .ids);
         bounded = positions-out m (c .positions) member-fits;
@@ -97,7 +93,7 @@ module _ (m : List ℕ) (h : SoundMemory m) where
 
   pub sound-count : wordAt m countWord ≤ 256
   unfolding bookOf
-  sound-count = omega (arith, open-count m, h .book .count)
+  sound-count = omega (arith, length-open m, h .book .count)
 
   pub sound-records : Records m
   sound-records = record { long = h .long; count = sound-count; first = h .first }

@@ -10,13 +10,11 @@ use borrow.Author.Tests.{not-true, not-false}
 use Rattle.words.specs.Words.{wordAt}
 use Rattle.ledger.specs.declared.order.Order.{Order}
 use Rattle.ledger.specs.Records.{orderAt}
-use Rattle.ledger.specs.Roster.{Numbered}
-use Rattle.layout.specs.Layout.{countWord, markWord}
-use Rattle.layout.specs.View.{rosterOf, tradingOf, flag, recordsOf}
+use Rattle.layout.specs.Layout.{countWord}
+use Rattle.layout.specs.View.{recordsOf}
 use Rattle.layout.specs.Stores.{Records}
 use Rattle.layout.proofs.OrderRecords as layout
 use Rattle.soundness.specs.Each.{Tells, Each}
-use Rattle.soundness.proofs.Asked.{numbered-between}
 
 -- ---- answers
 pub tells-yes : {P : Type 0} → P → Tells true P
@@ -91,8 +89,3 @@ module _ (P : Order → Type 0) (m s : List ℕ) (n : ℕ) where
       pub asked-refused : (P o → ⊥) → Tells false (Each m P)
       asked-refused refused =
           tells-no (λ h. refused (rw read (each-out m s n (asked .count) (asked .records) P h p here)))
-
--- ---- marks: whether an account of the roster trades is what the word of its mark says
-pub trading-flag : (m : List ℕ) (a : ℕ) → Numbered (rosterOf m .accounts) a → tradingOf m a ≡ flag m (markWord a)
-unfolding tradingOf
-trading-flag m a on = rw (numbered-between (rosterOf m .accounts) a on)

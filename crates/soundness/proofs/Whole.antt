@@ -5,7 +5,6 @@ use mathlib.Core.Logic.{_≢_}
 use mathlib.Core.Bool.{Bool, true, false, _&&_}
 use mathlib.Core.List.{List}
 use lib.Dec.{leb, eqb}
-use lib.ListN.{length}
 use borrow.Author.Tests.{le-leb, lt-leb, eq-eqb, ne-eqb}
 use Rattle.words.specs.Words.{wordAt}
 use Rattle.layout.specs.Layout.{kindWord, countWord}
@@ -32,27 +31,23 @@ module _ (m : List ℕ) where
       in-order (longEnough m) (eqb (wordAt m kindWord) 1) (leb (wordAt m countWord) 256) (leb (firstOf m) 256) (rosterSound m)
       (linesSound m) (ascend 0 (openOrders m)) (ordersSound m) (positionsSound m)
 
-  pub too-short : length m < 65536 → false ≡ soundDesk m
-  unfolding longEnough
-  too-short h = rw (asked, lt-leb 65536 (length m) h)
+  pub too-short : longEnough m ≡ false → false ≡ soundDesk m
+  too-short h = rw (asked, h)
 
-  module _ (long : 65536 ≤ length m) where
+  module _ (long : longEnough m ≡ true) where
     pub other-kind : wordAt m kindWord ≢ 1 → false ≡ soundDesk m
-    unfolding longEnough
-    other-kind h = rw (asked, le-leb 65536 (length m) long, ne-eqb (wordAt m kindWord) 1 h)
+    other-kind h = rw (asked, long, ne-eqb (wordAt m kindWord) 1 h)
 
     module _ (kind : wordAt m kindWord ≡ 1) where
       pub too-many : 256 < wordAt m countWord → false ≡ soundDesk m
-      unfolding longEnough
-      too-many h = rw (asked, le-leb 65536 (length m) long, eq-eqb (wordAt m kindWord) 1 kind, lt-leb (wordAt m countWord) 256 h)
+      too-many h = rw (asked, long, eq-eqb (wordAt m kindWord) 1 kind, lt-leb (wordAt m countWord) 256 h)
 
       module _ (count : wordAt m countWord ≤ 256) where
         pub too-far : 256 < firstOf m → false ≡ soundDesk m
-        unfolding longEnough
         too-far h =
             rw (
               asked,
-              le-leb 65536 (length m) long,
+              long,
               eq-eqb (wordAt m kindWord) 1 kind,
               le-leb (wordAt m countWord) 256 count,
               lt-leb (firstOf m) 256 h,
@@ -60,11 +55,10 @@ module _ (m : List ℕ) where
 
         module _ (first : firstOf m ≤ 256) where
           rest : soundDesk m ≡ (rosterSound m && (linesSound m && (ascend 0 (openOrders m) && ordersSound m && positionsSound m)))
-          unfolding longEnough
           rest =
               rw (
                 asked,
-                le-leb 65536 (length m) long,
+                long,
                 eq-eqb (wordAt m kindWord) 1 kind,
                 le-leb (wordAt m countWord) 256 count,
                 le-leb (firstOf m) 256 first,

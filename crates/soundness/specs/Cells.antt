@@ -1,5 +1,4 @@
--- What remains of all open orders, gathered into 1,089 cells, a row of 64 for each account; and what the passes over a memory may
--- read.
+-- What remains of all open orders, gathered into 1,089 cells, a row of 64 for each account.
 use Prim.Native.Nat.{ℕ, _+_, _*_, _%_, _^_, _≤_}
 use mathlib.Core.Path.{_≡_}
 use mathlib.Core.List.{List}
@@ -8,15 +7,6 @@ use Rattle.ledger.specs.declared.order.Order.{Order}
 use Rattle.ledger.specs.declared.order.Side.{Side}
 use Rattle.ledger.specs.Roster.{Numbered}
 use Rattle.positions.specs.Gathered.{cell, Gathered}
-use Rattle.layout.specs.View.{rosterOf}
-
--- long enough, with a roster whose sizes are within their limits
-pub record Readable (m : List ℕ) : Type 0 where
-  pub long : 65536 ≤ length m
-  pub accounts : rosterOf m .accounts ≤ 16
-  pub groups : rosterOf m .groups ≤ 4
-  pub contracts : rosterOf m .contracts ≤ 8
-  pub instruments : rosterOf m .instruments ≤ 32
 
 -- a word with 536,870,912 added, as a word
 abbrev pub offsetWord : ℕ → ℕ

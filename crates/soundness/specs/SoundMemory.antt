@@ -1,25 +1,24 @@
 -- What a memory that passes question 5 is, as facts: it shows a sound book, its records stand inside their region, and the figures of lines
 -- that are not set are in range too.
-use Prim.Native.Nat.{ℕ, _+_, _*_, _≤_}
+use Prim.Native.Nat.{ℕ, _≤_}
 use mathlib.Core.Path.{_≡_}
 use mathlib.Core.List.{List}
 use lib.ListN.{length}
 use Rattle.words.specs.Words.{wordAt}
 use Rattle.ledger.specs.Roster.{Numbered}
-use Rattle.limits.specs.InBytes.{lineAt, groupLineAt}
 use Rattle.book.specs.Market.{derivatives}
 use Rattle.book.specs.Sound.{LineFits, GroupLineFits, Sound}
-use Rattle.layout.specs.Layout.{kindWord, ownRow, defaultRow, groupRow}
-use Rattle.layout.specs.View.{rosterOf, firstOf, view}
+use Rattle.layout.specs.Layout.{kindWord}
+use Rattle.layout.specs.View.{rosterOf, ownFigures, defaultFigures, groupFigures, firstOf, view}
 
 -- the figures of each line on the roster are in range, whether the line is set or not
 pub record Figures (m : List ℕ) : Type 0 where
   pub own : (a i : ℕ) → Numbered (rosterOf m .accounts) a → Numbered (rosterOf m .instruments) i
-      → LineFits 1000000000 (lineAt m (ownRow a + i * 2))
+      → LineFits 1000000000 (ownFigures m a i)
   pub default : (a c : ℕ) → Numbered (rosterOf m .accounts) a → Numbered (rosterOf m .contracts) c
-      → LineFits 1000000000 (lineAt m (defaultRow a + c * 2))
+      → LineFits 1000000000 (defaultFigures m a c)
   pub ofGroup : (a g : ℕ) → Numbered (rosterOf m .accounts) a → Numbered (rosterOf m .groups) g
-      → GroupLineFits 1000000000 (groupLineAt m (groupRow a + g))
+      → GroupLineFits 1000000000 (groupFigures m a g)
 
 pub record SoundMemory (m : List ℕ) : Type 0 where
   pub long : 65536 ≤ length m

@@ -8,7 +8,7 @@
 --   "S + B and −S + V are at most 1,000,000,000"                         positionsSound
 --   "every account with an open order is marked as trading"              marked
 -- The three that are asked of each order by itself stand together in `orderSound`.
-use Prim.Native.Nat.{ℕ, zero, suc, _+_, _*_}
+use Prim.Native.Nat.{ℕ, zero, suc, _+_}
 use mathlib.Core.Bool.{Bool, true, _&&_}
 use mathlib.Core.List.{List, [], _∷_}
 use lib.Dec.{leb, ltb, eqb}
@@ -21,12 +21,11 @@ use Rattle.ledger.specs.Records.{orderAt}
 use Rattle.ledger.specs.Roster.{Roster}
 use Rattle.ledger.specs.Positions.{Way, long, short, ofInstrument}
 use Rattle.limits.specs.Lines.{Line, GroupLine}
-use Rattle.limits.specs.InBytes.{lineAt, groupLineAt}
 use Rattle.book.specs.Decoding.{between}
 use Rattle.book.specs.Market.{derivatives}
-use Rattle.layout.specs.Layout.{kindWord, countWord, ownRow, defaultRow, groupRow}
+use Rattle.layout.specs.Layout.{kindWord, countWord}
 use Rattle.layout.specs.Rosters.{every, sizesFit, namesFit, weightsFit, longEnough}
-use Rattle.layout.specs.View.{rosterOf, balancesOf, firstOf, recordsOf, openOrders, tradingOf}
+use Rattle.layout.specs.View.{rosterOf, ownFigures, defaultFigures, groupFigures, balancesOf, firstOf, recordsOf, openOrders, tradingOf}
 
 -- ---- "its roster would be accepted"
 unfoldable pub rosterSound : List ℕ → Bool
@@ -43,9 +42,9 @@ groupLineInRange l = leb (l .lcc) 1000000000 && leb (l .lvc) 1000000000
 -- the lines of account a
 unfoldable pub accountLinesSound : List ℕ → ℕ → Bool
 accountLinesSound m a =
-    every (rosterOf m .instruments) (λ i. lineInRange (lineAt m (ownRow a + i * 2)))
-    && every (rosterOf m .contracts) (λ c. lineInRange (lineAt m (defaultRow a + c * 2)))
-    && every (rosterOf m .groups) (λ g. groupLineInRange (groupLineAt m (groupRow a + g)))
+    every (rosterOf m .instruments) (λ i. lineInRange (ownFigures m a i))
+    && every (rosterOf m .contracts) (λ c. lineInRange (defaultFigures m a c))
+    && every (rosterOf m .groups) (λ g. groupLineInRange (groupFigures m a g))
 
 unfoldable pub linesSound : List ℕ → Bool
 linesSound m = every (rosterOf m .accounts) (accountLinesSound m)

@@ -3,16 +3,17 @@ ghost use mathlib.Core.Path.{_≡_};
 ghost use mathlib.Core.Bool.{true, _&&_};
 ghost use Rattle.ledger.specs.Roster.{Numbered};
 ghost use Rattle.layout.specs.View.{rosterOf, openOrders};
+ghost use Rattle.layout.specs.Readable.{Readable};
 ghost use Rattle.layout.specs.Stores.{Records};
 ghost use Rattle.soundness.specs.Soundness.{ascend, ordersSound, instrumentSound, accountSound, positionsSound};
-ghost use Rattle.soundness.specs.Cells.{Readable, Empty, SmallSums};
+ghost use Rattle.soundness.specs.Cells.{Empty, SmallSums};
 use crate::bits::all_small;
 use crate::orders::orders_are_sound;
-use crate::roster::accounts;
-use crate::roster::instruments;
-use layout::table::BALANCES;
+use layout::readers::balance;
+use layout::readers::balances;
+use layout::roster::accounts;
+use layout::roster::instruments;
 use ledger::units::Contracts;
-use words::signed_word;
 
 // Of account `a` and instrument `i`. No sum with the balance, which may be any word, is computed.
 fn instrument_is_sound(m: &[u8], cells: &[u64; 1089], a: usize, i: usize) -> bool
@@ -24,7 +25,7 @@ fn instrument_is_sound(m: &[u8], cells: &[u64; 1089], a: usize, i: usize) -> boo
         ⌝ }
     ensures { λ r. ⌜ r ≡ instrumentSound (now (m .entry)) a i ⌝ }
 {
-    let s = Contracts(signed_word(m, BALANCES + a * 32 + i));
+    let s = Contracts(balance(m, a, i));
     let b = Contracts::of(cells[a * 64 + i]);
     let v = Contracts::of(cells[a * 64 + (32 + i)]);
     let most = Contracts(1000000000);
@@ -41,7 +42,7 @@ fn account_is_sound(m: &[u8], cells: &[u64; 1089], a: usize) -> bool
     requires { ⌜ Readable (now m) × SmallSums (now cells) (openOrders (now m)) × Numbered (rosterOf (now m) .accounts) a ⌝ }
     ensures { λ r. ⌜ r ≡ accountSound (now (m .entry)) a ⌝ }
 {
-    if all_small(m, BALANCES + a * 32 + 1, 32) {
+    if all_small(balances(m, a), 1, 32) {
         return true;
     }
     let n = instruments(m) as usize;

@@ -7,6 +7,8 @@ ghost use lib.IntN.{natAbs};
 ghost use lib.ListN.{length};
 ghost use Rattle.words.specs.Fields.{u32At};
 ghost use Rattle.words.specs.Words.{wordAt, signedAt};
+ghost use Rattle.limits.specs.InBytes.{groupLineAt};
+ghost use Rattle.book.specs.Sound.{GroupLineFits};
 ghost use Rattle.soundness.specs.Cells.{offsetWord};
 use std::num::wrapping_add_u64;
 use words::fields::u32_at;
@@ -24,12 +26,12 @@ fn bits_of_all(m: &[u8], k: usize, n: usize) -> u32
     all
 }
 
-// Is each of them at most 1,000,000,000, as far as the bits of all tell?
-pub fn all_in_range(m: &[u8], k: usize, n: usize) -> bool
-    requires { ⌜ (k + n) * 4 ≤ length (now m) ⌝ }
-    ensures { λ r. ⌜ (r ≡ true → (p : ℕ) → k ≤ p → p < k + n → u32At (now (m .entry)) (p * 4) ≤ 1000000000) ⌝ }
+// Is each of the two figures of the first `n` words at most 1,000,000,000, as far as the bits of all tell?
+pub fn all_in_range(m: &[u8], n: usize) -> bool
+    requires { ⌜ n * 8 ≤ length (now m) ⌝ }
+    ensures { λ r. ⌜ (r ≡ true → (j : ℕ) → j < n → GroupLineFits 1000000000 (groupLineAt (now (m .entry)) j)) ⌝ }
 {
-    bits_of_all(m, k, n) <= 1000000000
+    bits_of_all(m, 0, n * 2) <= 1000000000
 }
 
 // At least each of the `n` words from word `k` on with 536,870,912 added: a number of that size or less, of either sign, is then one of 30

@@ -11,11 +11,10 @@ ghost use mathlib.Core.Bool.{true};
 ghost use Rattle.layout.specs.View.{openOrders};
 ghost use Rattle.soundness.specs.Soundness.{soundDesk};
 ghost use Rattle.soundness.specs.Cells.{Empty, SmallSums};
-use layout::table::COUNT;
-use layout::table::FIRST;
-use layout::table::KIND;
-use layout::table::MEMORY_BYTES;
-use words::word;
+use layout::orders::count;
+use layout::orders::first_of;
+use layout::readers::is_long_enough;
+use layout::readers::kind;
 
 // Question 5, and where it is answered yes, B and V of all accounts and instruments in the cells. One pass over each region.
 pub fn is_sound_with_sums(m: &[u8], cells: &mut [u64; 1089]) -> bool
@@ -23,16 +22,16 @@ pub fn is_sound_with_sums(m: &[u8], cells: &mut [u64; 1089]) -> bool
     ensures sound { λ r. ⌜ r ≡ soundDesk (now (m .entry)) ⌝ }
     ensures cells { λ r. ⌜ (r ≡ true → SmallSums (now (cells .exit)) (openOrders (now (m .entry)))) ⌝ }
 {
-    if m.len() < MEMORY_BYTES {
+    if !is_long_enough(m) {
         return false;
     }
-    if word(m, KIND) != 1 {
+    if kind(m) != 1 {
         return false;
     }
-    if word(m, COUNT) > 256 {
+    if count(m) > 256 {
         return false;
     }
-    if word(m, FIRST) > 256 {
+    if first_of(m) > 256 {
         return false;
     }
     if !roster::roster_is_sound(m) {

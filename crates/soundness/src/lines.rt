@@ -3,17 +3,20 @@ ghost use mathlib.Core.Path.{_≡_};
 ghost use Prim.Native.Nat.{_+_, _*_, _≤_};
 ghost use lib.ListN.{length};
 ghost use Rattle.limits.specs.InBytes.{lineAt, groupLineAt};
+ghost use Rattle.ledger.specs.Roster.{Numbered};
 ghost use Rattle.layout.specs.Rosters.{every};
+ghost use Rattle.layout.specs.View.{rosterOf};
+ghost use Rattle.layout.specs.Readable.{Readable};
 ghost use Rattle.soundness.specs.Soundness.{lineInRange, groupLineInRange, accountLinesSound, linesSound};
-ghost use Rattle.soundness.specs.Cells.{Readable};
 use crate::bits::all_in_range;
-use crate::roster::accounts;
-use crate::roster::contracts;
-use crate::roster::groups;
-use crate::roster::instruments;
-use layout::table::DEFAULT_LINES;
-use layout::table::GROUP_LINES;
-use layout::table::OWN_LINES;
+use layout::readers::default_lines;
+use layout::readers::group_lines;
+use layout::readers::lines_row;
+use layout::readers::own_lines;
+use layout::roster::accounts;
+use layout::roster::contracts;
+use layout::roster::groups;
+use layout::roster::instruments;
 use words::word;
 
 // Both figures of word `k`.
@@ -40,13 +43,13 @@ fn line_in_range(m: &[u8], k: usize) -> bool
 }
 
 // Lines 1 to `n` of a row.
-fn row_in_range(m: &[u8], row: usize, n: usize) -> bool
-    requires { ⌜ (row + n * 2 + 2) * 8 ≤ length (now m) ⌝ }
-    ensures { λ r. ⌜ r ≡ every n (λ j. lineInRange (lineAt (now (m .entry)) (row + j * 2))) ⌝ }
+fn row_in_range(row: &[u8], n: usize) -> bool
+    requires { ⌜ (n * 2 + 2) * 8 ≤ length (now row) ⌝ }
+    ensures { λ r. ⌜ r ≡ every n (λ j. lineInRange (lineAt (now (row .entry)) (j * 2))) ⌝ }
 {
     for j in 0..n {
         let i = j + 1;
-        if !line_in_range(m, row + i * 2) {
+        if !line_in_range(row, i * 2) {
             return false;
         }
     }
@@ -54,13 +57,12 @@ fn row_in_range(m: &[u8], row: usize, n: usize) -> bool
 }
 
 // Group lines 1 to `n` of a row.
-fn group_row_in_range(m: &[u8], row: usize, n: usize) -> bool
-    requires { ⌜ (row + n + 1) * 8 ≤ length (now m) ⌝ }
-    ensures { λ r. ⌜ r ≡ every n (λ j. groupLineInRange (groupLineAt (now (m .entry)) (row + j))) ⌝ }
+fn group_row_in_range(row: &[u8], n: usize) -> bool
+    requires { ⌜ (n + 1) * 8 ≤ length (now row) ⌝ }
+    ensures { λ r. ⌜ r ≡ every n (λ j. groupLineInRange (groupLineAt (now (row .entry)) j)) ⌝ }
 {
     for j in 0..n {
-        let i = j + 1;
-        if !word_in_range(m, row + i) {
+        if !word_in_range(row, j + 1) {
             return false;
         }
     }
@@ -70,19 +72,19 @@ fn group_row_in_range(m: &[u8], row: usize, n: usize) -> bool
 // The lines of account `a`: all 168 figures of its row at once, on the roster or not, so that the compiler knows their number; and where
 // that does not tell, those on the roster one by one.
 fn account_lines_are_sound(m: &[u8], a: usize) -> bool
-    requires { ⌜ Readable (now m) × (a ≤ 16) ⌝ }
+    requires { ⌜ Readable (now m) × Numbered (rosterOf (now m) .accounts) a ⌝ }
     ensures { λ r. ⌜ r ≡ accountLinesSound (now (m .entry)) a ⌝ }
 {
-    if all_in_range(m, (OWN_LINES + a * 84 + 2) * 2, 168) {
+    if all_in_range(lines_row(m, a), 84) {
         return true;
     }
-    if !row_in_range(m, OWN_LINES + a * 84, instruments(m) as usize) {
+    if !row_in_range(own_lines(m, a), instruments(m) as usize) {
         return false;
     }
-    if !row_in_range(m, DEFAULT_LINES + a * 84, contracts(m) as usize) {
+    if !row_in_range(default_lines(m, a), contracts(m) as usize) {
         return false;
     }
-    group_row_in_range(m, GROUP_LINES + a * 84, groups(m) as usize)
+    group_row_in_range(group_lines(m, a), groups(m) as usize)
 }
 
 // All lines of the roster.

@@ -4,16 +4,18 @@ ghost use mathlib.Core.Path.{_≡_};
 ghost use mathlib.Core.Bool.{true, _&&_};
 ghost use Rattle.ledger.specs.Records.{Packable, Within};
 ghost use Rattle.layout.specs.View.{openOrders};
+ghost use Rattle.layout.specs.Readable.{Readable};
 ghost use Rattle.layout.specs.Stores.{Records};
 ghost use Rattle.soundness.specs.Soundness.{ascend, ordersSound};
-ghost use Rattle.soundness.specs.Cells.{Readable, Empty, Sums, SmallSums};
+ghost use Rattle.soundness.specs.Cells.{Empty, Sums, SmallSums};
 ghost use Rattle.soundness.specs.Each.{Tells, Each, Remains, TotalFits, Marked};
-use crate::ranges::between;
-use crate::roster::accounts;
-use crate::roster::instruments;
+use layout::orders::count;
 use layout::orders::records;
-use layout::table::COUNT;
-use layout::table::MARKS;
+use layout::readers::is_trading;
+use layout::roster::account_known;
+use layout::roster::accounts;
+use layout::roster::instrument_known;
+use layout::roster::instruments;
 use ledger::order::Order;
 use ledger::records::account_of;
 use ledger::records::bits_of_both;
@@ -26,7 +28,6 @@ use ledger::records::packed_of;
 use ledger::records::remaining_of;
 use ledger::units::Contracts;
 use positions::add_to;
-use words::word;
 
 // What the pass tells: do the ids ascend, and does something remain of each order? And a detail with the bits of all.
 struct Pass {
@@ -41,7 +42,7 @@ fn gather_all(m: &[u8], cells: &mut [u64; 1089]) -> Pass
     ensures details { λ r. ⌜ (r .sound ≡ true → Each (now (m .entry)) (Within (r .details))) ⌝ }
     ensures sums { λ r. ⌜ (r .sound ≡ true → Sums (now (cells .exit)) (openOrders (now (m .entry)))) ⌝ }
 {
-    let n = word(m, COUNT) as usize;
+    let n = count(m);
     let orders = records(m);
     let mut last: u64 = 0;
     let mut all: u64 = 0;
@@ -79,9 +80,9 @@ fn totals_fit(m: &[u8], details: u64) -> bool
     if filled_of(details) + remaining_of(details) <= 1000000 {
         return true;
     }
-    let count = word(m, COUNT) as usize;
+    let n = count(m);
     let orders = records(m);
-    for p in 0..count {
+    for p in 0..n {
         let o = load(orders, p);
         if o.total > 1000000 {
             return false;
@@ -103,7 +104,7 @@ fn all_trade(m: &[u8], details: u64) -> bool
         return false;
     }
     for a in 0..most as usize {
-        if word(m, MARKS + 1 + a) == 0 {
+        if !is_trading(m, a + 1) {
             return false;
         }
     }
@@ -115,13 +116,13 @@ fn is_marked(m: &[u8], o: Order) -> bool
     requires { ⌜ Readable (now m) ⌝ }
     ensures { λ r. ⌜ Tells r (Marked (now (m .entry)) o) ⌝ }
 {
-    if !between(1, accounts(m), o.account) {
+    if !account_known(m, o.account) {
         return false;
     }
-    if !between(1, instruments(m), o.instrument) {
+    if !instrument_known(m, o.instrument) {
         return false;
     }
-    word(m, MARKS + o.account as usize) != 0
+    is_trading(m, o.account as usize)
 }
 
 // Is that so of every order? All at once by the detail with the bits of all, and where that does not tell, one by one.
@@ -132,9 +133,9 @@ fn all_marked(m: &[u8], details: u64) -> bool
     if all_trade(m, details) {
         return true;
     }
-    let count = word(m, COUNT) as usize;
+    let n = count(m);
     let orders = records(m);
-    for p in 0..count {
+    for p in 0..n {
         if !is_marked(m, load(orders, p)) {
             return false;
         }

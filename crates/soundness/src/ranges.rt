@@ -1,18 +1,7 @@
-// Numbers in a range.
+// A weight in its range.
 ghost use mathlib.Core.Path.{_≡_};
 ghost use lib.Dec.{leb};
 ghost use lib.IntN.{natAbs};
-ghost use Rattle.book.specs.Decoding.{between};
-
-// Is the number from `low` to `high`?
-pub fn between(low: u64, high: u64, n: u64) -> bool
-    ensures { λ r. ⌜ r ≡ between low high n ⌝ }
-{
-    if n < low {
-        return false;
-    }
-    n <= high
-}
 
 // Is the weight in range?
 pub fn is_weight(z: i64) -> bool

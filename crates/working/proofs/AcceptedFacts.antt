@@ -41,7 +41,8 @@ use Rattle.layout.specs.Stores.{Records}
 use Rattle.layout.specs.Judged.{judged}
 use Rattle.layout.proofs.SameFields as layout
 use Rattle.soundness.specs.SoundMemory.{SoundMemory}
-use Rattle.soundness.proofs.SoundDesk.{sound-count, sound-records, open-count}
+use Rattle.soundness.proofs.SoundDesk.{sound-count, sound-records}
+use Rattle.layout.proofs.Lengths.{length-open}
 
 -- the item of a line is on the roster
 abbrev pub LineOnRoster : Roster → LimitLine → Type 0
@@ -167,7 +168,7 @@ module _ (m : List ℕ) (held : SoundMemory m) where
         between-numbered (rosterOf m .accounts) a (ok .account),
         between-numbered (rosterOf m .instruments) i (ok .item),
         quantity n (ok .figures),
-        omega (arith, open-count m),
+        omega (arith, length-open m),
       )
   accepted-facts (Change id c) passes = change-facts id c passes
   accepted-facts Junk passes = tt

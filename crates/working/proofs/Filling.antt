@@ -9,11 +9,11 @@ use mir.Syntax.{w64}
 use mir.Val.{SFits, toZ, ofZ}
 use mir.ValLaws.{toZ-ofZ}
 use Rattle.integers.specs.Magnitude.{sized, magnitude-sum, magnitude-negation}
-use Rattle.words.specs.Words.{signedAt}
 use Rattle.ledger.specs.declared.order.Side.{Side}
 use Rattle.ledger.specs.declared.order.Side.the-variants.{Buy, Sell}
 use Rattle.ledger.specs.declared.order.Order.{Order}
 use Rattle.ledger.specs.Orders.{remaining}
+use Rattle.ledger.specs.Roster.{Numbered}
 use Rattle.ledger.specs.Positions.{toward, wayOf}
 use Rattle.ledger.specs.Fillings.{fillMoves}
 use Rattle.ledger.specs.Derivatives.{one}
@@ -22,11 +22,11 @@ use Rattle.book.specs.declared.OrderChange.the-variants.{Fill}
 use Rattle.book.specs.declared.Event.the-variants.{Change}
 use Rattle.book.specs.Market.{derivatives}
 use Rattle.book.specs.Sound.{OrderFits}
-use Rattle.layout.specs.Layout.{memoryBytes, balanceRow}
+use Rattle.layout.specs.Layout.{memoryBytes}
 use Rattle.layout.specs.View.{rosterOf, balancesOf}
 use Rattle.layout.specs.FieldStores.{storeBalance}
-use Rattle.layout.proofs.GuardedTables.{on-here}
-use Rattle.soundness.proofs.Bounded.{balance-small}
+use Rattle.layout.specs.Readable.{Readable}
+use Rattle.soundness.proofs.Bounded.{sound-readable, balance-small}
 use Rattle.working.specs.Working.{Ready, Stands, recordsChanged, worked}
 use Rattle.working.proofs.AcceptedFacts.{ChangeFacts, laid, records}
 use Rattle.working.proofs.Changing.{change-facts, changed-memory}
@@ -70,15 +70,13 @@ module _ {m : List ℕ} {o : Order} {p n : ℕ} (ready : Ready m (Change (o .id)
         small = let rest = facts .0 .remains in omega (arith, facts .0 .total .1, facts .1 .0 .1 .1);
       }
 
+  pub fill-readable : Readable m × Numbered (rosterOf m .accounts) (o .account) × Numbered (rosterOf m .instruments) (o .instrument)
+  fill-readable = (sound-readable m (ready .held), facts .0 .account, facts .0 .instrument)
+
   -- s is the balance that was read
-  module _ {s : ℤ} (fits-s : SFits w64 s) (read : s ≡ signedAt m (balanceRow (o .account) + o .instrument)) where
+  module _ {s : ℤ} (fits-s : SFits w64 s) (read : s ≡ balancesOf m (o .account) (o .instrument)) where
     same-balance : toZ w64 (ofZ w64 s) ≡ balancesOf m (o .account) (o .instrument)
-    unfolding balancesOf
-    same-balance =
-        toZ-ofZ w64 s fits-s
-        ∙ read
-        ∙ sym (on-here (rosterOf m .accounts) (rosterOf m .instruments) (o .account) (o .instrument) _ _ (facts .0 .account)
-        (facts .0 .instrument))
+    same-balance = toZ-ofZ w64 s fits-s ∙ read
 
     pub fill-small : (natAbs (toZ w64 (ofZ w64 s)) ≤ 1000000000) × (n ≤ 1000000)
     fill-small =

@@ -14,13 +14,12 @@ use book::OrderChange;
 use layout::orders::insert_order;
 use layout::orders::remove_order;
 use layout::orders::replace_order;
+use layout::readers::balance;
 use layout::stores::set_balance;
 use layout::stores::set_mark;
-use layout::table::BALANCES;
 use ledger::order::Order;
 use ledger::order::Side;
 use ledger::units::Contracts;
-use words::signed_word;
 
 // NEW: the order joins, and its account is marked as trading.
 pub fn enter(m: &mut [u8], cells: &mut [u64], o: Order, place: usize)
@@ -89,9 +88,9 @@ fn fill(m: &mut [u8], cells: &mut [u64], o: Order, place: usize, n: u64)
     let account = o.account as usize;
     let instrument = o.instrument as usize;
     let side = o.side;
-    let balance = Contracts(signed_word(m, BALANCES + account * 32 + instrument));
+    let before = Contracts(balance(m, account, instrument));
     fill_record(m, place, o, n);
-    let next = balance_after(side, balance, Contracts::of(n));
+    let next = balance_after(side, before, Contracts::of(n));
     set_balance(m, account, instrument, next.0);
 }
 

@@ -1,63 +1,48 @@
--- Each block's word that is not 0 is the first no of 14 to 16 (`by-blocks`); where none is set, 17 decides.
-use mathlib.Core.Path.{refl, _∙_, sym}
-use borrow.Author.Tests.{eq-eqb, ne-eqb}
+-- Each block that is set is the first no of 14 to 16, asked in their order; where none is, 17 decides.
+use mathlib.Core.Path.{_≡_, _∙_, sym}
+use mathlib.Core.Bool.{false}
 use borrow.Author.Needs.{needs}
+use Rattle.ledger.specs.Roster.{groupOfInstrument}
+use Rattle.limits.specs.Questions.{firstNo}
+use Rattle.limits.specs.Numbers.{existenceQuestions}
 use Rattle.limits.specs.Answers.{numberOf}
-use Rattle.order_checks.proofs.Blocks.{by-blocks}
+use Rattle.layout.specs.View.{rosterOf, blocksOf}
+use Rattle.order_checks.specs.Questions.{admission}
 use Rattle.order_checks.proofs.admitted.Statement.{statement}
 use Rattle.order_checks.proofs.admitted.Tie as tie
 
+-- what was answered no on the way
+account : (c : tie.Else1) → let a = c .before .before .before .args in blocksOf (a .m .now) .account (a .o .account) ≡ false
+account c = sym (c .before .account-is-blocked .ensures) ∙ c .if1 .left
+
+instrument : (c : tie.Else2) → let a =
+    c .before .before .before .before .before .args in blocksOf (a .m .now) .instrument (a .o .instrument) ≡ false
+instrument c = sym (c .before .instrument-is-blocked .ensures) ∙ c .if2 .left
+
+group : (c : tie.After-group-is-blocked) → let a = c .before .before .before .before .before .before .args in
+    c .group-is-blocked .result ≡ blocksOf (a .m .now) .group (a .o .account) (groupOfInstrument (rosterOf (a .m .now)) (a .o .instrument))
+group c = rw (c .before .before .before .before .before .before .pre .1 .group) at (c .group-is-blocked .ensures)
+
 returns : tie.Need-returns
-unfolding numberOf
-returns c =
-    let w = c .before in
-    let g = w .before in
-    let k = g .before in
-    let s = k .before .before in
-    sym (by-blocks _ _ (s .pre) _ _ (k .contract-of .ensures) (g .group-of .ensures) _ _ _ (w .word .ensures) refl refl
-    ∙ simp (ne-eqb _ _ (c .if1 .taken)))
+unfolding numberOf firstNo admission
+returns c = rw (sym (c .before .account-is-blocked .ensures) ∙ c .if1 .taken)
 
 returns-2 : tie.Need-returns-2
-unfolding numberOf
-returns-2 c =
-    let w2 = c .before in
-    let w = w2 .before .before in
-    let g = w .before in
-    let k = g .before in
-    let s = k .before .before in
-    sym (by-blocks _ _ (s .pre) _ _ (k .contract-of .ensures) (g .group-of .ensures) _ _ _ (w .word .ensures) (w2 .word2 .ensures) refl
-    ∙ simp (eq-eqb _ _ (w2 .before .if1 .left), ne-eqb _ _ (c .if2 .taken)))
+unfolding numberOf firstNo admission
+returns-2 c = rw (account (c .before .before), sym (c .before .instrument-is-blocked .ensures) ∙ c .if2 .taken)
 
 returns-3 : tie.Need-returns-3
-unfolding numberOf
+unfolding numberOf firstNo admission
 returns-3 c =
-    let w3 = c .before in
-    let w2 = w3 .before .before in
-    let w = w2 .before .before in
-    let g = w .before in
-    let k = g .before in
-    let s = k .before .before in
-    sym (by-blocks _ _ (s .pre) _ _ (k .contract-of .ensures) (g .group-of .ensures) _ _ _ (w .word .ensures) (w2 .word2 .ensures)
-    (w3 .word3 .ensures) ∙ simp (eq-eqb _ _ (w2 .before .if1 .left), eq-eqb _ _ (w3 .before .if2 .left), ne-eqb _ _ (c .if3 .taken)))
+    let two = c .before .before in
+    rw (account (two .before .before), instrument two, sym (group (c .before)) ∙ c .if3 .taken)
 
 returns-4 : tie.Need-returns-4
+unfolding firstNo admission existenceQuestions
 returns-4 c =
-    let w3 = c .before .before in
-    let w2 = w3 .before .before in
-    let w = w2 .before .before in
-    let g = w .before in
-    let k = g .before in
-    let s = k .before .before in
-    c .configured .ensures
-    ∙ sym (by-blocks _ _ (s .pre) _ _ (k .contract-of .ensures) (g .group-of .ensures) _ _ _ (w .word .ensures) (w2 .word2 .ensures)
-    (w3 .word3 .ensures) ∙ simp (
-      eq-eqb _ _ (w2 .before .if1 .left),
-      eq-eqb _ _ (w3 .before .if2 .left),
-      eq-eqb _ _ (c .before .if3 .left),
-    ))
+    let three = c .before in
+    let two = three .before .before in
+    c .configured .ensures ∙ rw (account (two .before .before), instrument two, sym (group (three .before)) ∙ three .if3 .left)
 
 pub admitted-spec : {M : Type 1} → statement M
-admitted-spec =
-    tie.close (tie.spec (λ c κs. search needs) (λ c κs. search needs) (λ c. search needs) (λ c κs. search needs) returns (λ c. search needs)
-    (λ c κs. search needs) returns-2 (λ c. search needs) (λ c. search needs) (λ c. search needs) (λ c κs. search needs) returns-3
-    (λ c κs. search needs) returns-4)
+admitted-spec = tie.close (tie.spec (λ c κs. search needs) returns (λ c κs. search needs) returns-2 (λ c κs. search needs) returns-3 (λ c κs. search needs) returns-4)

@@ -1,55 +1,42 @@
--- Cells, balances, roster and group line are parts of the memory that say what its view says (`by-words`), so the answer by the parts
--- is that of questions 21 to 24; a sound desk keeps all within the bounds that are asked for.
-use mathlib.Core.Path.{_≡_, _∙_}
-use native.Mathlib.Omega.{arith}
+-- Cells, balances, roster and group line are parts of the memory that say what its view says (`by-parts`), so the answer by the parts is that of
+-- questions 21 to 24; a sound desk keeps all within the bounds that are asked for.
+use mathlib.Core.Path.{_∙_}
 use borrow.Author.Needs.{needs}
-use Rattle.order_checks.specs.OrderFields.{groupBytes}
-use Rattle.order_checks.proofs.OnDesk.{part-long, group-is}
-use Rattle.order_checks.proofs.LineBytes.{line-long, group-long}
-use Rattle.order_checks.proofs.Answered.{event-bounds, by-words}
+use Rattle.ledger.specs.Roster.{groupOfInstrument}
+use Rattle.layout.specs.View.{rosterOf, linesOf}
+use Rattle.layout.specs.Readable.{HoldsGroupLine}
+use Rattle.order_checks.proofs.Answered.{event-bounds, by-parts}
 use Rattle.order_checks.proofs.positions_of.Statement.{statement}
 use Rattle.order_checks.proofs.positions_of.Tie as tie
 
-part-requires-4 : tie.Need-part-requires-4
-part-requires-4 c κs =
-    let rows = part-long _ _ _ _ (c .before .part3 .ensures) (omega arith) in
-    omega arith
-
-bytes : (c : tie.After-part4) → let a =
-    c .before .before .before .before .before .before .before .before .before .args in c .part4 .result .now ≡ groupBytes (a .m .now) (a .o)
-unfolding groupBytes
-bytes c =
-    let s = c .before .before .before .before .before .before .before .before .before in
-    c .part4 .ensures
-    ∙ rw (c .before .before .part3 .ensures, group-is _ _ _ _ (s .pre .3) (c .before .group-of .ensures))
+holds : (c : tie.After-group-line) → let a = c .before .before .before .before .before .before .args in
+    HoldsGroupLine (c .group-line .result .now)
+    (linesOf (a .m .now) (a .o .account) .lineOfGroup (groupOfInstrument (rosterOf (a .m .now)) (a .o .instrument)))
+holds c = rw (c .before .before .before .before .before .before .pre .3 .group) at (c .group-line .ensures)
 
 positions-within-requires : tie.Need-positions-within-requires
 positions-within-requires c κs =
-    let p2 = c .before .before .before in
-    let own = p2 .before .before in
+    let of-group = c .before in
+    let of-account = of-group .before in
+    let own = of-account .before in
     let s = own .before .before .before .before in (
-      rw (own .cells-of .ensures, p2 .before .part .ensures, p2 .part2 .ensures)
+      rw (own .cells-of .ensures, of-account .balances .ensures, c .roster .ensures)
           (event-bounds _ _ _ _ _ (s .pre .0) (s .pre .1) (s .pre .2)),
-      rw (s .pre .4) (line-long _ _ (s .pre .0 .on)),
-      rw (bytes c) (group-long _ _ (s .pre .0 .on)),
+      s .pre .4 .long,
+      of-group .group-line .ensures .long,
     )
 
 returns : tie.Need-returns
 returns c after raised =
-    let p4 = c .before in
-    let p2 = p4 .before .before .before in
-    let own = p2 .before .before in
+    let parts = c .before in
+    let of-group = parts .before in
+    let of-account = of-group .before in
+    let own = of-account .before in
     let s = own .before .before .before .before in
-    by-words _ _ _ _ _ (s .pre .0) (s .pre .1) (s .pre .2) _
-    (rw (
-      own .cells-of .ensures,
-      p2 .before .part .ensures,
-      p2 .part2 .ensures,
-      s .pre .4,
-      bytes p4,
-    ) at (c .positions-within .ensures)) after raised
+    by-parts _ _ _ _ _ (s .pre .0) (s .pre .1) (s .pre .2) _ _ _ (s .pre .4) (holds of-group)
+    (rw (own .cells-of .ensures, of-account .balances .ensures, parts .roster .ensures) at (c .positions-within .ensures)) after raised
 
 pub positions-of-spec : {M : Type 1} → statement M
 positions-of-spec =
-    tie.close (tie.spec (λ c κs. search needs) (λ c. search needs) (λ c. search needs) (λ c κs. search needs) (λ c κs. search needs)
-    (λ c. search needs) (λ c. search needs) (λ c κs. search needs) (λ c κs. search needs) part-requires-4 positions-within-requires returns)
+    tie.close (tie.spec (λ c κs. search needs) (λ c κs. search needs) (λ c κs. search needs) (λ c κs. search needs) positions-within-requires
+    returns)

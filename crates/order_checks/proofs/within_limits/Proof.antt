@@ -2,39 +2,30 @@
 use mathlib.Core.Path.{_≡_, refl, _∙_, sym, ap}
 use native.Mathlib.Omega.{arith}
 use borrow.Author.Needs.{needs}
-use lib.ListN.{length}
 use Rattle.ledger.specs.Derivatives.{one}
 use Rattle.limits.specs.Questions.{firstNo}
 use Rattle.limits.specs.Numbers.{sizeQuestions}
 use Rattle.limits.specs.Answers.{numberOf}
 use Rattle.limits.proofs.Refused.{not-zero}
 use Rattle.layout.specs.View.{rosterOf, linesOf}
-use Rattle.order_checks.proofs.LineBytes.{line-long, line-in-force}
-use Rattle.order_checks.proofs.Answered.{size-fits, size-refuses}
+use Rattle.order_checks.proofs.Answered.{size-fits, size-refuses, both-set}
 use Rattle.order_checks.proofs.within_limits.Statement.{statement}
 use Rattle.order_checks.proofs.within_limits.Tie as tie
 
-order-size-requires : tie.Need-order-size-requires
-order-size-requires c κs =
-    let read = c .before in
-    let s = read .before .before .before .before in
-    omega (arith, ap length (read .line-of .ensures), line-long _ _ (s .pre .0 .on))
-
 size : (c : tie.After-order-size) →
-    let a = c .before .before .before .before .before .before .args in
+    let a = c .before .before .before .before .before .args in
     numberOf (c .order-size .result)
     ≡ firstNo (sizeQuestions one (rosterOf (a .m .now)) (linesOf (a .m .now) (a .o .account)) (a .o))
 size c =
     let read = c .before .before in
-    let s = read .before .before .before .before in
-    c .order-size .ensures _ _ _ (rw (read .line-of .ensures) (line-in-force _ _ (s .pre .0 .on) (s .pre .0 .set))) refl
-    (sym (c .before .of .ensures))
+    let s = read .before .before .before in
+    c .order-size .ensures _ _ _ (read .line-in-force .ensures .line (both-set _ _ (s .pre .0 .set) .0)) refl (sym (c .before .of .ensures))
 
 positions-of-requires : tie.Need-positions-of-requires
 positions-of-requires c κs =
     let read = c .before .before .before .before .before in
-    let s = read .before .before .before .before in
-    rw (c .of2 .ensures) (s .pre .0, refl, s .pre .1, read .before .contract-of .ensures, read .line-of .ensures)
+    let s = read .before .before .before in
+    rw (c .of2 .ensures) (s .pre .0, refl, s .pre .1, s .pre .2, read .line-in-force .ensures)
 
 returns : tie.Need-returns
 unfolding numberOf
@@ -50,7 +41,6 @@ returns-2 c after raised =
 
 pub within-limits-spec : {M : Type 1} → statement M
 within-limits-spec =
-    tie.close (tie.spec (λ c κs. search needs) (λ c κs. search needs)
-    (λ c κs. omega (arith, c .before .before .before .before .pre .0 .total)) order-size-requires (λ c. search needs)
-    (λ c κs. omega (arith, c .before .before .before .before .before .before .before .before .pre .0 .small)) positions-of-requires
-    returns returns-2)
+    tie.close (tie.spec (λ c κs. search needs) (λ c κs. omega (arith, c .before .before .before .pre .0 .total)) (λ c κs. search needs)
+    (λ c. search needs) (λ c κs. omega (arith, c .before .before .before .before .before .before .before .pre .0 .small))
+    positions-of-requires returns returns-2)

@@ -7,7 +7,6 @@ use Rattle.words.specs.Words.{signedAt}
 use Rattle.ledger.specs.Positions.{Way, long}
 use Rattle.ledger.specs.Records.{rosterIn}
 use Rattle.positions.specs.Gathered.{onWay, sumByCells}
-use Rattle.ledger.proofs.RosterWords.{instruments-word}
 use Rattle.positions.proofs.Weighing.{sum-none, sum-more, sum-small}
 use Rattle.positions.proofs.weigh.Statement.{statement}
 use Rattle.positions.proofs.weigh.Tie as tie
@@ -24,7 +23,7 @@ abbrev μ-loop : tie.MeasureT-loop
 loop-holds : tie.Need-loop-holds Inv-loop μ-loop
 loop-holds c =
     let both = c .before in
-    (both .before .word .ensures ∙ instruments-word _, omega arith, λ w. rw (both .none .ensures, c .none2 .ensures) (sum-none _ _ _ _ w))
+    (both .before .instruments-in .ensures, omega arith, λ w. rw (both .none .ensures, c .none2 .ensures) (sum-none _ _ _ _ w))
 
 with-part-requires : tie.Need-with-part-requires Inv-loop μ-loop
 with-part-requires c κs =

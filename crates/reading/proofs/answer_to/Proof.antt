@@ -8,7 +8,7 @@ use Rattle.layout.specs.View.{rosterOf}
 use Rattle.soundness.specs.Soundness.{soundDesk}
 use Rattle.soundness.proofs.Asked.{answered-no, answered-yes}
 use Rattle.reading.specs.Reading.{itemAnswer}
-use Rattle.reading.proofs.Reports.{unsound, no-account, no-item, answered, sound-long, asked}
+use Rattle.reading.proofs.Reports.{unsound, no-account, no-item, answered, sound-long}
 use Rattle.reading.proofs.answer_to.Statement.{statement}
 use Rattle.reading.proofs.answer_to.Tie as tie
 
@@ -17,10 +17,9 @@ sound : (c : tie.Else1) → soundDesk (c .before .before .before .args .m .now) 
 sound c = answered-yes _ _ (c .before .is-sound .ensures) (c .if1 .left)
 
 known : (c : tie.Else2)
-    → let a = c .before .before .before .before .before .before .args in between 1 (rosterOf (a .m .now) .accounts) (a .account) ≡ true
+    → let a = c .before .before .before .before .before .args in between 1 (rosterOf (a .m .now) .accounts) (a .account) ≡ true
 known c =
-    let a = c .before .before .before .before .before .before .args in
-    answered-yes _ _ (asked _ (a .account) (c .before .between .ensures) (c .before .before .accounts .ensures)) (c .if2 .left)
+    answered-yes _ _ (c .before .account-known .ensures) (c .if2 .left)
 
 returns : tie.Need-returns
 unfolding numberOf itemAnswer
@@ -29,23 +28,20 @@ returns c = unsound _ _ _ _ (answered-no _ _ (c .before .is-sound .ensures) (c .
 returns-2 : tie.Need-returns-2
 unfolding numberOf itemAnswer
 returns-2 c =
-    let a = c .before .before .before .before .before .before .args in
-    no-account _ _ _ _ (sound (c .before .before .before))
-    (answered-no _ _ (asked _ (a .account) (c .before .between .ensures) (c .before .before .accounts .ensures)) (c .if2 .taken))
+    no-account _ _ _ _ (sound (c .before .before)) (answered-no _ _ (c .before .account-known .ensures) (c .if2 .taken))
 
 returns-3 : tie.Need-returns-3
 unfolding numberOf itemAnswer
 returns-3 c =
     let two = c .before .before in
-    no-item _ _ _ _ (sound (two .before .before .before)) (known two) (answered-no _ _ (c .before .on-roster .ensures) (c .if3 .taken))
+    no-item _ _ _ _ (sound (two .before .before)) (known two) (answered-no _ _ (c .before .on-roster .ensures) (c .if3 .taken))
 
 returns-4 : tie.Need-returns-4
 unfolding numberOf itemAnswer
 returns-4 c =
     let two = c .before .before in
-    answered _ _ _ _ (sound (two .before .before .before)) (known two) (answered-yes _ _ (c .before .on-roster .ensures) (c .if3 .left))
+    answered _ _ _ _ (sound (two .before .before)) (known two) (answered-yes _ _ (c .before .on-roster .ensures) (c .if3 .left))
 
 pub answer-to-spec : {M : Type 1} → statement M
 answer-to-spec =
-    tie.close (tie.spec (λ c κs. search needs) returns (λ c κs. sound-long _ (sound c)) (λ c κs. search needs) returns-2
-    (λ c κs. sound-long _ (sound (c .before .before .before))) returns-3 returns-4)
+    tie.close (tie.spec (λ c κs. search needs) returns (λ c κs. sound-long _ (sound c)) returns-2 (λ c κs. sound-long _ (sound (c .before .before))) returns-3 returns-4)

@@ -2,6 +2,7 @@
 use borrow.Author.Needs.{needs}
 use mir.Syntax.{w64}
 use mir.ValLaws.{toZ-ofZ}
+use Rattle.layout.proofs.Lengths.{length-open}
 use Rattle.soundness.proofs.SoundDesk.{sound-records}
 use Rattle.soundness.proofs.Bounded.{group-bounds}
 use Rattle.reading.proofs.Reports.{group-told}
@@ -11,9 +12,14 @@ use Rattle.reading.proofs.group_report.Tie as tie
 group-position-requires : tie.Need-group-position-requires
 group-position-requires c κs =
     let orders = c .before .before .before in
-    let read = orders .before .before .pre in
-    rw (orders .records .ensures, c .before .before .word .ensures, c .before .part .ensures, c .part2 .ensures)
-    (group-bounds _ (read .held) _ (read .account))
+    let s = orders .before .before in
+    rw (
+      orders .records .ensures,
+      c .before .before .count .ensures,
+      length-open (s .args .m .now),
+      c .before .balances .ensures,
+      c .roster .ensures,
+    ) (group-bounds _ (s .pre .held) _ (s .pre .account))
 
 returns : tie.Need-returns
 returns c =
@@ -28,13 +34,14 @@ returns c =
     (group-told _ _ (start .pre) _ (at .group-position .result)
     (rw (
       ← at .before .before .before .before .records .ensures,
-      ← at .before .before .before .word .ensures,
-      ← at .before .before .part .ensures,
-      ← at .before .part2 .ensures,
+      ← length-open (start .args .m .now),
+      ← at .before .before .before .count .ensures,
+      ← at .before .before .balances .ensures,
+      ← at .before .roster .ensures,
     )
     (at .group-position .ensures)))
 
 pub group-report-spec : {M : Type 1} → statement M
 group-report-spec =
-    tie.close (tie.spec (λ c κs. sound-records _ (c .before .pre .held)) (λ c κs. search needs) (λ c. search needs) (λ c. search needs)
-    (λ c κs. search needs) (λ c κs. search needs) group-position-requires (λ c κs. search needs) (λ c κs. search needs) returns)
+    tie.close (tie.spec (λ c κs. sound-records _ (c .before .pre .held)) (λ c κs. search needs) (λ c κs. search needs)
+    (λ c κs. search needs) group-position-requires (λ c κs. search needs) (λ c κs. search needs) returns)

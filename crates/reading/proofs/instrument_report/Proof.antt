@@ -2,6 +2,7 @@
 use borrow.Author.Needs.{needs}
 use mir.Syntax.{w64}
 use mir.ValLaws.{toZ-ofZ}
+use Rattle.layout.proofs.Lengths.{length-open}
 use Rattle.soundness.proofs.SoundDesk.{sound-count, sound-records}
 use Rattle.soundness.proofs.Bounded.{instrument-bounds}
 use Rattle.reading.proofs.Reports.{instrument-told}
@@ -11,9 +12,10 @@ use Rattle.reading.proofs.instrument_report.Tie as tie
 listed-position-requires : tie.Need-listed-position-requires
 listed-position-requires c κs =
     let orders = c .before .before in
-    let read = orders .before .before .pre in
-    rw (orders .records .ensures, c .before .word .ensures, c .part .ensures)
-    (sound-count _ (read .0 .held), instrument-bounds _ (read .0 .held) _ (read .0 .account) _ (read .1))
+    let s = orders .before .before in
+    let read = s .pre .0 in
+    rw (orders .records .ensures, c .before .count .ensures, length-open (s .args .m .now), c .balances .ensures)
+    (sound-count _ (read .held), instrument-bounds _ (read .held) _ (read .account) _ (s .pre .1))
 
 returns : tie.Need-returns
 returns c =
@@ -29,10 +31,15 @@ returns c =
       c .contracts3 .ensures,
     )
     (instrument-told _ _ (start .pre .0) _ (start .pre .1) (at .listed-position .result)
-    (rw (← at .before .before .before .records .ensures, ← at .before .before .word .ensures, ← at .before .part .ensures)
+    (rw (
+      ← at .before .before .before .records .ensures,
+      ← length-open (start .args .m .now),
+      ← at .before .before .count .ensures,
+      ← at .before .balances .ensures,
+    )
     (at .listed-position .ensures)))
 
 pub instrument-report-spec : {M : Type 1} → statement M
 instrument-report-spec =
-    tie.close (tie.spec (λ c κs. sound-records _ (c .before .pre .0 .held)) (λ c κs. search needs) (λ c. search needs) (λ c. search needs)
-    (λ c κs. search needs) listed-position-requires (λ c κs. search needs) (λ c κs. search needs) (λ c κs. search needs) returns)
+    tie.close (tie.spec (λ c κs. sound-records _ (c .before .pre .0 .held)) (λ c κs. search needs) (λ c κs. search needs)
+    listed-position-requires (λ c κs. search needs) (λ c κs. search needs) (λ c κs. search needs) returns)

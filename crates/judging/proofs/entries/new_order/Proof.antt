@@ -18,7 +18,8 @@ free c = sym (c .before .is-open .ensures) ∙ c .if1 .left
 new-within-requires : tie.Need-new-within-requires
 new-within-requires c κs =
     let asked = c .before .before in
-    let pre = asked .before .before .before .before .before .pre in
+    let under = asked .before in
+    let pre = under .before .before .before .before .before .pre in
     let f = pre .0 in (
       f,
       record {
@@ -29,6 +30,7 @@ new-within-requires c κs =
             f .small;
       },
       pre .1,
+      under .underlying-of .ensures,
     )
 
 returns : tie.Need-returns
@@ -39,18 +41,18 @@ returns-2 : tie.Need-returns-2
 unfolding newFrom13 firstNo
 returns-2 c =
     let asked = c .before .before .before in
-    rw (free (asked .before))
+    rw (free (asked .before .before))
     (c .new-within .ensures ∙ sym (then-second _ _ _ (asked .admitted .ensures) (c .before .enum-told .given .1) _))
 
 returns-3 : tie.Need-returns-3
 unfolding newFrom13 firstNo
 returns-3 c =
     let asked = c .before in
-    let a = asked .before .before .before .before .before .args in
-    rw (free (asked .before)) (first-refuses (a .m .now) (a .o) _ (asked .admitted .ensures) (c .match .keys2) _)
+    let a = asked .before .before .before .before .before .before .args in
+    rw (free (asked .before .before)) (first-refuses (a .m .now) (a .o) _ (asked .admitted .ensures) (c .match .keys2) _)
 
 pub new-order-spec : {M : Type 1} → statement M
 new-order-spec =
     tie.close
     (tie.spec (λ c κs. let pre = c .before .before .pre in (pre .0 .on .held, pre .2)) returns
-    (λ c κs. search needs) (λ c. search needs) new-within-requires returns-2 returns-3)
+    (λ c κs. search needs) (λ c κs. search needs) (λ c. search needs) new-within-requires returns-2 returns-3)

@@ -10,6 +10,7 @@ use Rattle.book.specs.Table.{betweenℤ}
 use Rattle.book.proofs.Tables.{between-numbered}
 use Rattle.layout.specs.View.{rosterOf, tradingOf}
 use Rattle.layout.specs.Judged.{judged}
+use Rattle.soundness.proofs.Bounded.{sound-readable}
 use Rattle.soundness.proofs.Asked.{answered-no, answered-yes}
 use Rattle.judging.proofs.HandedOn.{test-handed-on}
 use Rattle.judging.proofs.ByKind.{balance-answer}
@@ -54,7 +55,7 @@ is-trading-requires : tie.Need-is-trading-requires
 is-trading-requires c κs =
     let one = c .before .before .before .before in
     let s = one .before .before .before in
-    (s .pre, between-numbered (rosterOf (s .args .m .now) .accounts) (s .args .account) (known one))
+    (sound-readable _ (s .pre), between-numbered (rosterOf (s .args .m .now) .accounts) (s .args .account) (known one))
 
 -- the three tests are passed, and t says whether the account trades
 answered : (c : tie.After-is-trading) (t : Bool) → let a = c .before .before .before .before .before .before .before .before .args in

@@ -16,7 +16,6 @@ use Rattle.ledger.specs.Positions.{wayOf, ofInstrument}
 use Rattle.ledger.specs.Records.{balancesIn, rosterIn}
 use Rattle.ledger.specs.Derivatives.{one}
 use Rattle.ledger.proofs.Fits.{again}
-use Rattle.ledger.proofs.RosterWords.{weight-word}
 use Rattle.positions.specs.Gathered.{Gathered}
 use Rattle.limits.specs.Lines.{Lines}
 use Rattle.limits.specs.Questions.{firstNo}
@@ -61,13 +60,10 @@ passed : (c : tie.Else1) → leZ (c .before .before .instrument-with .result .0)
     ≡ true
 passed c = sym (c .before .at-most .ensures) ∙ not-false _ (c .if1 .left)
 
-weight : (c : tie.After-signed-word) → let a =
+weight : (c : tie.After-weight-in) → let a =
     c .before .before .before .before .before .before .before .before .before .before .args in
-    again (c .signed-word .result) ≡ rosterIn (a .roster .now) .weight (a .o .instrument)
-weight c =
-    toZ-ofZ w64 (c .signed-word .result) (record { sfits = c .signed-word .ok })
-    ∙ c .signed-word .ensures
-    ∙ weight-word _ _
+    again (c .weight-in .result) ≡ rosterIn (a .roster .now) .weight (a .o .instrument)
+weight c = toZ-ofZ w64 (c .weight-in .result) (record { sfits = c .weight-in .ok }) ∙ c .weight-in .ensures
 
 returns-2 : tie.Need-returns-2
 unfolding numberOf
@@ -113,7 +109,7 @@ judged c ls n before after more gathered in-force of-group raised t test =
     let s = at .before .before .before .before .before .before .before .before .before in
     by-group _ ls before after _ _ _ _ _ in-force of-group raised _ _ (instrument-found (at .before .before) n before more gathered)
     (at .before .before .before .largest-position .ensures) (passed at) (s .pre .0 .instrument)
-    (λ e. to .before .if2 .left (ap (ofZ w64) (sym (toZ-ofZ w64 (K .signed-word .result) (record { sfits = K .signed-word .ok })) ∙ weight K
+    (λ e. to .before .if2 .left (ap (ofZ w64) (sym (toZ-ofZ w64 (K .weight-in .result) (record { sfits = K .weight-in .ok })) ∙ weight K
     ∙ e)))
     (wayOf (to .group-side .result))
     (to .group-side .ensures ∙ rw (weight K))
@@ -139,5 +135,5 @@ returns-4 c ls n before after more gathered in-force of-group raised =
 pub positions-within-spec : {M : Type 1} → statement M
 positions-within-spec =
     tie.close (tie.spec (λ c κs. search needs) instrument-with-requires (λ c κs. search needs) (λ c κs. search needs) returns
-    (λ c. search needs) (λ c κs. search needs) returns-2 (λ c κs. search needs) (λ c κs. search needs) times-requires group-with-requires
+    (λ c κs. search needs) returns-2 (λ c κs. search needs) (λ c κs. search needs) times-requires group-with-requires
     (λ c κs. search needs) (λ c κs. search needs) returns-3 returns-4)

@@ -5,11 +5,11 @@ use mathlib.Core.Path.{_≡_}
 use mathlib.Core.Bool.{true}
 use native.Mathlib.Omega.{arith}
 use borrow.Author.Needs.{needs}
-use lib.ListN.{length}
 use Rattle.layout.specs.Rosters.{every}
 use Rattle.layout.specs.View.{rosterOf}
 use Rattle.soundness.specs.Soundness.{instrumentSound, accountSound}
 use Rattle.layout.proofs.Every.{every-none, every-no, every-on, every-all}
+use Rattle.layout.proofs.FieldsRead.{balances-long}
 use Rattle.soundness.proofs.PositionTests.{row-small}
 use Rattle.soundness.proofs.balances.account_is_sound.Statement.{statement}
 use Rattle.soundness.proofs.balances.account_is_sound.Tie as tie
@@ -20,22 +20,25 @@ Inv-loop m cells a n j₀ j = (n ≡ rosterOf m .instruments) × (j ≤ n) × (e
 abbrev μ-loop : tie.MeasureT-loop
 μ-loop m cells a n j₀ j = n - j
 
--- the row of balances is there
-inside : (c : tie.After-shared-slice-known Inv-loop μ-loop) → let s = c .before in (s .args .a ≤ 16) × (65536 ≤ length (s .args .m .now))
-inside c =
-    let s = c .before in
-    (omega (arith, s .pre .2, s .pre .0 .accounts), s .pre .0 .long)
+balances-requires : tie.Need-balances-requires Inv-loop μ-loop
+balances-requires c κs = (c .before .pre .0 .long, omega (arith, c .before .pre .2, c .before .pre .0 .accounts))
+
+all-small-requires : tie.Need-all-small-requires Inv-loop μ-loop
+all-small-requires c κs =
+    let s = c .before .before in
+    rw (c .balances .ensures) (omega (arith, balances-long _ _ (s .pre .2) (s .pre .0)))
 
 instrument-is-sound-requires : tie.Need-instrument-is-sound-requires Inv-loop μ-loop
 instrument-is-sound-requires c κs =
-    let s = c .before .before .before .before .before .before in
+    let s = c .before .before .before .before .before .before .before in
     (s .pre .0, s .pre .1, s .pre .2, (omega arith, omega arith))
 
 returns : tie.Need-returns Inv-loop μ-loop
 unfolding accountSound
 returns c =
-    let s = c .before .before .before in
-    row-small _ _ _ (s .pre .0) (s .pre .1) (s .pre .2) (c .before .all-small .ensures (c .if1 .taken))
+    let row = c .before .before in
+    let s = row .before .before in
+    row-small _ _ _ (s .pre .0) (s .pre .1) (s .pre .2) (rw (row .balances .ensures) at (c .before .all-small .ensures (c .if1 .taken)))
 
 returns-2 : tie.Need-returns-2 Inv-loop μ-loop
 unfolding accountSound
@@ -54,6 +57,5 @@ returns-3 c = every-all _ _ (c .before .loop .j) (omega arith) (omega arith) (c 
 
 pub account-is-sound-spec : {M : Type 1} → statement M
 account-is-sound-spec =
-    tie.close (tie.spec Inv-loop μ-loop (λ c. omega (arith, inside c)) (λ c. omega (arith, inside c)) (λ c. omega (arith, inside c))
-    (λ c κs. omega (arith, inside c)) returns (λ c κs. search needs) (λ c. (c .instruments .ensures, omega arith, every-none _))
+    tie.close (tie.spec Inv-loop μ-loop balances-requires all-small-requires returns (λ c κs. search needs) (λ c. (c .instruments .ensures, omega arith, every-none _))
     (λ c. omega arith) instrument-is-sound-requires returns-2 (λ c. omega arith) (λ c. omega arith) loop-again returns-3)

@@ -41,15 +41,15 @@ less-requires-2 c κs =
 tests : (c : tie.After-at-most) →
     let s = c .before .before .before .before .before .before .before .before in
     (z : ℤ) → z ≡ c .before .before .of2 .result .0 +ℤ negℤ (pos 1000000000) →
-    (c .at-most .result && leZ z (again (c .before .before .before .before .before .before .signed-word .result)))
+    (c .at-most .result && leZ z (again (c .before .before .before .before .before .before .balance .result)))
     ≡ instrumentSound (s .args .m .now) (s .args .a) (s .args .i)
 tests c z e =
     let v = c .before .before in
     let b = v .before .before in
     let w = b .before .before in
     let s = w .before .before in
-    rw (c .at-most .ensures, c .before .less .ensures, e, toZ-ofZ w64 (w .signed-word .result) (record { sfits = w .signed-word .ok }))
-    (instrument-tested _ _ _ _ (s .pre .0) (s .pre .1) (s .pre .2) (s .pre .3) _ _ _ (w .signed-word .ensures) (b .of .ensures)
+    rw (c .at-most .ensures, c .before .less .ensures, e, toZ-ofZ w64 (w .balance .result) (record { sfits = w .balance .ok }))
+    (instrument-tested _ _ _ _ (s .pre .0) (s .pre .1) (s .pre .2) (s .pre .3) _ _ _ (w .balance .ensures) (b .of .ensures)
     (v .of2 .ensures))
 
 returns : tie.Need-returns
@@ -63,7 +63,7 @@ returns-2 c =
 
 pub instrument-is-sound-spec : {M : Type 1} → statement M
 instrument-is-sound-spec =
-    tie.close (tie.spec (λ c. search needs) (λ c. search needs) (λ c. search needs) (λ c κs. search needs) (λ c. search needs)
+    tie.close (tie.spec (λ c κs. search needs) (λ c. search needs)
     (λ c. search needs) (λ c. search needs) (λ c. search needs) of-requires (λ c. search needs) (λ c. search needs) (λ c. search needs)
     (λ c. search needs) (λ c. search needs) of-requires-2 less-requires (λ c κs. search needs) returns less-requires-2
     (λ c κs. search needs) returns-2)

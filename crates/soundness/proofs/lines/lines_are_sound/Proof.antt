@@ -18,7 +18,7 @@ abbrev μ-loop : tie.MeasureT-loop
 account-lines-are-sound-requires : tie.Need-account-lines-are-sound-requires Inv-loop μ-loop
 account-lines-are-sound-requires c κs =
     let s = c .before .before .before .before in
-    (s .pre, omega (arith, s .pre .accounts))
+    (s .pre, (omega arith, omega arith))
 
 loop-again : tie.Need-loop-again Inv-loop μ-loop
 loop-again c =

@@ -1,8 +1,9 @@
 -- A yes of the details is one for every record within them; else the loop asks record by record, all before p having been marked.
 use Prim.Native.Nat.{_-_, _<_}
-use mathlib.Core.Path.{_≡_}
+use mathlib.Core.Path.{_≡_, _∙_}
 use native.Mathlib.Omega.{arith}
 use lib.ListN.{length}
+use Rattle.layout.proofs.Lengths.{length-open}
 use Rattle.soundness.specs.Each.{Marked}
 use Rattle.soundness.proofs.Details.{record-packable}
 use Rattle.soundness.proofs.Telling.{tells-yes, told-yes, told-no, AskedTo, asked-none, asked-all, asked-long, asked-more}
@@ -44,7 +45,7 @@ loop-again c =
 pub all-marked-spec : {M : Type 1} → statement M
 all-marked-spec =
     tie.close (tie.spec Inv-loop μ-loop (λ c κs. c .before .pre .0) returns (λ c κs. omega (arith, c .before .before .before .pre .0 .long))
-    (λ c κs. c .before .before .before .before .pre .1) (λ c. asked-none _ _ _ _ (c .before .word .ensures) (c .records .ensures))
+    (λ c κs. c .before .before .before .before .pre .1) (λ c. asked-none _ _ _ _ (c .before .count .ensures ∙ length-open _) (c .records .ensures))
     (λ c κs. omega (arith, long c)) (λ c κs. c .before .before .before .before .before .before .before .before .pre .0) returns-2
     (λ c. omega (arith, long (c .before .before .before))) (λ c. omega arith) loop-again
     (λ c. asked-all _ _ _ _ _ (c .before .loop .inv) (omega arith)))

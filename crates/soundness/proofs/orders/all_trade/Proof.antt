@@ -1,17 +1,13 @@
 -- The loop has seen the first a marks set. A yes covers the largest account and instrument that the details' bits allow, so each order
 -- within the details has its account and instrument on the roster and its account's mark among those seen.
 use Prim.Native.Nat.{ℕ, _+_, _-_, _≤_, _<_}
-use mathlib.Core.Path.{_≡_, _∙_}
-use mathlib.Core.Logic.{_≢_}
-use mathlib.Core.Bool.{false≢true}
+use mathlib.Core.Path.{_≡_}
+use mathlib.Core.Bool.{true, false≢true}
 use native.Mathlib.Omega.{arith}
-use borrow.Author.Tests.{ne-eqb}
-use Rattle.words.specs.Words.{wordAt}
-use Rattle.ledger.specs.Roster.{Numbered}
 use Rattle.ledger.specs.Records.{packedAccount}
-use Rattle.layout.specs.Layout.{markWord}
-use Rattle.layout.specs.View.{rosterOf}
-use Rattle.soundness.proofs.Telling.{below, trading-flag}
+use Rattle.layout.specs.View.{rosterOf, tradingOf}
+use Rattle.soundness.proofs.Asked.{answered-yes}
+use Rattle.soundness.proofs.Telling.{below}
 use Rattle.soundness.proofs.orders.all_trade.Statement.{statement}
 use Rattle.soundness.proofs.orders.all_trade.Tie as tie
 
@@ -20,18 +16,29 @@ abbrev Inv-loop : tie.InvT-loop
 Inv-loop m details most a₀ a-end a =
     (a-end ≡ packedAccount details)
     × (a ≤ a-end)
-    × ((b : ℕ) → b < a → wordAt m (128 + b) ≢ 0)
+    × ((b : ℕ) → b < a → tradingOf m (b + 1) ≡ true)
 
 abbrev μ-loop : tie.MeasureT-loop
 μ-loop m details most a₀ a-end a = a-end - a
+
+-- the largest account that the details' bits allow is on the roster
+on-roster : (c : tie.Else1 Inv-loop μ-loop) → let a =
+    c .before .before .before .before .args in packedAccount (a .details) ≤ rosterOf (a .m .now) .accounts
+on-roster c = omega (arith, c .before .before .account-of .ensures, c .before .accounts .ensures, c .if1 .left)
+
+is-trading-requires : tie.Need-is-trading-requires Inv-loop μ-loop
+is-trading-requires c κs =
+    let at = c .before in
+    let one = at .before .before .before .before in
+    (one .before .before .before .before .pre, (omega arith, omega (arith, at .loop .inv .0, on-roster one)))
 
 loop-again : tie.Need-loop-again Inv-loop μ-loop
 loop-again c =
     let at = c .before .before .before in (
       at .loop .inv .0,
       omega arith,
-      below (λ b. wordAt _ (128 + b) ≢ 0) (at .loop .a) (at .loop .inv .2)
-          (λ e. c .if3 .left (c .before .word .ensures ∙ e)),
+      below (λ b. tradingOf _ (b + 1) ≡ true) (at .loop .a) (at .loop .inv .2)
+          (answered-yes _ _ (c .before .is-trading .ensures) (c .if3 .left)),
     )
 
 returns-4 : tie.Need-returns-4 Inv-loop μ-loop
@@ -39,22 +46,10 @@ returns-4 c e o fits within =
     let at = c .before in
     let two = at .before in
     let one = two .before .before .before in
-    let s = one .before .before .before .before in
-    let m = s .args .m .now in
-    let on : Numbered (rosterOf m .accounts) (o .account) = (
-      fits .0 .0,
-      omega (
-        arith,
-        within .account,
-        one .before .before .account-of .ensures,
-        one .before .accounts .ensures,
-        one .if1 .left,
-      ),
-    ) in
-    let word : 128 + (o .account - 1) ≡ markWord (o .account) = omega (arith, fits .0 .0) in
+    let same : o .account - 1 + 1 ≡ o .account = omega (arith, fits .0 .0) in
     let set = at .loop .inv .2 (o .account - 1) (omega (arith, fits .0 .0, within .account, at .loop .inv .0)) in
     record {
-      account = on;
+      account = (fits .0 .0, omega (arith, within .account, on-roster one));
       instrument = (
         fits .1 .0,
         omega (
@@ -65,7 +60,7 @@ returns-4 c e o fits within =
           two .if2 .left,
         ),
       );
-      marked = trading-flag m (o .account) on ∙ rw (ne-eqb (wordAt m (markWord (o .account))) 0 (rw word at set));
+      marked = rw same at set;
     }
 
 pub all-trade-spec : {M : Type 1} → statement M
@@ -73,6 +68,4 @@ all-trade-spec =
     tie.close (tie.spec Inv-loop μ-loop (λ c κs. tt) (λ c κs. c .before .before .pre .long) (λ c. λ e. absurd (false≢true e))
     (λ c κs. c .before .before .before .before .pre .long) (λ c κs. tt) (λ c. λ e. absurd (false≢true e))
     (λ c. (c .before .before .before .before .before .account-of .ensures, omega arith, λ b h. absurd (omega arith))) (λ c. omega arith)
-    (λ c. omega arith)
-    (λ c κs. omega (arith, c .before .loop .inv .0, c .before .before .before .before .before .before .before .before .before .pre .long))
-    (λ c. λ e. absurd (false≢true e)) (λ c. omega arith) (λ c. omega arith) loop-again returns-4)
+    is-trading-requires (λ c. λ e. absurd (false≢true e)) (λ c. omega arith) (λ c. omega arith) loop-again returns-4)

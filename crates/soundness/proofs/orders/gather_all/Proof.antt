@@ -1,6 +1,6 @@
 -- The records passed have ascending ids and something left of each, and what is left of them is in the cells.
 use Prim.Native.Nat.{_+_, _-_, _<_}
-use mathlib.Core.Path.{_≡_}
+use mathlib.Core.Path.{_≡_, _∙_}
 use mathlib.Core.Bool.{false≢true}
 use native.Mathlib.Omega.{arith}
 use lib.ListN.{length}
@@ -9,6 +9,7 @@ use Rattle.words.specs.Words.{wordAt}
 use Rattle.ledger.proofs.Details.{remaining-below}
 use Rattle.layout.specs.Layout.{countWord}
 use Rattle.layout.specs.View.{recordsOf}
+use Rattle.layout.proofs.Lengths.{length-open}
 use Rattle.soundness.proofs.Telling.{records-long}
 use Rattle.soundness.proofs.Gathering.{Passed, passed-none, passed-id, passed-nothing, passed-more, ids-refused, record-refused}
 use Rattle.soundness.proofs.Gathering.{all-told, all-within, all-gathered}
@@ -101,7 +102,7 @@ returns-3 c =
 pub gather-all-spec : {M : Type 1} → statement M
 gather-all-spec =
     tie.close (tie.spec Inv-loop μ-loop (λ c κs. omega (arith, c .before .pre .0 .long)) (λ c κs. c .before .before .pre .1)
-    (λ c. (c .before .word .ensures, c .records .ensures, passed-none _ _ _ (c .before .before .before .pre .2)))
+    (λ c. (c .before .count .ensures ∙ length-open _, c .records .ensures, passed-none _ _ _ (c .before .before .before .pre .2)))
     (λ c κs. omega (arith, long c)) (λ c κs. omega (arith, long (c .before))) returns (λ c κs. tt) returns-2 (λ c κs. tt) (λ c κs. tt)
     (λ c. omega (arith, c .packed-of .ensures)) (λ c κs. tt)
     (λ c κs. omega (

@@ -1,8 +1,9 @@
 -- No total exceeds filled plus remaining of the details' bits taken together; where that does not tell, the loop asks record by record.
 use Prim.Native.Nat.{_-_, _<_}
-use mathlib.Core.Path.{_≡_}
+use mathlib.Core.Path.{_≡_, _∙_}
 use native.Mathlib.Omega.{arith}
 use lib.ListN.{length}
+use Rattle.layout.proofs.Lengths.{length-open}
 use Rattle.soundness.specs.Each.{TotalFits}
 use Rattle.ledger.proofs.Details.{within-total}
 use Rattle.soundness.proofs.Telling.{tells-yes, AskedTo, asked-none, asked-all, asked-long, asked-more, asked-refused}
@@ -51,6 +52,6 @@ totals-fit-spec =
     tie.close (tie.spec Inv-loop μ-loop (λ c κs. tt) (λ c κs. tt)
     (λ c. omega (arith, c .remaining-of .ensures, c .before .filled-of .ensures, c .before .before .before .fits .details)) returns
     (λ c κs. omega (arith, c .before .before .before .before .pre .0 .long)) (λ c κs. c .before .before .before .before .before .pre .1)
-    (λ c. asked-none _ _ _ _ (c .before .word .ensures) (c .records .ensures)) (λ c κs. omega (arith, long c)) returns-2
+    (λ c. asked-none _ _ _ _ (c .before .count .ensures ∙ length-open _) (c .records .ensures)) (λ c κs. omega (arith, long c)) returns-2
     (λ c. omega (arith, long (c .before .before .before))) (λ c. omega arith) loop-again
     (λ c. asked-all _ _ _ _ _ (c .before .loop .inv) (omega arith)))

@@ -1,5 +1,5 @@
 -- Sizes first, since they keep the tables inside the part; then each contract's group, each instrument's contract, each weight.
-use Prim.Native.Nat.{_+_, _≤_}
+use Prim.Native.Nat.{_≤_}
 use mathlib.Core.Path.{_≡_, _∙_, ap}
 use mathlib.Core.Bool.{true}
 use native.Mathlib.Omega.{arith}
@@ -7,14 +7,14 @@ use borrow.Author.Needs.{needs}
 use lib.Dec.{leb}
 use lib.IntN.{natAbs}
 use lib.ListN.{length}
-use Rattle.words.specs.Words.{wordAt, signedAt, partOf}
+use Rattle.ledger.specs.Records.{rosterIn}
 use Rattle.book.specs.Decoding.{between}
-use Rattle.layout.specs.Layout.{rosterWord}
 use Rattle.layout.specs.Rosters.{every, sizesFit}
-use Rattle.layout.specs.View.{rosterOf}
+use Rattle.layout.specs.View.{rosterPart, rosterOf}
 use Rattle.soundness.specs.Soundness.{rosterSound}
 use Rattle.soundness.proofs.Asked.{answered-no, answered-yes}
-use Rattle.soundness.proofs.RosterLaws.{names-tests, weights-tests, roster-long, sizes-numbered}
+use Rattle.soundness.proofs.RosterLaws.{names-tests, weights-tests, sizes-numbered}
+use Rattle.layout.proofs.RosterRead.{roster-long}
 use Rattle.soundness.proofs.roster.roster_is_sound.Statement.{statement}
 use Rattle.soundness.proofs.roster.roster_is_sound.Tie as tie
 
@@ -22,49 +22,49 @@ sized : (c : tie.Else1) → sizesFit (rosterOf (c .before .before .before .args 
 sized c = answered-yes _ _ (c .before .sizes-fit .ensures) (c .if1 .left)
 
 -- the part is long enough for what the sizes say
-long : (c : tie.After-part) → let m =
-    c .before .before .before .before .args .m .now in (length (c .part .result .now) ≡ 608) × (rosterOf m .contracts ≤ 8)
+long : (c : tie.After-roster) → let m =
+    c .before .before .before .before .args .m .now in (length (c .roster .result .now) ≡ 608) × (rosterOf m .contracts ≤ 8)
     × (rosterOf m .instruments ≤ 32)
 long c =
     let s = c .before .before .before .before in
     let n = sizes-numbered (s .args .m .now) (sized (c .before)) in
-    (ap length (c .part .ensures) ∙ roster-long (s .args .m .now) (s .pre), n .2 .1, n .3 .1)
+    (ap length (c .roster .ensures) ∙ roster-long (s .args .m .now) (s .pre), n .2 .1, n .3 .1)
 
-all-between-requires : tie.Need-all-between-requires
-all-between-requires c κs = omega (arith, long (c .before .before .before), c .before .contracts .ensures)
+groups-named-requires : tie.Need-groups-named-requires
+groups-named-requires c κs = omega (arith, long (c .before .before .before), c .before .contracts .ensures)
 
-all-between-requires-2 : tie.Need-all-between-requires-2
-all-between-requires-2 c κs =
+contracts-named-requires : tie.Need-contracts-named-requires
+contracts-named-requires c κs =
     let at = c .before .before in
     omega (arith, long (at .before .before .before), at .instruments .ensures)
 
-all-weights-requires : tie.Need-all-weights-requires
-all-weights-requires c κs =
+weights-fit-requires : tie.Need-weights-fit-requires
+weights-fit-requires c κs =
     let at = c .before .before .before .before in
     omega (arith, long (at .before .before .before), at .instruments .ensures)
 
 -- what each call says of the roster
-groups-named : (c : tie.After-all-between) → let m =
+named-groups : (c : tie.After-groups-named) → let m =
     c .before .before .before .before .before .before .before .before .args .m .now in
-    c .all-between .result ≡ every (rosterOf m .contracts) (λ j. between 1 (rosterOf m .groups) (wordAt (partOf m rosterWord 76) (3 + j)))
-groups-named c =
+    c .groups-named .result ≡ every (rosterOf m .contracts) (λ j. between 1 (rosterOf m .groups) (rosterIn (rosterPart m) .groupOf j))
+named-groups c =
     let at = c .before .before in
-    c .all-between .ensures ∙ rw (at .contracts .ensures, at .before .groups .ensures, at .before .before .part .ensures)
+    c .groups-named .ensures ∙ rw (at .contracts .ensures, at .before .groups .ensures, at .before .before .roster .ensures)
 
-contracts-named : (c : tie.After-all-between2) → let m =
+named-contracts : (c : tie.After-contracts-named) → let m =
     c .before .before .before .before .before .before .before .before .before .before .args .m .now in
-    c .all-between2 .result ≡ every (rosterOf m .instruments)
-    (λ j. between 1 (rosterOf m .contracts) (wordAt (partOf m rosterWord 76) (11 + j)))
-contracts-named c =
+    c .contracts-named .result ≡ every (rosterOf m .instruments)
+    (λ j. between 1 (rosterOf m .contracts) (rosterIn (rosterPart m) .contractOf j))
+named-contracts c =
     let at = c .before .before .before in
-    c .all-between2 .ensures ∙ rw (at .instruments .ensures, at .before .contracts .ensures, at .before .before .before .part .ensures)
+    c .contracts-named .ensures ∙ rw (at .instruments .ensures, at .before .contracts .ensures, at .before .before .before .roster .ensures)
 
-weighed : (c : tie.After-all-weights) → let m =
+weighed : (c : tie.After-weights-fit) → let m =
     c .before .before .before .before .before .before .before .before .before .before .before .before .args .m .now in
-    c .all-weights .result ≡ every (rosterOf m .instruments) (λ j. leb (natAbs (signedAt (partOf m rosterWord 76) (43 + j))) 1000000)
+    c .weights-fit .result ≡ every (rosterOf m .instruments) (λ j. leb (natAbs (rosterIn (rosterPart m) .weight j)) 1000000)
 weighed c =
     let at = c .before .before .before .before .before in
-    c .all-weights .ensures ∙ rw (at .instruments .ensures, at .before .before .before .part .ensures)
+    c .weights-fit .ensures ∙ rw (at .instruments .ensures, at .before .before .before .roster .ensures)
 
 returns : tie.Need-returns
 unfolding rosterSound
@@ -74,7 +74,7 @@ returns-2 : tie.Need-returns-2
 unfolding rosterSound
 returns-2 c =
     let one = c .before .before .before .before .before .before in
-    rw (sized one, names-tests, answered-no _ _ (groups-named (c .before)) (c .if2 .taken))
+    rw (sized one, names-tests, answered-no _ _ (named-groups (c .before)) (c .if2 .taken))
 
 returns-3 : tie.Need-returns-3
 unfolding rosterSound
@@ -84,8 +84,8 @@ returns-3 c =
     rw (
       sized one,
       names-tests,
-      answered-yes _ _ (groups-named (two .before)) (two .if2 .left),
-      answered-no _ _ (contracts-named (c .before)) (c .if3 .taken),
+      answered-yes _ _ (named-groups (two .before)) (two .if2 .left),
+      answered-no _ _ (named-contracts (c .before)) (c .if3 .taken),
     )
 
 returns-4 : tie.Need-returns-4
@@ -99,11 +99,11 @@ returns-4 c =
       sized one,
       names-tests,
       weights-tests,
-      answered-yes _ _ (groups-named (two .before)) (two .if2 .left),
-      answered-yes _ _ (contracts-named (three .before)) (three .if3 .left),
+      answered-yes _ _ (named-groups (two .before)) (two .if2 .left),
+      answered-yes _ _ (named-contracts (three .before)) (three .if3 .left),
     )
 
 pub roster-is-sound-spec : {M : Type 1} → statement M
 roster-is-sound-spec =
     tie.close (tie.spec (λ c κs. search needs) returns (λ c κs. search needs) (λ c κs. search needs) (λ c κs. search needs)
-    (λ c κs. search needs) all-between-requires returns-2 all-between-requires-2 returns-3 all-weights-requires returns-4)
+    (λ c κs. search needs) groups-named-requires returns-2 contracts-named-requires returns-3 weights-fit-requires returns-4)

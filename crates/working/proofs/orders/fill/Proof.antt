@@ -2,7 +2,7 @@
 use Prim.Native.Nat.{_≤_}
 use native.Mathlib.Omega.{arith}
 use borrow.Author.Needs.{needs}
-use Rattle.working.proofs.Filling.{fill-most, fill-quantity, fill-room, fill-stands, fill-small, fill-worked}
+use Rattle.working.proofs.Filling.{fill-most, fill-quantity, fill-room, fill-readable, fill-stands, fill-small, fill-worked}
 use Rattle.working.proofs.SumsMoved.{change-sums}
 use Rattle.working.proofs.Keeping.{recountable}
 use Rattle.working.proofs.orders.fill.Statement.{statement}
@@ -17,17 +17,8 @@ recount-requires c κs =
     rw (c .before .remaining .ensures) (recountable (start .pre .0 .held) (start .pre .1)
     (change-sums (λ i. c .before .before .before .slice-known .given i .fits) (start .pre .0)))
 
-mul-signed-word : tie.Need-mul-signed-word
-mul-signed-word c = omega (arith, fill-room (c .before .before .before .before .before .before .before .before .pre .0))
-
-add-signed-word : tie.Need-add-signed-word
-add-signed-word c = omega (arith, fill-room (c .before .before .before .before .before .before .before .before .pre .0))
-
-add-signed-word-2 : tie.Need-add-signed-word-2
-add-signed-word-2 c = omega (arith, fill-room (c .before .before .before .before .before .before .before .before .pre .0))
-
-signed-word-requires : tie.Need-signed-word-requires
-signed-word-requires c κs = omega (arith, fill-room (c .before .before .before .before .before .before .before .before .pre .0))
+balance-requires : tie.Need-balance-requires
+balance-requires c κs = fill-readable (c .before .before .before .before .before .before .before .before .pre .0)
 
 fill-record-requires : tie.Need-fill-record-requires
 fill-record-requires c κs = fill-stands (c .before .before .before .before .before .before .before .before .before .before .pre .0)
@@ -42,7 +33,7 @@ balance-after-requires : tie.Need-balance-after-requires
 balance-after-requires c κs =
     let read = c .before .before .before .before .before in
     let start = read .before .before .before .before .before .before .before .before .before in
-    let small = fill-small (start .pre .0) (record { sfits = read .signed-word .ok }) (read .signed-word .ensures) in
+    let small = fill-small (start .pre .0) (record { sfits = read .balance .ok }) (read .balance .ensures) in
     (small .0, rw (c .of .ensures) (small .1))
 
 set-balance-requires : tie.Need-set-balance-requires
@@ -54,7 +45,7 @@ returns c =
     let read = c .before .before .before .before .before .before .before .before .before .before .before in
     let counted = read .before .before .before .before in
     let start = counted .before .before .before .before .before in
-    let stored = fill-worked (start .pre .0) (record { sfits = read .signed-word .ok }) (read .signed-word .ensures)
+    let stored = fill-worked (start .pre .0) (record { sfits = read .balance .ok }) (read .balance .ensures)
     (c .before .before .before .before .before .before .before .before .before .fill-record .ensures) (rw (after .before .of .ensures) at (after .balance-after .ensures))
     (c .before .before .set-balance .ensures) in (
       stored,
@@ -65,6 +56,5 @@ returns c =
 
 pub fill-spec : {M : Type 1} → statement M
 fill-spec =
-    tie.close (tie.spec (λ c κs. search needs) sub-recount recount-requires mul-signed-word add-signed-word add-signed-word-2
-    signed-word-requires fill-record-requires of-requires balance-after-requires set-balance-requires (λ c. search needs)
+    tie.close (tie.spec (λ c κs. search needs) sub-recount recount-requires balance-requires fill-record-requires of-requires balance-after-requires set-balance-requires (λ c. search needs)
     (λ c. search needs) returns)

@@ -1,0 +1,12 @@
+-- The word is that number's in the table of contracts of instruments, by definition.
+use borrow.Author.Needs.{needs}
+use Rattle.ledger.specs.Records.{rosterIn}
+use Rattle.ledger.proofs.roster.contract_in.Statement.{statement}
+use Rattle.ledger.proofs.roster.contract_in.Tie as tie
+
+returns : tie.Need-returns
+unfolding rosterIn
+returns c = c .word .ensures
+
+pub contract-in-spec : {M : Type 1} → statement M
+contract-in-spec = tie.close (tie.spec (λ c. search needs) (λ c κs. search needs) returns)

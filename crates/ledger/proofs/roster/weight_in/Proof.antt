@@ -1,0 +1,15 @@
+-- The signed word is the instrument's in the table of weights, by definition; it fits 64 bits, so it is read back.
+use mathlib.Core.Path.{_∙_}
+use borrow.Author.Needs.{needs}
+use mir.Syntax.{w64}
+use mir.ValLaws.{toZ-ofZ}
+use Rattle.ledger.specs.Records.{rosterIn}
+use Rattle.ledger.proofs.roster.weight_in.Statement.{statement}
+use Rattle.ledger.proofs.roster.weight_in.Tie as tie
+
+returns : tie.Need-returns
+unfolding rosterIn
+returns c = toZ-ofZ w64 (c .signed-word .result) (record { sfits = c .signed-word .ok }) ∙ c .signed-word .ensures
+
+pub weight-in-spec : {M : Type 1} → statement M
+weight-in-spec = tie.close (tie.spec (λ c. search needs) (λ c κs. search needs) returns)
