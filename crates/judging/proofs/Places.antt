@@ -19,7 +19,7 @@ use Rattle.book.specs.OpenOrders.{find}
 use Rattle.book.specs.Sound.{Ascending}
 use Rattle.book.proofs.Cuts.{standing}
 use Rattle.layout.specs.Layout.{countWord}
-use Rattle.layout.specs.View.{recordsOf, openOrders, bookOf, view}
+use Rattle.layout.specs.View.{recordsOf, openOrders, bookOf}
 use Rattle.layout.specs.Stores.{orderIn, rank, Ranked}
 use Rattle.layout.proofs.Lengths.{rank-open}
 use Rattle.layout.proofs.Ranking.{found-before, found-none}

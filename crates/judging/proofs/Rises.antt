@@ -10,7 +10,7 @@ use Rattle.limits.proofs.Raising.{raised-by-new, raised-by-replace}
 use Rattle.book.specs.OpenOrders.{insert, change}
 use Rattle.book.specs.Sound.{OrderFits}
 use Rattle.book.proofs.Cuts.{insert-sums, standing, standing-member, change-sums}
-use Rattle.layout.specs.View.{rosterOf, openOrders, bookOf, view}
+use Rattle.layout.specs.View.{rosterOf, openOrders, bookOf}
 use Rattle.order_checks.specs.Questions.{OnRoster}
 use Rattle.judging.specs.QuestionsLeft.{Replaceable}
 

@@ -1,17 +1,20 @@
--- The questions that are left of a NEW and of a REPLACE, once those before them are answered yes.
+-- The questions that are left of a NEW and of a change of an open order, once those before them are answered yes.
 use Prim.Native.Nat.{ℕ, _≤_}
 use mathlib.Core.Path.{_≡_}
-use mathlib.Core.Bool.{not, cond}
+use mathlib.Core.Bool.{true, not, cond}
 use mathlib.Core.List.{List, [], _∷_, _++_}
 use mathlib.Core.Option.{some}
-use lib.Dec.{ltb}
+use lib.Dec.{leb, ltb}
+use lib.IntN.{natAbs}
 use lib.ListN.{length}
 use Rattle.ledger.specs.declared.order.Order.{Order}
-use Rattle.ledger.specs.Orders.{replacedTotal}
+use Rattle.ledger.specs.Orders.{remaining, replacedTotal}
 use Rattle.limits.specs.Lines.{isSet}
 use Rattle.limits.specs.Questions.{Question}
+use Rattle.book.specs.declared.OrderChange.{OrderChange}
+use Rattle.book.specs.declared.OrderChange.the-variants.{Replace, Cancel, Fill}
 use Rattle.book.specs.OpenOrders.{find, insert, change}
-use Rattle.book.specs.Table.{q}
+use Rattle.book.specs.Table.{q, changeInRange}
 use Rattle.layout.specs.View.{openOrders}
 use Rattle.soundness.specs.SoundMemory.{SoundMemory}
 use Rattle.order_checks.specs.Questions.{admission, withinLimits, OnRoster}
@@ -43,3 +46,15 @@ pub record Replaceable (m : List ℕ) (o : Order) (total : ℕ) : Type 0 where
   pub held : SoundMemory m
   pub found : find (o .id) (openOrders m) ≡ some o
   pub small : total ≤ 1000000
+
+-- ---- of a change of order o: 12 to 24
+unfoldable pub changeFrom12 : List ℕ → Order → OrderChange → List Question
+changeFrom12 m o (Replace n) = replaceFrom12 m o (natAbs n)
+changeFrom12 m o Cancel = []
+changeFrom12 m o (Fill n) = q 12 (leb (natAbs n) (remaining o)) ∷ []
+
+-- its order is open, at a sound desk, and its figure in range
+pub record Changeable (m : List ℕ) (o : Order) (c : OrderChange) : Type 0 where
+  pub held : SoundMemory m
+  pub found : find (o .id) (openOrders m) ≡ some o
+  pub figures : changeInRange c ≡ true

@@ -1,9 +1,8 @@
-// The judge of NEW and REPLACE. The cells hold B and V of all accounts.
+// The judge of NEW. The cells hold B and V of all accounts.
 ghost use mathlib.Core.Path.{_≡_};
-ghost use Prim.Native.Nat.{_<_};
 ghost use Rattle.limits.specs.Lines.{isSet};
 ghost use Rattle.limits.specs.Questions.{firstNo};
-ghost use Rattle.book.specs.declared.Event.the-variants.{New, Replace};
+ghost use Rattle.book.specs.declared.Event.the-variants.{New};
 ghost use Rattle.limits.specs.Answers.{numberOf};
 ghost use Rattle.book.specs.OpenOrders.{find};
 ghost use Rattle.layout.specs.View.{openOrders};
@@ -13,18 +12,15 @@ ghost use Rattle.soundness.specs.Cells.{Sums};
 ghost use Rattle.soundness.specs.SoundMemory.{SoundMemory};
 ghost use Rattle.order_checks.specs.OrderFields.{Under};
 ghost use Rattle.order_checks.specs.Questions.{Sizable};
-ghost use Rattle.judging.specs.QuestionsLeft.{newFrom18, newFrom13, Fresh, raisedFrom14, replaceFrom12, Replaceable};
+ghost use Rattle.judging.specs.QuestionsLeft.{newFrom18, newFrom13, Fresh};
 use crate::Verdict;
 use crate::plain;
 use crate::ranges::is_quantity;
 use layout::orders::count;
-use layout::orders::load_order;
 use layout::roster::account_known;
 use layout::roster::instrument_known;
-use layout::search::find_order;
 use layout::search::id_at;
 use layout::search::place;
-use ledger::find::Found;
 use ledger::order::Order;
 use ledger::order::Side;
 use limits::answer::Answer;
@@ -80,8 +76,8 @@ pub fn judge_new(
 ) -> Verdict
     requires { ⌜ SoundMemory (now m) × Sums (now cells) (openOrders (now m)) ⌝ }
     ensures answer { λ r. ⌜ numberOf (r .answer) ≡ judged (now (m .entry)) (New side account instrument id quantity) ⌝ }
-    ensures place { λ r. ⌜ (judged (now (m .entry)) (New side account instrument id quantity) ≡ 0
-        → NamedAt (New side account instrument id quantity) (openOrders (now (m .entry))) (r .place)) ⌝ }
+    ensures named { λ r. ⌜ (judged (now (m .entry)) (New side account instrument id quantity) ≡ 0
+        → NamedAt (now (m .entry)) (New side account instrument id quantity) (r .place) (r .order)) ⌝ }
 {
     if !account_known(m, account) {
         return plain(Answer::UnknownAccount);
@@ -104,52 +100,6 @@ pub fn judge_new(
     Verdict {
         answer: new_order(m, cells, o, p),
         place: p,
-    }
-}
-
-// 14 to 24 of a REPLACE that raises order `o` to `total`.
-fn raised(m: &[u8], cells: &[u64], o: Order, total: u64) -> Answer
-    requires { ⌜ Replaceable (now m) o total × (o .total < total) × Sums (now cells) (openOrders (now m)) ⌝ }
-    ensures { λ r. ⌜ numberOf r ≡ firstNo (raisedFrom14 (now (m .entry)) o total) ⌝ }
-{
-    let before = o.total;
-    let after = o.replaced_total(total);
-    let under = underlying_of(m, after);
-    match admitted(m, after, under) {
-        Answer::Accepted => within_limits(m, cells, after, total - before, under),
-        no => no,
-    }
-}
-
-// 12 to 24 of a REPLACE of order `o`.
-fn replaced(m: &[u8], cells: &[u64], o: Order, total: u64) -> Answer
-    requires { ⌜ Replaceable (now m) o total × Sums (now cells) (openOrders (now m)) ⌝ }
-    ensures { λ r. ⌜ numberOf r ≡ firstNo (replaceFrom12 (now (m .entry)) o total) ⌝ }
-{
-    if total <= o.filled {
-        return Answer::QuantityOutOfRange;
-    }
-    if total <= o.total {
-        return Answer::Accepted;
-    }
-    raised(m, cells, o, total)
-}
-
-// REPLACE: questions 9, 11, 12 and 14 to 24.
-pub fn judge_replace(m: &[u8], cells: &[u64], id: u64, total: i64) -> Verdict
-    requires { ⌜ SoundMemory (now m) × Sums (now cells) (openOrders (now m)) ⌝ }
-    ensures answer { λ r. ⌜ numberOf (r .answer) ≡ judged (now (m .entry)) (Replace id total) ⌝ }
-    ensures place { λ r. ⌜ (judged (now (m .entry)) (Replace id total) ≡ 0
-        → NamedAt (Replace id total) (openOrders (now (m .entry))) (r .place)) ⌝ }
-{
-    if !is_quantity(total) {
-        return plain(Answer::FigureOutOfRange);
-    }
-    match find_order(m, id) {
-        Found::At(p) => Verdict {
-            answer: replaced(m, cells, load_order(m, p), total as u64),
-            place: p,
-        },
-        Found::Nothing => plain(Answer::OrderNotFound),
+        order: o,
     }
 }

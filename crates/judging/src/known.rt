@@ -1,6 +1,8 @@
 // Questions 7 and 8: is the account, or the item, that an event names on the roster?
 ghost use mathlib.Core.Path.{_≡_};
-ghost use Rattle.book.specs.Table.{blockAccountKnown, lineKnown, blockItemKnown};
+ghost use Rattle.book.specs.Decoding.{between};
+ghost use Rattle.book.specs.Names.{limitedItem, blockedAccount, blockedItem};
+ghost use Rattle.book.specs.Table.{whereSome, isListed};
 ghost use Rattle.layout.specs.View.{rosterOf};
 ghost use Rattle.soundness.specs.SoundMemory.{SoundMemory};
 use book::Blocked;
@@ -13,7 +15,7 @@ use layout::roster::instrument_known;
 // The item of a LIMIT.
 pub fn line_known(m: &[u8], line: LimitLine) -> bool
     requires { ⌜ SoundMemory (now m) ⌝ }
-    ensures { λ r. ⌜ r ≡ lineKnown (rosterOf (now (m .entry))) line ⌝ }
+    ensures { λ r. ⌜ r ≡ isListed (rosterOf (now (m .entry))) (limitedItem line) ⌝ }
 {
     match line {
         LimitLine::Own {
@@ -28,7 +30,7 @@ pub fn line_known(m: &[u8], line: LimitLine) -> bool
 // The account of a BLOCK, where it names one.
 pub fn blocked_account_known(m: &[u8], what: Blocked) -> bool
     requires { ⌜ SoundMemory (now m) ⌝ }
-    ensures { λ r. ⌜ r ≡ blockAccountKnown (rosterOf (now (m .entry))) what ⌝ }
+    ensures { λ r. ⌜ r ≡ whereSome (between 1 (rosterOf (now (m .entry)) .accounts)) (blockedAccount what) ⌝ }
 {
     match what {
         Blocked::Account { account } => account_known(m, account),
@@ -40,7 +42,7 @@ pub fn blocked_account_known(m: &[u8], what: Blocked) -> bool
 // The item of a BLOCK, where it names one.
 pub fn blocked_item_known(m: &[u8], what: Blocked) -> bool
     requires { ⌜ SoundMemory (now m) ⌝ }
-    ensures { λ r. ⌜ r ≡ blockItemKnown (rosterOf (now (m .entry))) what ⌝ }
+    ensures { λ r. ⌜ r ≡ whereSome (isListed (rosterOf (now (m .entry)))) (blockedItem what) ⌝ }
 {
     match what {
         Blocked::Account { account } => true,

@@ -1,7 +1,7 @@
 // The judge: questions 6 to 24 of an event, asked of a sound desk's memory, which it reads and never writes.
+pub mod changes;
 pub mod entries;
 pub mod known;
-pub mod orders;
 pub mod ranges;
 pub mod settings;
 
@@ -11,35 +11,47 @@ ghost use Rattle.layout.specs.View.{openOrders};
 ghost use Rattle.layout.specs.Judged.{judged, NamedAt};
 ghost use Rattle.soundness.specs.Cells.{Sums};
 ghost use Rattle.soundness.specs.SoundMemory.{SoundMemory};
+use crate::changes::judge_change;
 use crate::entries::judge_new;
-use crate::entries::judge_replace;
-use crate::orders::judge_cancel;
-use crate::orders::judge_fill;
 use crate::settings::judge_balance;
 use crate::settings::judge_block;
 use crate::settings::judge_limit;
 use book::Event;
+use ledger::order::Order;
+use ledger::order::Side;
 use limits::answer::Answer;
 
-// An answer and, where an accepted event names an open order, that order's place; for an accepted NEW the place where its order
-// joins.
+// An answer and, where a NEW is accepted, the order that it enters and the place where it joins; where another event that names an open
+// order is accepted, that order as it stands, and its place.
 pub struct Verdict {
     pub answer: Answer,
     pub place: usize,
+    pub order: Order,
 }
 
-// A verdict that names no place: a refusal, or one on an event that names no order.
+// A verdict that names no order: a refusal, or one on an event that names none.
 pub fn plain(answer: Answer) -> Verdict
     ensures { λ r. ⌜ r .answer ≡ answer ⌝ }
 {
-    Verdict { answer, place: 0 }
+    Verdict {
+        answer,
+        place: 0,
+        order: Order {
+            id: 0,
+            account: 0,
+            instrument: 0,
+            side: Side::Buy,
+            total: 0,
+            filled: 0,
+        },
+    }
 }
 
 // The answer to an event of any kind. The cells hold B and V of all accounts.
 pub fn judge(m: &[u8], cells: &[u64], e: Event) -> Verdict
     requires { ⌜ SoundMemory (now m) × Sums (now cells) (openOrders (now m)) ⌝ }
     ensures answer { λ r. ⌜ numberOf (r .answer) ≡ judged (now (m .entry)) e ⌝ }
-    ensures place { λ r. ⌜ (judged (now (m .entry)) e ≡ 0 → NamedAt e (openOrders (now (m .entry))) (r .place)) ⌝ }
+    ensures named { λ r. ⌜ (judged (now (m .entry)) e ≡ 0 → NamedAt (now (m .entry)) e (r .place) (r .order)) ⌝ }
 {
     match e {
         Event::Limit { account, line } => plain(judge_limit(m, account, line)),
@@ -56,9 +68,7 @@ pub fn judge(m: &[u8], cells: &[u64], e: Event) -> Verdict
             id,
             quantity,
         } => judge_new(m, cells, side, account, instrument, id, quantity),
-        Event::Replace { id, total } => judge_replace(m, cells, id, total),
-        Event::Cancel { id } => judge_cancel(m, id),
-        Event::Fill { id, quantity } => judge_fill(m, id, quantity),
+        Event::Change { id, change } => judge_change(m, cells, id, change),
         Event::Junk => plain(Answer::NoEvent),
     }
 }

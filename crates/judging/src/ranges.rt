@@ -3,9 +3,10 @@ ghost use mathlib.Core.Path.{_≡_};
 ghost use mathlib.Core.Bool.{_&&_, _||_};
 ghost use Rattle.book.specs.Market.{derivatives};
 ghost use Rattle.book.specs.Books.{isMinusOne};
-ghost use Rattle.book.specs.Table.{betweenℤ, isLimit, isQuantity, figuresOfLineFit, lineFits};
+ghost use Rattle.book.specs.Table.{betweenℤ, isLimit, isQuantity, figuresOfLineFit, lineFits, changeInRange};
 use book::Figures;
 use book::LimitLine;
+use book::OrderChange;
 use book::is_minus_one;
 
 // From `low` to `high`?
@@ -83,5 +84,16 @@ pub fn limit_fits(line: LimitLine) -> bool
         } => line_fits(figures),
         LimitLine::Default { contract, figures } => line_fits(figures),
         LimitLine::OfGroup { group, lcc, lvc } => group_fits(lcc, lvc),
+    }
+}
+
+// The figure of a REPLACE, CANCEL or FILL.
+pub fn change_in_range(change: OrderChange) -> bool
+    ensures { λ r. ⌜ r ≡ changeInRange change ⌝ }
+{
+    match change {
+        OrderChange::Replace { total } => is_quantity(total),
+        OrderChange::Cancel => true,
+        OrderChange::Fill { quantity } => is_quantity(quantity),
     }
 }

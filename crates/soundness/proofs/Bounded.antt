@@ -19,7 +19,7 @@ use Rattle.positions.proofs.Counting.{small-orders}
 use Rattle.ledger.proofs.Sums.{open-nonneg}
 use Rattle.book.specs.Market.{derivatives}
 use Rattle.layout.specs.Layout.{countWord}
-use Rattle.layout.specs.View.{rosterPart, rosterOf, balancesPart, balancesOf, recordsOf, openOrders, bookOf, tradingOf, view}
+use Rattle.layout.specs.View.{rosterPart, rosterOf, balancesPart, balancesOf, recordsOf, openOrders, bookOf, tradingOf}
 use Rattle.layout.specs.Readable.{Readable}
 use Rattle.layout.proofs.OrderRecords.{records-long}
 use Rattle.layout.proofs.RosterRead.{roster-long, instruments-same, contract-same, weight-same}

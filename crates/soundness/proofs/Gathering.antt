@@ -1,6 +1,6 @@
 -- The cells in which B and V of all accounts are gathered, order by order.
 use Prim.Native.Nat.{ℕ, suc, _+_, _*_, _-_, _^_, _≤_, _<_}
-use mathlib.Core.Path.{_≡_, refl, _∙_, sym, ap}
+use mathlib.Core.Path.{_≡_, _∙_, sym, ap}
 use mathlib.Core.Logic.{_≢_}
 use mathlib.Core.Bool.{true, false, true≢false, _&&_}
 use mathlib.Core.List.{List}

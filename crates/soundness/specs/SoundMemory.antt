@@ -6,7 +6,6 @@ use mathlib.Core.List.{List}
 use lib.ListN.{length}
 use Rattle.words.specs.Words.{wordAt}
 use Rattle.ledger.specs.Roster.{Numbered}
-use Rattle.book.specs.Market.{derivatives}
 use Rattle.book.specs.Sound.{LineFits, GroupLineFits, Sound}
 use Rattle.layout.specs.Layout.{kindWord}
 use Rattle.layout.specs.View.{rosterOf, ownFigures, defaultFigures, groupFigures, firstOf, view}

@@ -93,7 +93,7 @@ returns-4 c =
     let s = one .before .before .before .before in (
       rw (toZ-ofZ w64 (s .args .quantity) (s .fits .quantity)) at (c .new-order .ensures)
           ∙ sym (new-answer _ _ _ _ _ _ true true true (known one) (listed two) (whole three)),
-      λ z. c .before .place .ensures,
+      λ z. (c .before .place .ensures, rw (toZ-ofZ w64 (s .args .quantity) (s .fits .quantity))),
     )
 
 pub judge-new-spec : {M : Type 1} → statement M

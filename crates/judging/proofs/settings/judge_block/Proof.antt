@@ -5,7 +5,9 @@ use borrow.Author.Needs.{needs}
 use lib.IntN.{pos}
 use Rattle.book.specs.declared.Event.the-variants.{Block}
 use Rattle.limits.specs.Answers.{numberOf}
-use Rattle.book.specs.Table.{blockAccountKnown, blockItemKnown, betweenℤ}
+use Rattle.book.specs.Table.{whereSome, isListed, betweenℤ}
+use Rattle.book.specs.Decoding.{between}
+use Rattle.book.specs.Names.{blockedAccount, blockedItem}
 use Rattle.layout.specs.View.{rosterOf}
 use Rattle.layout.specs.Judged.{judged}
 use Rattle.soundness.proofs.Asked.{answered-no, answered-yes}
@@ -14,11 +16,11 @@ use Rattle.judging.proofs.ByKind.{block-answer}
 use Rattle.judging.proofs.settings.judge_block.Statement.{statement}
 use Rattle.judging.proofs.settings.judge_block.Tie as tie
 
-known : (c : tie.Else1) → let a = c .before .before .before .args in blockAccountKnown (rosterOf (a .m .now)) (a .what) ≡ true
+known : (c : tie.Else1) → let a = c .before .before .before .args in whereSome (between 1 (rosterOf (a .m .now) .accounts)) (blockedAccount (a .what)) ≡ true
 known c = answered-yes _ _ (c .before .blocked-account-known .ensures) (c .if1 .left)
 
 listed : (c : tie.Else2) → let a = c .before .before .before .before .before .args in
-    blockItemKnown (rosterOf (a .m .now)) (a .what) ≡ true
+    whereSome (isListed (rosterOf (a .m .now))) (blockedItem (a .what)) ≡ true
 listed c = answered-yes _ _ (c .before .blocked-item-known .ensures) (c .if2 .left)
 
 returns : tie.Need-returns

@@ -6,7 +6,8 @@ use Rattle.book.specs.declared.Event.the-variants.{Limit}
 use Rattle.book.specs.Market.{derivatives}
 use Rattle.limits.specs.Answers.{numberOf}
 use Rattle.book.specs.Decoding.{between}
-use Rattle.book.specs.Table.{lineKnown, lineFits}
+use Rattle.book.specs.Names.{limitedItem}
+use Rattle.book.specs.Table.{isListed, lineFits}
 use Rattle.layout.specs.View.{rosterOf}
 use Rattle.layout.specs.Judged.{judged}
 use Rattle.soundness.proofs.Asked.{answered-no, answered-yes}
@@ -17,7 +18,8 @@ use Rattle.judging.proofs.settings.judge_limit.Tie as tie
 known : (c : tie.Else1) → let a = c .before .before .before .args in between 1 (rosterOf (a .m .now) .accounts) (a .account) ≡ true
 known c = answered-yes _ _ (c .before .account-known .ensures) (c .if1 .left)
 
-listed : (c : tie.Else2) → let a = c .before .before .before .before .before .args in lineKnown (rosterOf (a .m .now)) (a .line) ≡ true
+listed : (c : tie.Else2) → let a = c .before .before .before .before .before .args in
+    isListed (rosterOf (a .m .now)) (limitedItem (a .line)) ≡ true
 listed c = answered-yes _ _ (c .before .line-known .ensures) (c .if2 .left)
 
 returns : tie.Need-returns

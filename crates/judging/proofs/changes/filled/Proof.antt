@@ -7,8 +7,8 @@ use borrow.Author.Needs.{needs}
 use borrow.Author.Tests.{le-leb, lt-leb}
 use Rattle.ledger.specs.Orders.{remaining}
 use Rattle.limits.specs.Answers.{numberOf}
-use Rattle.judging.proofs.orders.filled.Statement.{statement}
-use Rattle.judging.proofs.orders.filled.Tie as tie
+use Rattle.judging.proofs.changes.filled.Statement.{statement}
+use Rattle.judging.proofs.changes.filled.Tie as tie
 
 returns : tie.Need-returns
 unfolding numberOf

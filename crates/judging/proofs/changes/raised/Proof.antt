@@ -9,8 +9,8 @@ use Rattle.order_checks.specs.Questions.{admission, OnRoster}
 use Rattle.judging.specs.QuestionsLeft.{raisedFrom14}
 use Rattle.judging.proofs.QuestionsInOrder.{first-refuses, then-second, limits-set}
 use Rattle.judging.proofs.Rises.{replaced-on, replaced-raises}
-use Rattle.judging.proofs.entries.raised.Statement.{statement}
-use Rattle.judging.proofs.entries.raised.Tie as tie
+use Rattle.judging.proofs.changes.raised.Statement.{statement}
+use Rattle.judging.proofs.changes.raised.Tie as tie
 
 after-on : (c : tie.After-replaced-total) → let a = c .before .before .before .args in OnRoster (a .m .now) (c .replaced-total .result)
 after-on c = rw (c .replaced-total .ensures) (replaced-on _ _ _ (c .before .before .before .pre .0))

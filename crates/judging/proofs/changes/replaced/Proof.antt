@@ -6,8 +6,8 @@ use borrow.Author.Tests.{lt-ltb, le-ltb}
 use Rattle.limits.specs.Questions.{firstNo}
 use Rattle.limits.specs.Answers.{numberOf}
 use Rattle.judging.specs.QuestionsLeft.{replaceFrom12}
-use Rattle.judging.proofs.entries.replaced.Statement.{statement}
-use Rattle.judging.proofs.entries.replaced.Tie as tie
+use Rattle.judging.proofs.changes.replaced.Statement.{statement}
+use Rattle.judging.proofs.changes.replaced.Tie as tie
 
 returns : tie.Need-returns
 unfolding replaceFrom12 firstNo numberOf
