@@ -16,11 +16,12 @@ use Rattle.limits.specs.Asked.{positionQuestions}
 use Rattle.limits.proofs.Answers.{Counted}
 use Rattle.book.specs.Decoding.{decode}
 use Rattle.book.specs.Market.{derivatives}
-use Rattle.book.specs.Books.{work}
+use Rattle.book.specs.States.{begun, work}
 use Rattle.book.specs.Table.{q, entered, questionsBefore, positionsAfter, limitQuestions, questions}
-use Rattle.book.specs.EventLists.{asEvent, begun, memoryAfter, stateAfter}
+use Rattle.book.specs.EventLists.{RawEvent, asEvent, stateAfter}
 use Rattle.book.proofs.Accepted.{never-5}
-use Rattle.layout.specs.View.{rosterOf, bookOf, tradingOf}
+use Rattle.book.proofs.StateLaws.{roster-after}
+use Rattle.layout.specs.View.{rosterOf, bookOf, view}
 use Rattle.opening.specs.Questions.{openingQuestions, openingAnswer, rosterFrom}
 use Rattle.opening.specs.Opening.{afterOpening}
 use Rattle.opening.proofs.Opened.{later-after}
@@ -39,8 +40,7 @@ use Rattle.desk.proofs.Gate.{first-passes, after-refused, after-accepte
 abbrev table : List ℕ → List ℕ → Option Order → List Question
 table m e x =
     q 5 (soundDesk m)
-    ∷ (questionsBefore derivatives (rosterOf m) (bookOf m) (tradingOf m) (decode e)
-    ++ positionsAfter derivatives (rosterOf m) (work (derivatives .unit) (bookOf m) (decode e)) x)
+    ∷ (questionsBefore (view m) (decode e) ++ positionsAfter (work (view m) (decode e)) x)
 
 is-table : (m e : List ℕ) → eventQuestions m e ≡ table m e (entered (bookOf m) (decode e))
 unfolding eventQuestions questions limitQuestions
@@ -121,20 +121,17 @@ demand-2 =
 -- ---- demand 3
 pub demand-3 : Demand3
 demand-3 m s bytes zero =
-    let r = rosterFrom s in
     let start = afterOpening m s in
+    let k = begun derivatives (rosterFrom s) in
     let shown = shown-opened m s bytes zero in
-    let later = shown-after r start begun shown in
+    let later = shown-after start k shown in
+    -- the roster of what is kept is the one that it began with
+    let on : (events : List RawEvent) → stateAfter gate start k events .roster ≡ rosterFrom s = roster-after gate start k in
     record {
-      judged = demand-3-at r start begun shown;
-      instrument-read =
-          λ events a i. instrument-read r (memoryAfter gate start events) (stateAfter gate derivatives start begun events)
-          (later events) a i;
-      group-read =
-          λ events a g. group-read r (memoryAfter gate start events) (stateAfter gate derivatives start begun events) (later events) a g;
-      answered = answers-table r start begun shown;
+      judged = demand-3-at start k shown;
+      instrument-read = λ events a i on-a on-i. instrument-read _ _ (later events) a i (rw (on events) on-a) (rw (on events) on-i);
+      group-read = λ events a g on-a on-g. group-read _ _ (later events) a g (rw (on events) on-a) (rw (on events) on-g);
+      answered = answers-table start k shown;
       never-5 =
-          λ events e five. never-5 derivatives r (stateAfter gate derivatives start begun events .book)
-          (stateAfter gate derivatives start begun events .trading) (asEvent e) (sym (answers-table r start begun shown events e)
-          ∙ five);
+          λ events e five. never-5 (stateAfter gate start k events) (asEvent e) (sym (answers-table start k shown events e) ∙ five);
     }

@@ -4,7 +4,9 @@ use mathlib.Core.Path.{_≡_, refl, ap, _∙_}
 use mathlib.Core.List.{List, [], _∷_, _++_, map}
 use lib.ListN.{length}
 use Rattle.words.specs.Bytes.{Bytes}
-use Rattle.book.specs.EventLists.{begun}
+use Rattle.book.specs.Market.{derivatives}
+use Rattle.book.specs.Days.{decoded}
+use Rattle.book.specs.States.{begun}
 use Rattle.book.specs.Rosters.{rosterOfTables}
 use Rattle.book.specs.Edges.{Case, edgeTables, starredEdges, outcome, expected}
 use Rattle.book.proofs.Edges.{edges}
@@ -12,25 +14,26 @@ use Rattle.opening.specs.Questions.{rosterFrom, openingAnswer}
 use Rattle.opening.specs.Opening.{afterOpening}
 use Rattle.desk.specs.Edges.{CaseHolds, AllHold, edgeRoster, StarredEdges}
 use Rattle.desk.proofs.Readings.{instrument-read, shown-opened}
-use Rattle.desk.proofs.Carried.{bytes-are, bytes-apart, answer-shown, answers-carried, shown-over}
+use Rattle.desk.proofs.Carried.{bytes-are, bytes-apart, answer-shown, answers-carried, shown-over, roster-over}
 use Rattle.desk.proofs.Rosters.{roster-read, roster-opens, reads}
 
 -- a memory opened with the roster shows the plain book
 module _ (m s : List ℕ) (bytes : Bytes m) (opens : openingAnswer m s ≡ 0) where
   case-carried : (c : Case) → outcome (rosterFrom s) c ≡ expected c → CaseHolds m s c
   case-carried c h =
-      let r = rosterFrom s in
+      let k = begun derivatives (rosterFrom s) in
       let start = afterOpening m s in
       let all = c .events ++ (c .order ∷ []) in
       let shown = shown-opened m s bytes opens in
       let are = bytes-apart (c .events) (c .order) (ap (λ x. x .bytes) h) in
-      let before = shown-over r start begun (c .events) (are .0) shown in
-      let at-end = shown-over r start begun all (ap (λ x. x .bytes) h) shown in
-      let read = instrument-read r _ _ at-end 1 (c .instrument) (ap (λ x. x .account) h) (ap (λ x. x .instrument) h) in
+      let before = shown-over start k (c .events) (are .0) shown in
+      let at-end = shown-over start k all (ap (λ x. x .bytes) h) shown in
+      let read = instrument-read _ _ at-end 1 (c .instrument) (rw (roster-over k (decoded all)) (ap (λ x. x .account) h))
+      (rw (roster-over k (decoded all)) (ap (λ x. x .instrument) h)) in
       record {
         opens = opens;
-        accepted = answers-carried r start begun (c .events) (are .0) shown ∙ ap (λ x. x .answers) h;
-        answered = answer-shown r _ _ (c .order) (bytes-are (c .order) (are .1)) before ∙ ap (λ x. x .answer) h;
+        accepted = answers-carried start k (c .events) (are .0) shown ∙ ap (λ x. x .answers) h;
+        answered = answer-shown _ _ (c .order) (bytes-are (c .order) (are .1)) before ∙ ap (λ x. x .answer) h;
         readable = read .0;
         reported = read .1 ∙ ap (λ x. x .positions) h;
       }

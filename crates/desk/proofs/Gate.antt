@@ -1,33 +1,31 @@
 -- The gate over bytes meets the contract that demand 3 asks of a desk, and so keeps demand 3 from any memory that shows a sound book.
 use Prim.Native.Nat.{ℕ}
-use mathlib.Core.Path.{_≡_, refl, sym, ap, _∙_}
+use mathlib.Core.Path.{_≡_, refl, sym, ap, _∙_, subst}
 use mathlib.Core.Logic.{_≢_}
 use mathlib.Core.Bool.{Bool, true, false}
 use mathlib.Core.List.{List}
 use native.Mathlib.Omega.{arith}
 use borrow.Author.Tests.{eq-eqb, ne-eqb}
 use Rattle.words.specs.Bytes.{Bytes}
-use Rattle.ledger.specs.Roster.{Roster}
 use Rattle.limits.specs.Questions.{firstNo}
-use Rattle.book.specs.Market.{derivatives}
 use Rattle.book.specs.Decoding.{decode}
+use Rattle.book.specs.States.{State, work}
 use Rattle.book.specs.Table.{questions, answer}
 use Rattle.book.specs.Sound.{Sound}
-use Rattle.book.specs.EventLists.{RawEvent, asEvent, State, memoryAfter, stateAfter}
+use Rattle.book.specs.EventLists.{RawEvent, asEvent, memoryAfter, stateAfter}
 use Rattle.book.specs.Demand3.{Demand3At}
-use Rattle.book.specs.Contract.{withWorked, Contract}
+use Rattle.book.specs.Contract.{Contract}
 use Rattle.book.proofs.Accepted.{sound-answer, unsound-answer}
 use Rattle.book.proofs.Decoded.{decoded-id}
-use Rattle.book.proofs.Plain.{derivatives-unit}
 use Rattle.book.proofs.Runs.{holds-after, answers-after}
 use Rattle.book.proofs.Demand3Proof.{demand3}
-use Rattle.layout.specs.View.{rosterOf, bookOf, tradingOf, view}
+use Rattle.layout.specs.View.{view}
 use Rattle.layout.specs.Judged.{judged}
 use Rattle.soundness.specs.Soundness.{soundDesk}
 use Rattle.soundness.specs.SoundMemory.{SoundMemory}
 use Rattle.soundness.proofs.SoundDesk.{sound-in}
 use Rattle.working.specs.Working.{worked}
-use Rattle.working.proofs.Writes.{roster-worked, bytes-worked}
+use Rattle.working.proofs.Writes.{bytes-worked}
 use Rattle.working.proofs.Small.{decoded-sized}
 use Rattle.working.proofs.ViewWorked.{view-worked}
 use Rattle.working.proofs.SoundWorked.{sound-worked}
@@ -49,69 +47,60 @@ module _ (m e : List ℕ) where
   unfolding answerTo eventQuestions
   first-passes z = by (soundDesk m) refl z
     where
-      by : (t : Bool) → soundDesk m ≡ t → firstNo (questions derivatives (rosterOf m) t (bookOf m) (tradingOf m) (decode e)) ≡ 0
-          → soundDesk m ≡ true
+      by : (t : Bool) → soundDesk m ≡ t → firstNo (questions t (view m) (decode e)) ≡ 0 → soundDesk m ≡ true
       by true h z = h
-      by false h z = absurd (omega (arith, unsound-answer derivatives (rosterOf m) (bookOf m) (tradingOf m) (decode e)))
+      by false h z = absurd (omega (arith, unsound-answer (view m) (decode e)))
 
   -- on a sound desk the answer is the judge's
   pub answer-sound : SoundMemory m → answerTo m e ≡ judged m (decode e)
   unfolding answerTo eventQuestions judged
-  answer-sound held =
-      rw (sound-in m held) (sound-answer derivatives (rosterOf m) (bookOf m) (tradingOf m) (decode e))
+  answer-sound held = rw (sound-in m held) (sound-answer (view m) (decode e))
 
--- ---- a memory that holds a sound desk of roster r, and shows k
-pub record Shown (r : Roster) (m : List ℕ) (k : State) : Type 0 where
+-- ---- a memory that holds a sound desk, and shows k
+pub record Shown (m : List ℕ) (k : State) : Type 0 where
   pub bytes : Bytes m
   pub held : SoundMemory m
-  pub roster : rosterOf m ≡ r
   pub shows : view m ≡ k
 
-judged-shown : (r : Roster) (m : List ℕ) (k : State) (e : List ℕ) → rosterOf m ≡ r → view m ≡ k
-    → judged m (decode e) ≡ answer derivatives r (k .book) (k .trading) (decode e)
-unfolding judged view
-judged-shown r m k e roster shows = rw (← roster, ← shows) refl
+judged-shown : (m : List ℕ) (k : State) (e : List ℕ) → view m ≡ k → judged m (decode e) ≡ answer k (decode e)
+unfolding judged
+judged-shown m k e shows = ap (λ (x : State). answer x (decode e)) shows
 
-worked-shown : (r : Roster) (m : List ℕ) (k : State) (e : RawEvent) → Shown r m k → answerTo m (e .bytes) ≡ 0
-    → Shown r (afterEvent m (e .bytes)) (withWorked derivatives k e)
-unfolding view
-worked-shown r m k e shown zero =
+worked-shown : (m : List ℕ) (k : State) (e : RawEvent) → Shown m k → answerTo m (e .bytes) ≡ 0
+    → Shown (afterEvent m (e .bytes)) (work k (asEvent e))
+worked-shown m k e shown zero =
     let passes = sym (answer-sound m (e .bytes) (shown .held)) ∙ zero in
     let word = decoded-sized (e .bytes) (e .are) in
     rw (after-accepted m (e .bytes) zero)
     (record {
       bytes = bytes-worked m (shown .held) (asEvent e) passes (shown .bytes);
       held = sound-worked m (shown .bytes) (shown .held) (asEvent e) word (decoded-id (e .bytes)) passes;
-      roster = roster-worked m (shown .held) (asEvent e) passes ∙ shown .roster;
-      shows = view-worked m (shown .bytes) (shown .held) (asEvent e) word passes ∙ ap (λ x. withWorked derivatives x e) (shown .shows);
+      shows = view-worked m (shown .bytes) (shown .held) (asEvent e) word passes ∙ ap (λ (x : State). work x (asEvent e)) (shown .shows);
     })
 
-contract : (r : Roster) → Contract gate derivatives r
-contract r =
+contract : Contract gate
+contract =
     record {
-      Shows = Shown r;
-      judged = λ m k e shown sound. answer-sound m (e .bytes) (shown .held) ∙ judged-shown r m k (e .bytes) (shown .roster) (shown .shows);
-      worked = λ m k e shown sound zero. worked-shown r m k e shown zero;
+      Shows = Shown;
+      judged = λ m k e shown sound. answer-sound m (e .bytes) (shown .held) ∙ judged-shown m k (e .bytes) (shown .shows);
+      worked = λ m k e shown sound zero. worked-shown m k e shown zero;
       refused = λ m e h. after-refused m (e .bytes) h;
     }
 
 -- ---- a list of events, from any memory that shows a sound book
-module _ (r : Roster) (m : List ℕ) (k : State) (shown : Shown r m k) where
-  sound : Sound derivatives r (k .book) (k .trading)
-  sound = rw (shown .roster, shown .shows) at (shown .held .book)
+module _ (m : List ℕ) (k : State) (shown : Shown m k) where
+  sound : Sound k
+  sound = subst Sound (shown .shows) (shown .held .book)
 
-  pub shown-after : (events : List RawEvent) → Shown r (memoryAfter gate m events) (stateAfter gate derivatives m k events)
+  pub shown-after : (events : List RawEvent) → Shown (memoryAfter gate m events) (stateAfter gate m k events)
   unfolding contract
-  shown-after events =
-      holds-after derivatives-unit (contract r) m k events (record { shown = shown; sound = sound }) .shown
+  shown-after events = holds-after contract m k events (record { shown = shown; sound = sound }) .shown
 
   pub answers-table : (events : List RawEvent) (n : RawEvent)
-      → answerTo (memoryAfter gate m events) (n .bytes) ≡ answer derivatives r (stateAfter gate derivatives m k events .book)
-      (stateAfter gate derivatives m k events .trading) (asEvent n)
+      → answerTo (memoryAfter gate m events) (n .bytes) ≡ answer (stateAfter gate m k events) (asEvent n)
   unfolding contract
-  answers-table events n =
-      answers-after derivatives-unit (contract r) m k events (record { shown = shown; sound = sound }) n
+  answers-table events n = answers-after contract m k events (record { shown = shown; sound = sound }) n
 
-  pub demand-3-at : Demand3At gate derivatives r m k
+  pub demand-3-at : Demand3At gate m k
   unfolding contract
-  demand-3-at = demand3 derivatives-unit (contract r) m k shown sound
+  demand-3-at = demand3 contract m k shown sound

@@ -5,8 +5,9 @@ use mathlib.Core.Bool.{true}
 use mathlib.Core.List.{List}
 use lib.ListN.{length}
 use Rattle.book.specs.Decoding.{between}
-use Rattle.book.specs.EventLists.{begun}
-use Rattle.book.specs.Days.{allBytes}
+use Rattle.book.specs.Market.{derivatives}
+use Rattle.book.specs.States.{begun}
+use Rattle.book.specs.Days.{allBytes, decoded}
 use Rattle.book.specs.Rosters.{rosterOfTables}
 use Rattle.book.specs.Listing.{listingTables, listingEvents}
 use Rattle.book.proofs.Listing.{listing as computed}
@@ -14,7 +15,7 @@ use Rattle.opening.specs.Questions.{rosterFrom, openingAnswer}
 use Rattle.opening.specs.Opening.{afterOpening}
 use Rattle.desk.specs.Listing.{listingRoster, Listing}
 use Rattle.desk.proofs.Readings.{instrument-read, group-read, shown-opened}
-use Rattle.desk.proofs.Carried.{answers-carried, shown-over}
+use Rattle.desk.proofs.Carried.{answers-carried, shown-over, roster-over}
 use Rattle.desk.proofs.Rosters.{roster-read, roster-opens, reads}
 
 listing-roster : (rosterFrom listingRoster ≡ rosterOfTables listingTables)
@@ -33,15 +34,16 @@ fits = (refl, refl, refl, refl, refl)
 
 pub listing : Listing
 listing m bytes long =
-    let r = rosterFrom listingRoster in
+    let k = begun derivatives (rosterFrom listingRoster) in
     let opens = listing-roster .1 m long in
     let start = afterOpening m listingRoster in
     let shown = shown-opened m listingRoster bytes opens in
-    let at-end = shown-over r start begun listingEvents (fits .0) shown in
+    let at-end = shown-over start k listingEvents (fits .0) shown in
+    let on = roster-over k (decoded listingEvents) in
     record {
       opens = opens;
-      answers = answers-carried r start begun listingEvents (fits .0) shown ∙ rw (listing-roster .0) (computed .0);
-      first = instrument-read r _ _ at-end 1 1 (fits .1) (fits .2) .1 ∙ rw (listing-roster .0) (computed .1);
-      second = instrument-read r _ _ at-end 1 2 (fits .1) (fits .3) .1 ∙ rw (listing-roster .0) (computed .2);
-      group = group-read r _ _ at-end 1 1 (fits .1) (fits .4) .1 ∙ rw (listing-roster .0) (computed .3);
+      answers = answers-carried start k listingEvents (fits .0) shown ∙ rw (listing-roster .0) (computed .0);
+      first = instrument-read _ _ at-end 1 1 (rw on (fits .1)) (rw on (fits .2)) .1 ∙ rw (listing-roster .0) (computed .1);
+      second = instrument-read _ _ at-end 1 2 (rw on (fits .1)) (rw on (fits .3)) .1 ∙ rw (listing-roster .0) (computed .2);
+      group = group-read _ _ at-end 1 1 (rw on (fits .1)) (rw on (fits .4)) .1 ∙ rw (listing-roster .0) (computed .3);
     }

@@ -11,11 +11,11 @@ use Rattle.limits.specs.InBytes.{lineAt, groupLineAt}
 use Rattle.limits.proofs.Answers.{both-true, and-true, passed, zero-pass}
 use Rattle.book.specs.Market.{derivatives}
 use Rattle.book.specs.Sound.{RosterFits, LineFits, GroupLineFits}
-use Rattle.book.specs.EventLists.{begun}
+use Rattle.book.specs.States.{begun}
 use Rattle.book.proofs.Plain.{sound-begun}
 use Rattle.layout.specs.Layout.{ownRow, defaultRow, groupRow}
 use Rattle.layout.specs.Rosters.{sizesFit, namesFit, weightsFit}
-use Rattle.layout.specs.View.{rosterOf, view}
+use Rattle.layout.specs.View.{view}
 use Rattle.opening.specs.Questions.{rosterFrom, rosterLength, lengthsFit, openingQuestions, openingAnswer}
 use Rattle.opening.specs.Opening.{opened, afterOpening}
 use Rattle.opening.proofs.Opened.{Accepted, accepted-out, kind-opened, blank-opened, roster-opened, sized-opened, view-opened}
@@ -74,11 +74,8 @@ module _ (m s : List ℕ) (zero : openingAnswer m s ≡ 0) where
         kind = kind-opened m s ok;
         first = omega (arith, blank-opened m s ok 113 (omega arith) (omega arith));
         figures = figures;
-        book = rw (view-opened m s ok, roster-opened m s ok) (sound-begun derivatives (rosterFrom s) fits);
+        book = rw (view-opened m s ok) (sound-begun derivatives (rosterFrom s) fits);
       })
 
-  pub roster-after : rosterOf (afterOpening m s) ≡ rosterFrom s
-  roster-after = rw is-opened (roster-opened m s ok)
-
-  pub view-after : view (afterOpening m s) ≡ begun
+  pub view-after : view (afterOpening m s) ≡ begun derivatives (rosterFrom s)
   view-after = rw is-opened (view-opened m s ok)

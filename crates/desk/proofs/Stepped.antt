@@ -1,4 +1,4 @@
--- What a step on a sound desk answers, leaves and moves.
+-- What a step on a sound desk answers and leaves.
 use Prim.Native.Nat.{ℕ}
 use mathlib.Core.Path.{_≡_, sym, _∙_}
 use mathlib.Core.Logic.{_≢_}
@@ -6,21 +6,19 @@ use mathlib.Core.Bool.{true, false}
 use mathlib.Core.List.{List}
 use native.Mathlib.Omega.{arith}
 use borrow.Author.Tests.{eq-eqb, ne-eqb}
-use Rattle.ledger.specs.declared.order.Side.{Side}
 use Rattle.book.specs.declared.Event.{Event}
 use Rattle.limits.specs.declared.answer.Answer.{Answer}
 use Rattle.limits.specs.declared.answer.Answer.the-variants.{Accepted}
 use Rattle.limits.specs.Answers.{numberOf}
 use Rattle.book.specs.Decoding.{decode}
-use Rattle.book.specs.Market.{derivatives}
 use Rattle.book.proofs.Accepted.{unsound-answer}
 use Rattle.limits.proofs.Refused.{Refusal, not-zero}
-use Rattle.layout.specs.View.{rosterOf, bookOf, tradingOf}
+use Rattle.layout.specs.View.{view}
 use Rattle.layout.specs.Judged.{judged}
 use Rattle.soundness.specs.Soundness.{soundDesk}
 use Rattle.soundness.proofs.SoundDesk.{sound-out}
-use Rattle.working.specs.Working.{worked, moved}
-use Rattle.desk.specs.Step.{eventQuestions, answerTo, afterEvent, stepped, movedIn}
+use Rattle.working.specs.Working.{worked}
+use Rattle.desk.specs.Step.{eventQuestions, answerTo, afterEvent, stepped}
 use Rattle.desk.proofs.Gate.{answer-sound, after-refused}
 
 -- ---- a judged event, with answer a
@@ -34,10 +32,6 @@ module _ (m : List ℕ) (e : Event) (a : Answer) (told : numberOf a ≡ judged m
   unfolding stepped
   stepped-worked accepts = rw (eq-eqb (judged m e) 0 (is-zero accepts))
 
-  pub moves : a ≡ Accepted → (s : Side) → moved m e s ≡ movedIn m e s
-  unfolding movedIn
-  moves accepts s = rw (eq-eqb (judged m e) 0 (is-zero accepts))
-
   -- or refused
   module _ (refuses : Refusal a) where
     not-accepted : judged m e ≢ 0
@@ -47,16 +41,12 @@ module _ (m : List ℕ) (e : Event) (a : Answer) (told : numberOf a ≡ judged m
     unfolding stepped
     stepped-same = rw (ne-eqb (judged m e) 0 not-accepted)
 
-    pub moves-nothing : (s : Side) → 0 ≡ movedIn m e s
-    unfolding movedIn
-    moves-nothing s = rw (ne-eqb (judged m e) 0 not-accepted)
-
 -- ---- the event entry point
 module _ (m e : List ℕ) where
   pub unsound-event : soundDesk m ≡ false → (5 ≡ answerTo m e) × (m ≡ afterEvent m e)
   unfolding answerTo eventQuestions
   unsound-event h =
-      let five : answerTo m e ≡ 5 = rw h (unsound-answer derivatives (rosterOf m) (bookOf m) (tradingOf m) (decode e)) in
+      let five : answerTo m e ≡ 5 = rw h (unsound-answer (view m) (decode e)) in
       (sym five, sym (after-refused m e (λ z. omega (arith, five, z))))
 
   pub sound-event : (sound : soundDesk m ≡ true) → (judged m (decode e) ≡ answerTo m e) × (stepped m (decode e) ≡ afterEvent m e)

@@ -14,8 +14,9 @@ use Rattle.ledger.specs.Positions.{Way, long, short, openOn, groupPart, sumGrou
 use Rattle.limits.specs.Questions.{Question, numbersOf, allPass}
 use Rattle.book.specs.Decoding.{between}
 use Rattle.book.specs.Market.{derivatives}
+use Rattle.book.specs.States.{State, begun}
 use Rattle.book.specs.Table.{answer}
-use Rattle.book.specs.EventLists.{RawEvent, asEvent, Desk, begun, memoryAfter, stateAfter}
+use Rattle.book.specs.EventLists.{RawEvent, asEvent, Desk, memoryAfter, stateAfter}
 use Rattle.book.specs.Demand3.{Demand3At}
 use Rattle.layout.specs.View.{rosterOf, balancesOf, openOrders}
 use Rattle.opening.specs.Questions.{rosterFrom, openingQuestions, openingAnswer}
@@ -97,31 +98,30 @@ pub record Demand2 : Type 0 where
 abbrev pub gate : Desk
 gate = record { Memory = List ℕ; answerTo = λ m e. answerTo m (e .bytes); next = λ m e. afterEvent m (e .bytes) }
 
--- from an accepted opening of memory m with roster s
+-- what is kept after a list of events, from an accepted opening of memory m with roster s: the plain book, and what stands beside it
+abbrev pub keptAfter : List ℕ → List ℕ → List RawEvent → State
+keptAfter m s events = stateAfter gate (afterOpening m s) (begun derivatives (rosterFrom s)) events
+
 pub record Demand3From (m s : List ℕ) : Type 0 where
   -- over every list of events and every N: see Demand3At in crates/book/specs/Demand3.antt, sentence by sentence
-  pub judged : Demand3At gate derivatives (rosterFrom s) (afterOpening m s) begun
+  pub judged : Demand3At gate (afterOpening m s) (begun derivatives (rosterFrom s))
   -- "Positions read after the list are those that the book gives"
   pub instrument-read :
       (events : List RawEvent) (a i : ℕ)
       → between 1 (rosterFrom s .accounts) a ≡ true
       → between 1 (rosterFrom s .instruments) i ≡ true
       → (let now = memoryAfter gate (afterOpening m s) events in
-      let book = stateAfter gate derivatives (afterOpening m s) begun events .book in
-      (instrumentAnswer now a i ≡ 0) × (instrumentReport now a i ≡ instrumentIn (rosterFrom s) book a i))
+      (instrumentAnswer now a i ≡ 0) × (instrumentReport now a i ≡ instrumentIn (keptAfter m s events) a i))
   pub group-read :
       (events : List RawEvent) (a g : ℕ)
       → between 1 (rosterFrom s .accounts) a ≡ true
       → between 1 (rosterFrom s .groups) g ≡ true
       → (let now = memoryAfter gate (afterOpening m s) events in
-      let book = stateAfter gate derivatives (afterOpening m s) begun events .book in
-      (groupAnswer now a g ≡ 0) × (groupReport now a g ≡ groupIn (rosterFrom s) book a g))
-  -- "Answers are demand 2's": after the list an event is answered by the table asked of the plain book
+      (groupAnswer now a g ≡ 0) × (groupReport now a g ≡ groupIn (keptAfter m s events) a g))
+  -- "Answers are demand 2's": after the list an event is answered by the table asked of what is kept
   pub answered :
       (events : List RawEvent) (e : RawEvent)
-      → (let kept = stateAfter gate derivatives (afterOpening m s) begun events in
-      answerTo (memoryAfter gate (afterOpening m s) events) (e .bytes)
-      ≡ answer derivatives (rosterFrom s) (kept .book) (kept .trading) (asEvent e))
+      → answerTo (memoryAfter gate (afterOpening m s) events) (e .bytes) ≡ answer (keptAfter m s events) (asEvent e)
   -- the desk stays sound: question 5 is never answered no
   pub never-5 : (events : List RawEvent) (e : RawEvent) → answerTo (memoryAfter gate (afterOpening m s) events) (e .bytes) ≢ 5
 

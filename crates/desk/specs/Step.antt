@@ -3,20 +3,18 @@ use Prim.Native.Nat.{ℕ}
 use mathlib.Core.Bool.{cond}
 use mathlib.Core.List.{List}
 use lib.Dec.{eqb}
-use Rattle.ledger.specs.declared.order.Side.{Side}
 use Rattle.limits.specs.Questions.{Question, firstNo}
 use Rattle.book.specs.declared.Event.{Event}
-use Rattle.book.specs.Market.{derivatives}
 use Rattle.book.specs.Decoding.{decode}
 use Rattle.book.specs.Table.{questions}
-use Rattle.layout.specs.View.{rosterOf, bookOf, tradingOf}
+use Rattle.layout.specs.View.{view}
 use Rattle.layout.specs.Judged.{judged}
 use Rattle.soundness.specs.Soundness.{soundDesk}
-use Rattle.working.specs.Working.{worked, moved}
+use Rattle.working.specs.Working.{worked}
 
 -- questions 5 to 24 of the event that the bytes e say, asked of memory m
 unfoldable pub eventQuestions : List ℕ → List ℕ → List Question
-eventQuestions m e = questions derivatives (rosterOf m) (soundDesk m) (bookOf m) (tradingOf m) (decode e)
+eventQuestions m e = questions (soundDesk m) (view m) (decode e)
 
 -- the number of the first question that is answered no, or 0
 unfoldable pub answerTo : List ℕ → List ℕ → ℕ
@@ -29,6 +27,3 @@ afterEvent m e = cond (eqb (answerTo m e) 0) (worked m (decode e)) m
 -- on a sound desk
 unfoldable pub stepped : List ℕ → Event → List ℕ
 stepped m e = cond (eqb (judged m e) 0) (worked m e) m
-
-unfoldable pub movedIn : List ℕ → Event → Side → ℕ
-movedIn m e s = cond (eqb (judged m e) 0) (moved m e s) 0

@@ -38,9 +38,7 @@ pub fn answer_next(m: &mut [u8], cells: &mut [u64; 1089], event: &[u8], sound: b
     if !sound {
         return 5;
     }
-    let outcome = step(m, cells, decode(event));
-    let answer = outcome.answer;
-    number_of(answer)
+    number_of(step(m, cells, decode(event)))
 }
 
 // Answers the events, a byte for each, until they or the room for answers end. Returns how many.

@@ -35,7 +35,7 @@ returns-2 c =
     let sound = start .pre .0 ∙ sound-after _ _ (λ i. known .slice-known .given i .fits)
     (λ i. asked .before .shared-slice-known .given i .fits) ∙ ap soundDesk (sym memory) in (
       c .number-of .ensures ∙ (rw (decoded .decode .ensures) at (done .step .ensures .0)) ∙ same .0,
-      (memory, (sound, λ _. done .step .ensures .1 .1 .1)),
+      (memory, (sound, λ _. done .step .ensures .1 .1)),
     )
 
 pub answer-next-spec : {M : Type 1} → statement M
