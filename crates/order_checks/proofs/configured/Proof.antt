@@ -30,4 +30,6 @@ unfolding numberOf
 returns-2 c = sym (ap existenceNumber (c .enum-told2 .given .1)) ∙ asked (c .before .before)
 
 pub configured-spec : {M : Type 1} → statement M
-configured-spec = tie.close (tie.spec (λ c κs. search needs) (λ c κs. search needs) (λ c κs. search needs) (λ c κs. search needs) (λ c. search needs) (λ c. search needs) returns returns-2)
+configured-spec =
+    tie.close (tie.spec (λ c κs. search needs) (λ c κs. search needs) (λ c κs. search needs) (λ c κs. search needs) (λ c. search needs) (λ
+    c. search needs) returns returns-2)

@@ -1,5 +1,5 @@
--- Cells, balances, roster and group line are parts of the memory that say what its view says (`by-parts`), so the answer by the parts is that of
--- questions 21 to 24; a sound desk keeps all within the bounds that are asked for.
+-- Cells, balances, roster and group line are parts of the memory that say what its view says (`by-parts`), so the answer by the parts
+-- is that of questions 21 to 24; a sound desk keeps all within the bounds that are asked for.
 use mathlib.Core.Path.{_∙_}
 use borrow.Author.Needs.{needs}
 use Rattle.ledger.specs.Roster.{groupOfInstrument}
@@ -35,7 +35,10 @@ returns c after raised =
     let s = own .before .before .before .before in
     c .position-answer .ensures
     ∙ by-parts _ _ _ _ _ (s .pre .0) (s .pre .1) (s .pre .2) _ _ _ (s .pre .4) (holds of-group)
-    (rw (own .cells-of .ensures, of-account .balances .ensures, parts .roster .ensures) at (c .before .positions-within .ensures)) after raised
+    (rw (own .cells-of .ensures, of-account .balances .ensures, parts .roster .ensures) at (c .before .positions-within .ensures))
+    after raised
 
 pub positions-of-spec : {M : Type 1} → statement M
-positions-of-spec = tie.close (tie.spec (λ c κs. search needs) (λ c κs. search needs) (λ c κs. search needs) (λ c κs. search needs) positions-within-requires (λ c κs. search needs) returns)
+positions-of-spec =
+    tie.close (tie.spec (λ c κs. search needs) (λ c κs. search needs) (λ c κs. search needs) (λ c κs. search needs)
+    positions-within-requires (λ c κs. search needs) returns)

@@ -64,4 +64,5 @@ returns c =
 
 pub work-fill-spec : {M : Type 1} → statement M
 work-fill-spec =
-    tie.close (tie.spec load-order-requires cast-n balance-requires fill-record-requires balance-after-requires set-balance-requires (λ c κs. search needs) (λ c. search needs) returns)
+    tie.close (tie.spec load-order-requires cast-n balance-requires fill-record-requires balance-after-requires set-balance-requires (λ c
+    κs. search needs) (λ c. search needs) returns)
