@@ -16,7 +16,8 @@ use Rattle.limits.specs.InBytes.{lineAt, groupLineAt, saysSet, whereSet, linesI
 use Rattle.limits.proofs.LinesRead.{set-by-word, in-force, of-group, length-in-force}
 use Rattle.book.specs.Sound.{LineFits, GroupLineFits}
 use Rattle.layout.specs.Layout.{ownSetRow, defaultSetRow, groupSetRow, ownRow, defaultRow, groupRow}
-use Rattle.layout.specs.View.{rosterOf, linesOf, ownFigures, defaultFigures, groupFigures, linesRow, ownLines, defaultLines, groupLines}
+use Rattle.layout.specs.View.{rosterOf, linesOf, ownFigures, defaultFigures, groupFigures}
+use Rattle.layout.specs.View.{linesRow, ownLines, defaultLines, groupLines}
 use Rattle.layout.specs.Readable.{Readable, HoldsLine, HoldsGroupLine}
 use Rattle.layout.proofs.GuardedTables.{on-here}
 

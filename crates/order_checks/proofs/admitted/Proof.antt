@@ -45,4 +45,6 @@ returns-4 c =
     c .configured .ensures ∙ rw (account (two .before .before), instrument two, sym (group (three .before)) ∙ three .if3 .left)
 
 pub admitted-spec : {M : Type 1} → statement M
-admitted-spec = tie.close (tie.spec (λ c κs. search needs) returns (λ c κs. search needs) returns-2 (λ c κs. search needs) returns-3 (λ c κs. search needs) returns-4)
+admitted-spec =
+    tie.close (tie.spec (λ c κs. search needs) returns (λ c κs. search needs) returns-2 (λ c κs. search needs) returns-3 (λ c κs. search
+    needs) returns-4)

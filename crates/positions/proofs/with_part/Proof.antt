@@ -56,7 +56,8 @@ short-part : (c : tie.After-group-part2) → let a =
     (a .i) short
 short-part c =
     let at = c .before .before .before .before in
-    part-inside _ _ _ _ _ short (sym (at .before .instrument-group-in .ensures) ∙ at .if1 .left) _ _ _ _ (weight (c .before .before .before))
+    part-inside _ _ _ _ _ short (sym (at .before .instrument-group-in .ensures) ∙ at .if1 .left) _ _ _ _
+    (weight (c .before .before .before))
     (c .before .before .by-cells .ensures) (c .group-part2 .ensures)
 
 plus-requires : tie.Need-plus-requires

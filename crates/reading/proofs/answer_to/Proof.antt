@@ -44,4 +44,5 @@ returns-4 c =
 
 pub answer-to-spec : {M : Type 1} → statement M
 answer-to-spec =
-    tie.close (tie.spec (λ c κs. search needs) returns (λ c κs. sound-long _ (sound c)) returns-2 (λ c κs. sound-long _ (sound (c .before .before))) returns-3 returns-4)
+    tie.close (tie.spec (λ c κs. search needs) returns (λ c κs. sound-long _ (sound c)) returns-2 (λ c κs. sound-long _
+    (sound (c .before .before))) returns-3 returns-4)

@@ -36,7 +36,8 @@ few c = omega (arith, c .before .count .ensures, length-open (c .before .before 
 near : (c : tie.Else4) → firstOf (c .before .before .before .before .before .before .before .before .before .args .m .now) ≤ 256
 near c = omega (arith, c .before .first-of .ensures)
 
-passed : (c : tie.Else5) → rosterSound (c .before .before .before .before .before .before .before .before .before .before .before .args .m .now)
+passed : (c : tie.Else5)
+    → rosterSound (c .before .before .before .before .before .before .before .before .before .before .before .args .m .now)
     ≡ true
 passed c = answered-yes _ _ (c .before .roster-is-sound .ensures) (c .if5 .left)
 
@@ -96,7 +97,8 @@ returns-7 c =
       c .orders-and-positions .ensures .1,
     )
 
-may-read : (c : tie.Else5) → Readable (c .before .before .before .before .before .before .before .before .before .before .before .args .m .now)
+may-read : (c : tie.Else5)
+    → Readable (c .before .before .before .before .before .before .before .before .before .before .before .args .m .now)
 may-read c =
     let one = c .before .before .before .before .before .before .before .before in
     readable _ (there one) (sound-sizes _ (passed c))
@@ -112,5 +114,6 @@ orders-and-positions-requires c κs =
 pub is-sound-with-sums-spec : {M : Type 1} → statement M
 is-sound-with-sums-spec =
     tie.close (tie.spec (λ c κs. search needs) returns (λ c κs. there c) returns-2 (λ c κs. there (c .before .before)) returns-3
-    (λ c κs. there (c .before .before .before .before)) returns-4 (λ c κs. there (c .before .before .before .before .before .before)) returns-5
+    (λ c κs. there (c .before .before .before .before)) returns-4 (λ c κs. there (c .before .before .before .before .before .before))
+    returns-5
     (λ c κs. may-read c) returns-6 orders-and-positions-requires returns-7)

@@ -20,4 +20,5 @@ returns c =
     (holds-line _ (s .pre .0) _ (s .pre .1) _ _ _ (s .pre .2) (s .pre .3) (s .pre .4) (set .own-set .ensures))
 
 pub line-in-force-spec : {M : Type 1} → statement M
-line-in-force-spec = tie.close (tie.spec (λ c κs. search needs) (λ c κs. search needs) (λ c κs. search needs) line-in-force-requires returns)
+line-in-force-spec =
+    tie.close (tie.spec (λ c κs. search needs) (λ c κs. search needs) (λ c κs. search needs) line-in-force-requires returns)

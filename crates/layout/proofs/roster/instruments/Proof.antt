@@ -9,7 +9,8 @@ use Rattle.layout.proofs.roster.instruments.Statement.{statement}
 use Rattle.layout.proofs.roster.instruments.Tie as tie
 
 instruments-in-requires : tie.Need-instruments-in-requires
-instruments-in-requires c κs = rw (c .roster .ensures) (omega (arith, roster-long (c .before .before .args .m .now) (c .before .before .pre)))
+instruments-in-requires c κs =
+    rw (c .roster .ensures) (omega (arith, roster-long (c .before .before .args .m .now) (c .before .before .pre)))
 
 returns : tie.Need-returns
 unfolding rosterOf listed

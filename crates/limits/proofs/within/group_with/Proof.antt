@@ -65,4 +65,5 @@ returns c = c .plus .ensures ∙ rw (before (c .before), rise (c .before .before
 
 pub group-with-spec : {M : Type 1} → statement M
 group-with-spec =
-    tie.close (tie.spec instrument-group-in-requires (λ c κs. search needs) (λ c κs. search needs) times-requires (λ c κs. search needs) plus-requires returns)
+    tie.close (tie.spec instrument-group-in-requires (λ c κs. search needs) (λ c κs. search needs) times-requires (λ c κs. search needs)
+    plus-requires returns)

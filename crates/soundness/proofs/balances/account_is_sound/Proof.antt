@@ -57,5 +57,6 @@ returns-3 c = every-all _ _ (c .before .loop .j) (omega arith) (omega arith) (c 
 
 pub account-is-sound-spec : {M : Type 1} → statement M
 account-is-sound-spec =
-    tie.close (tie.spec Inv-loop μ-loop balances-requires all-small-requires returns (λ c κs. search needs) (λ c. (c .instruments .ensures, omega arith, every-none _))
+    tie.close (tie.spec Inv-loop μ-loop balances-requires all-small-requires returns (λ c κs. search needs) (λ c.
+    (c .instruments .ensures, omega arith, every-none _))
     (λ c. omega arith) instrument-is-sound-requires returns-2 (λ c. omega arith) (λ c. omega arith) loop-again returns-3)

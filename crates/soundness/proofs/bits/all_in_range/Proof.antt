@@ -1,4 +1,5 @@
--- Every number is at most the bits of all, so where that is at most 1,000,000,000 each is: a word's two figures are two of them. A no says nothing.
+-- Every number is at most the bits of all, so where that is at most 1,000,000,000 each is: a word's two figures are two of them.
+-- A no says nothing.
 use Prim.Native.Nat.{_+_, _*_}
 use mathlib.Core.Path.{_≡_}
 use native.Mathlib.Omega.{arith}

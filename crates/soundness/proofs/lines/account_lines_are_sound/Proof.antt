@@ -20,7 +20,8 @@ all-in-range-requires c κs =
 row-in-range-requires : tie.Need-row-in-range-requires
 row-in-range-requires c κs =
     let s = c .before .before .before .before .before .before in
-    rw (c .before .own-lines .ensures) (omega (arith, own-long _ (s .pre .0) _ (s .pre .1), c .instruments .ensures, s .pre .0 .instruments))
+    rw (c .before .own-lines .ensures)
+    (omega (arith, own-long _ (s .pre .0) _ (s .pre .1), c .instruments .ensures, s .pre .0 .instruments))
 
 row-in-range-requires-2 : tie.Need-row-in-range-requires-2
 row-in-range-requires-2 c κs =
@@ -85,4 +86,7 @@ returns-4 c =
     ∙ rw (answered-yes _ _ (own (one .before)) (one .if2 .left), answered-yes _ _ (default (two .before)) (two .if3 .left))
 
 pub account-lines-are-sound-spec : {M : Type 1} → statement M
-account-lines-are-sound-spec = tie.close (tie.spec (λ c κs. search needs) all-in-range-requires returns (λ c κs. search needs) (λ c κs. search needs) row-in-range-requires returns-2 (λ c κs. search needs) (λ c κs. search needs) row-in-range-requires-2 returns-3 (λ c κs. search needs) (λ c κs. search needs) group-row-in-range-requires returns-4)
+account-lines-are-sound-spec =
+    tie.close (tie.spec (λ c κs. search needs) all-in-range-requires returns (λ c κs. search needs) (λ c κs. search needs)
+    row-in-range-requires returns-2 (λ c κs. search needs) (λ c κs. search needs) row-in-range-requires-2 returns-3 (λ c κs. search needs)
+    (λ c κs. search needs) group-row-in-range-requires returns-4)

@@ -45,7 +45,8 @@ loop-again c =
 pub all-marked-spec : {M : Type 1} → statement M
 all-marked-spec =
     tie.close (tie.spec Inv-loop μ-loop (λ c κs. c .before .pre .0) returns (λ c κs. omega (arith, c .before .before .before .pre .0 .long))
-    (λ c κs. c .before .before .before .before .pre .1) (λ c. asked-none _ _ _ _ (c .before .count .ensures ∙ length-open _) (c .records .ensures))
+    (λ c κs. c .before .before .before .before .pre .1)
+    (λ c. asked-none _ _ _ _ (c .before .count .ensures ∙ length-open _) (c .records .ensures))
     (λ c κs. omega (arith, long c)) (λ c κs. c .before .before .before .before .before .before .before .before .pre .0) returns-2
     (λ c. omega (arith, long (c .before .before .before))) (λ c. omega arith) loop-again
     (λ c. asked-all _ _ _ _ _ (c .before .loop .inv) (omega arith)))

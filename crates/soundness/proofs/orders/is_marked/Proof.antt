@@ -38,4 +38,6 @@ returns-3 c =
     }
 
 pub is-marked-spec : {M : Type 1} → statement M
-is-marked-spec = tie.close (tie.spec (λ c κs. search needs) returns (λ c κs. search needs) returns-2 (λ c κs. (c .before .before .before .before .before .pre, account (c .before .before))) returns-3)
+is-marked-spec =
+    tie.close (tie.spec (λ c κs. search needs) returns (λ c κs. search needs) returns-2 (λ c κs.
+    (c .before .before .before .before .before .pre, account (c .before .before))) returns-3)
