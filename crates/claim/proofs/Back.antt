@@ -1,33 +1,28 @@
 -- The way back: each demand as the claim says it gives the demand as the crate desk says it, so neither can be weakened alone.
 use Prim.Native.Nat.{ℕ, _≤_, _<_}
-use mathlib.Core.Path.{_≡_, refl, sym, ap, _∙_}
-use mathlib.Core.Logic.{_⊎_, inl, inr, ⊎-elim, _↔_, _≢_, by-cases}
+use mathlib.Core.Path.{_≡_, refl, sym, ap, _∙_, subst}
+use mathlib.Core.Logic.{inl, inr, _↔_, _≢_, by-cases}
 use mathlib.Core.Bool.{Bool, true, false}
 use mathlib.Core.List.{List, [], _∷_, _++_, List·Memᴰ, List·Memᴰ·head, List·Memᴰ·tail}
 use native.Mathlib.Decide.{ℕ-discrete}
 use lib.ListN.{length}
-use Rattle.ledger.specs.Derivatives.{one}
-use Rattle.ledger.specs.Positions.{Scope}
-use Rattle.ledger.specs.Roster.{Roster}
 use Rattle.limits.specs.Lines.{isSet}
 use Rattle.limits.specs.Questions.{Question, numbersOf, allPass}
-use Rattle.book.specs.declared.LimitLine.{LimitLine}
-use Rattle.book.specs.declared.Event.the-variants.{Limit}
 use Rattle.book.specs.Market.{derivatives}
-use Rattle.book.specs.Books.{work}
 use Rattle.book.specs.Decoding.{decode}
 use Rattle.book.specs.Table.{q, entered}
-use Rattle.book.specs.EventLists.{RawEvent, asEvent, State, memoryAfter, stateAfter}
-use Rattle.book.specs.SetAgain.{nameOf, lineOver}
-use Rattle.book.specs.Demand3.{NotSetAgain}
-use Rattle.book.proofs.SetAgainLaws.{set-by-that-limit}
-use Rattle.book.proofs.NotSetAgainLaws.{not-set-again-iff}
+use Rattle.book.specs.States.{State}
+use Rattle.book.specs.EventLists.{RawEvent, asEvent, keep, memoryAfter, stateAfter}
+use Rattle.book.specs.Demand3.{RefusedExactly, NotPast}
 use Rattle.layout.specs.View.{bookOf}
-use Rattle.desk.specs.Step.{eventQuestions, answerTo}
+use Rattle.opening.specs.Questions.{rosterFrom}
+use Rattle.opening.specs.Opening.{afterOpening}
+use Rattle.desk.specs.Step.{eventQuestions, answerTo, afterEvent}
 use Rattle.desk.specs.Days.{answersOver, memoryOver}
 use Rattle.desk.specs.Run.{Whole, eventsFor, bytesOfEach, concatenated}
-use Rattle.desk.specs.Demands.{OneOf, Answers, gate, Demand1 as DeskDemand1, Demand2 as DeskDemand2, Demand3 as DeskDemand3}
+use Rattle.desk.specs.Demands.{OneOf, Answers, gate, keptAfter, Demand1 as DeskDemand1, Demand2 as DeskDemand2, Demand3 as DeskDemand3}
 use Rattle.claim.specs.Claim.{FirstNo, Demand1, Demand2, Demand3, Run}
+use Rattle.claim.proofs.Held.{held-kept, held-after, held-from-opening, named, by-name, none-on-the-line}
 use Rattle.claim.proofs.Demands.{failed-first}
 
 -- ---- demand 1
@@ -87,31 +82,27 @@ back-2 d =
     }
 
 -- ---- demand 3
-none-on-the-line : (r : Roster) (m : List ℕ) (k : State) (a : ℕ) (p : Scope) (later : List RawEvent)
-    → NotSetAgain gate derivatives r m k a p later
-    → (before : List RawEvent) (e : RawEvent) (behind : List RawEvent) (c : ℕ) (l : LimitLine) → later ≡ before ++ (e ∷ behind)
-    → asEvent e ≡ Limit c l → answerTo (memoryAfter gate m before) (e .bytes) ≡ 0
-    → (nameOf c l ≡ lineOver r (stateAfter gate derivatives m k before .book) a p) ⊎
-    (nameOf c l ≡ lineOver r (work one (stateAfter gate derivatives m k before .book) (asEvent e)) a p) → ⊥
-unfolding derivatives
-none-on-the-line r m k a p later out before e behind c l cut limits zero under =
-    not-set-again-iff gate derivatives r a p m k later .0 out before e behind cut zero
-    (⊎-elim
-    (λ x. inl (set-by-that-limit (asEvent e) _ .1 (c, l, limits, sym x)))
-    (λ x. inr (set-by-that-limit (asEvent e) _ .1 (c, l, limits, sym x)))
-    under)
-
 pub back-3 : Demand3 → DeskDemand3
 unfolding derivatives
 back-3 d m s bytes opens =
+    let r = rosterFrom s in
     record {
       judged = λ events n o j.
           let so = d m s bytes opens events .0 n o (j .enters) (j .passes) in
+          let kept = keptAfter m s events in
+          let held = held-from-opening m s events in
+          let now = memoryAfter gate (afterOpening m s) events in
+          let keptN = keep kept (asEvent n) (answerTo now (n .bytes)) in
+          let heldN = held-kept r kept (asEvent n) (answerTo now (n .bytes)) held in
           record {
-            refused = so .0;
+            refused = subst (λ (k : State). RefusedExactly k n o (answerTo now (n .bytes))) (sym (by-name r kept held)) (so .0);
             accepted = λ zero p w moves later out.
-                let h = so .1 zero p w moves later (none-on-the-line _ _ _ (o .account) p later out) in
-                record { same = h .0; stands = h .1; filled = h .2 };
+                let next = afterEvent now (n .bytes) in
+                let end = stateAfter gate next keptN later in
+                let h = so .1 zero p w (rw (held .1) at moves) later (none-on-the-line r next keptN heldN (o .account) p later .0 out) in
+                let past : NotPast (named r kept) (named r end) (o .account) p w = record { same = h .0; stands = h .1; filled = h .2 } in
+                subst (λ (k : State). NotPast kept k (o .account) p w) (sym (by-name r end (held-after r next keptN later heldN)))
+                (subst (λ (k : State). NotPast k (named r end) (o .account) p w) (sym (by-name r kept held)) past);
           };
       instrument-read = λ events. d m s bytes opens events .3;
       group-read = λ events. d m s bytes opens events .4;

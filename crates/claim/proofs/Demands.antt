@@ -1,6 +1,6 @@
 -- The three demands as the claim says them, each taken from the theorem of the same name in the crate desk.
 use Prim.Native.Nat.{ℕ, suc, _≤_}
-use mathlib.Core.Path.{_≡_, refl, sym, ap, _∙_}
+use mathlib.Core.Path.{_≡_, refl, ap, _∙_, subst}
 use mathlib.Core.Logic.{_⊎_, inl, inr, ⊎-elim, _↔_, _≢_}
 use mathlib.Core.Bool.{Bool, true, false, cond}
 use mathlib.Core.List.{List, [], _∷_, _++_, map, List·Memᴰ, List·Memᴰ·head, List·Memᴰ·tail, List·Memᴰ·not-nil}
@@ -14,21 +14,23 @@ use Rattle.limits.specs.Questions.{Question, numbersOf}
 use Rattle.book.specs.Market.{derivatives}
 use Rattle.book.specs.Decoding.{decode}
 use Rattle.book.specs.Table.{q, entered}
-use Rattle.book.specs.EventLists.{RawEvent, asEvent}
-use Rattle.book.proofs.SetAgainLaws.{set-by-that-limit}
-use Rattle.book.proofs.NotSetAgainLaws.{not-set-again-iff}
+use Rattle.book.specs.States.{State}
+use Rattle.book.specs.EventLists.{RawEvent, asEvent, keep, memoryAfter, stateAfter}
+use Rattle.book.specs.Demand3.{RefusedExactly, NotPast}
 use Rattle.book.proofs.TableLaws.{positionNumbers, numbers-in-order}
-use Rattle.layout.specs.View.{rosterOf, bookOf, tradingOf}
+use Rattle.layout.specs.View.{bookOf, view}
 use Rattle.soundness.specs.Soundness.{soundDesk}
 use Rattle.opening.specs.Questions.{rosterFrom, openingQuestions}
+use Rattle.opening.specs.Opening.{afterOpening}
 use Rattle.reading.specs.Reading.{readingQuestions}
 use Rattle.desk.specs.Step.{eventQuestions, answerTo, afterEvent}
 use Rattle.desk.specs.Days.{answersOver}
 use Rattle.desk.specs.Run.{Whole, answered}
-use Rattle.desk.specs.Demands.{OneOf, FirstFailed, Answers, gate}
+use Rattle.desk.specs.Demands.{OneOf, FirstFailed, Answers, gate, keptAfter}
 use Rattle.desk.proofs.Demands.{demand-1 as desk-demand-1, demand-2 as desk-demand-2, demand-3 as desk-demand-3}
 use Rattle.desk.proofs.RunList.{run-is-the-list, unsound-run}
 use Rattle.claim.specs.Claim.{FirstNo, Demand1, Demand2, Demand3, Run}
+use Rattle.claim.proofs.Held.{held-kept, held-after, held-from-opening, named, by-name, none-on-the-line}
 
 -- ---- the numbers of an event's questions: 5 to 20, and 21 to 24 where an order is entered or raised
 abbrev first-asked : List ℕ
@@ -41,7 +43,7 @@ event-numbers : (m e : List ℕ) → numbersOf (eventQuestions m e) ≡ first-as
 unfolding eventQuestions
 event-numbers m e =
     rw (← at-the-end (entered (bookOf m) (decode e)))
-    (numbers-in-order derivatives (rosterOf m) (soundDesk m) (bookOf m) (tradingOf m) (decode e))
+    (numbers-in-order (soundDesk m) (view m) (decode e))
   where
     at-the-end : (x : Option Order) → positionNumbers x ≡ cond (isSet x) last-asked []
     at-the-end none = refl
@@ -131,21 +133,24 @@ demand-2 =
 pub demand-3 : Demand3
 unfolding derivatives
 demand-3 m s bytes opens events =
-    let d = desk-demand-3 m s bytes opens in (
+    let d = desk-demand-3 m s bytes opens in
+    let r = rosterFrom s in
+    let held = held-from-opening m s events in (
       λ n o enters passes.
+          let kept = keptAfter m s events in
+          let now = memoryAfter gate (afterOpening m s) events in
+          let keptN = keep kept (asEvent n) (answerTo now (n .bytes)) in
+          let heldN = held-kept r kept (asEvent n) (answerTo now (n .bytes)) held in
           let j = d .judged events n o (record { enters = enters; passes = passes }) in (
-            j .refused,
+            subst (λ (k : State). RefusedExactly k n o (answerTo now (n .bytes))) (by-name r kept held) (j .refused),
             λ zero p w moves later out.
-                -- what sets a line is a LIMIT, and none is on the line that the position is under
-                let kept = j .accepted zero p w moves later
-                (not-set-again-iff gate derivatives (rosterFrom s) (o .account) p _ _ later .1
-                (λ before e behind cut accepted.
-                ⊎-elim
-                (λ h. let x = set-by-that-limit (asEvent e) _ .0 h in
-                out before e behind (x .0) (x .1) cut (x .2) accepted (inl (sym (x .3))))
-                (λ h. let x = set-by-that-limit (asEvent e) _ .0 h in
-                out before e behind (x .0) (x .1) cut (x .2) accepted (inr (sym (x .3)))))) in
-                (kept .same, kept .stands, kept .filled),
+                let next = afterEvent now (n .bytes) in
+                let end = stateAfter gate next keptN later in
+                let so = j .accepted zero p w (rw (held .1) moves) later (none-on-the-line r next keptN heldN (o .account) p later .1 out) in
+                let named =
+                subst (λ (k : State). NotPast k (named r end) (o .account) p w) (by-name r kept held)
+                (subst (λ (k : State). NotPast kept k (o .account) p w) (by-name r end (held-after r next keptN later heldN)) so) in
+                (named .same, named .stands, named .filled),
           ),
       d .answered events,
       d .never-5 events,

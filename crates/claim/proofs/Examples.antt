@@ -19,9 +19,10 @@ use Rattle.limits.specs.Questions.{allPass}
 use Rattle.book.specs.declared.LimitLine.{LimitLine}
 use Rattle.book.specs.declared.Event.the-variants.{Limit}
 use Rattle.book.specs.Market.{derivatives}
-use Rattle.book.specs.Books.{work}
+use Rattle.book.specs.Books.{bookAfter}
 use Rattle.book.specs.Table.{entered, questionsBefore, answer}
-use Rattle.book.specs.EventLists.{RawEvent, asEvent, State, begun, keep, stateAfter}
+use Rattle.book.specs.States.{State, begun}
+use Rattle.book.specs.EventLists.{RawEvent, asEvent, keep, stateAfter}
 use Rattle.book.specs.SetAgain.{nameOf, lineOver}
 use Rattle.book.specs.Written.{asBytes, written, writtenAll}
 use Rattle.book.specs.Days.{endOf}
@@ -35,14 +36,15 @@ use Rattle.desk.specs.Demands.{gate}
 use Rattle.claim.specs.Examples.{memoryAt, stateAt, OrderAsked, SomeFillingPast, OrderRefused, NoneSetsAgain, OrderAccepted}
 use Rattle.claim.specs.Examples.{LimitSetAgain}
 use Rattle.claim.proofs.Demands.{demand-1, demand-2, demand-3}
+use Rattle.claim.proofs.Held.{held-from-opening}
 use Rattle.claim.proofs.Plainly.{asEvents, plainly, plainly-after, state-plainly, none-sets-again}
 
 -- what the plain book of roster s keeps of the events, and what it answers to one more
 abbrev pub plainState : List ℕ → List (List ℕ) → State
-plainState s events = endOf (rosterFrom s) begun (asEvents (writtenAll events))
+plainState s events = endOf (begun derivatives (rosterFrom s)) (asEvents (writtenAll events))
 
 abbrev pub plainAnswer : List ℕ → List (List ℕ) → List ℕ → ℕ
-plainAnswer s events n = answer derivatives (rosterFrom s) (plainState s events .book) (plainState s events .trading) (asEvent (written n))
+plainAnswer s events n = answer (plainState s events) (asEvent (written n))
 
 abbrev pub ForPositionLimit : ℕ → Type 0
 ForPositionLimit n = (n ≡ 21) ⊎ ((n ≡ 22) ⊎ ((n ≡ 23) ⊎ (n ≡ 24)))
@@ -61,18 +63,17 @@ Asks s events n o =
     let kept = plainState s events in
     (asBytes n ≡ n)
     × (entered (kept .book) (asEvent (written n)) ≡ some o)
-    × (allPass (questionsBefore derivatives (rosterFrom s) (kept .book) (kept .trading) (asEvent (written n))) ≡ true)
+    × (allPass (questionsBefore kept (asEvent (written n))) ≡ true)
 
 -- no accepted event of the later ones sets the limit of o's position again
 abbrev NoneSets : List ℕ → List (List ℕ) → List ℕ → Order → Scope → List (List ℕ) → Type 0
 NoneSets s events n o p later =
-    let r = rosterFrom s in
     let kept = plainState s (events ++ (n ∷ [])) in
-    setsNone (plain derivatives r) derivatives r kept kept (o .account) p (writtenAll later) ≡ true
+    setsNone plain kept kept (o .account) p (writtenAll later) ≡ true
 
 module _ (m s : List ℕ) (bytes : Bytes m) (opens : openingAnswer m s ≡ 0) where
   pub state-at : (events : List (List ℕ)) → stateAt m s events ≡ plainState s events
-  state-at events = state-plainly (rosterFrom s) (afterOpening m s) begun (plainly m s bytes opens) (writtenAll events)
+  state-at events = state-plainly (afterOpening m s) (begun derivatives (rosterFrom s)) (plainly m s bytes opens) (writtenAll events)
 
   module _ (events : List (List ℕ)) (n : List ℕ) (o : Order) where
     asked : Asks s events n o → OrderAsked m s events n o
@@ -85,7 +86,7 @@ module _ (m s : List ℕ) (bytes : Bytes m) (opens : openingAnswer m s ≡ 0) wh
 
     -- refused: `shown` is a filling that passes the limit
     refused-at : Asks s events n o → (number : ℕ) → plainAnswer s events n ≡ number → ForPositionLimit number
-        → SomeFillingPast (rosterFrom s) (work one (plainState s events .book) (asEvent (written n))) o
+        → SomeFillingPast (rosterFrom s) (bookAfter one (plainState s events .book) (asEvent (written n))) o
         → OrderRefused m s events n o number
     refused-at asks number computed which shown =
         let a = asked asks in
@@ -106,27 +107,28 @@ module _ (m s : List ℕ) (bytes : Bytes m) (opens : openingAnswer m s ≡ 0) wh
     next = afterEvent (memoryAt m s events) (written n .bytes)
 
     abbrev stateNext : State
-    stateNext = keep derivatives (stateAt m s events) (asEvent (written n)) (answerTo (memoryAt m s events) (written n .bytes))
+    stateNext = keep (stateAt m s events) (asEvent (written n)) (answerTo (memoryAt m s events) (written n .bytes))
 
     memory-next : memoryAt m s (events ++ (n ∷ [])) ≡ next
     memory-next = rw (written-joined events (n ∷ [])) (memory-of-more gate (afterOpening m s) (writtenAll events) (written n))
 
     state-next : stateAt m s (events ++ (n ∷ [])) ≡ stateNext
     state-next =
-        rw (written-joined events (n ∷ [])) (state-of-more gate derivatives (afterOpening m s) begun (writtenAll events) (written n))
+        rw (written-joined events (n ∷ [])) (state-of-more gate (afterOpening m s) (begun derivatives (rosterFrom s)) (writtenAll events) (written n))
 
-    state-later : (later : List (List ℕ)) → stateAt m s (events ++ (n ∷ later)) ≡ stateAfter gate derivatives next stateNext
+    state-later : (later : List (List ℕ)) → stateAt m s (events ++ (n ∷ later)) ≡ stateAfter gate next stateNext
         (writtenAll later)
     unfolding stateAfter
     state-later later =
-        rw (written-joined events (n ∷ later)) (state-joined gate derivatives (afterOpening m s) begun (writtenAll events)
+        rw (written-joined events (n ∷ later)) (state-joined gate (afterOpening m s) (begun derivatives (rosterFrom s)) (writtenAll events)
         (written n ∷ writtenAll later))
 
     module _ (p : Scope) (w : Way) (figure : ℤ) (later : List (List ℕ)) where
       none-sets : NoneSets s events n o p later → NoneSetsAgain m s (events ++ (n ∷ [])) later (o .account) p
       none-sets test =
           none-sets-again (rosterFrom s) (memoryAt m s (events ++ (n ∷ []))) (stateAt m s (events ++ (n ∷ [])))
-          (plainly-after (rosterFrom s) (afterOpening m s) begun (plainly m s bytes opens) (writtenAll (events ++ (n ∷ []))))
+          (held-from-opening m s (writtenAll (events ++ (n ∷ []))))
+          (plainly-after (afterOpening m s) (begun derivatives (rosterFrom s)) (plainly m s bytes opens) (writtenAll (events ++ (n ∷ []))))
           (o .account) p (writtenAll later) (rw (state-at (events ++ (n ∷ []))) test)
 
       accepted-at : Asks s events n o → plainAnswer s events n ≡ 0 → Moves (rosterFrom s) o p w
@@ -156,20 +158,19 @@ module _ (m s : List ℕ) (bytes : Bytes m) (opens : openingAnswer m s ≡ 0) wh
       pub limit-set-again : (before : List RawEvent) (e : RawEvent) (behind : List RawEvent) (c : ℕ) (l : LimitLine)
           → writtenAll later ≡ before ++ (e ∷ behind)
           → asEvent e ≡ Limit c l
-          → answer derivatives (rosterFrom s) (endOf (rosterFrom s) (plainState s (events ++ (n ∷ []))) (asEvents before) .book)
-          (endOf (rosterFrom s) (plainState s (events ++ (n ∷ []))) (asEvents before) .trading) (asEvent e) ≡ 0
-          → nameOf c l ≡ lineOver (rosterFrom s) (endOf (rosterFrom s) (plainState s (events ++ (n ∷ []))) (asEvents before) .book)
+          → answer (endOf (plainState s (events ++ (n ∷ []))) (asEvents before)) (asEvent e) ≡ 0
+          → nameOf c l ≡ lineOver (rosterFrom s) (endOf (plainState s (events ++ (n ∷ []))) (asEvents before) .book)
           (o .account) p
           → (f : Filling (plainState s (events ++ (n ∷ later)) .book .orders))
           × (figure <ℤ position (rosterFrom s) (balanceAfter one (o .account)
           (plainState s (events ++ (n ∷ later)) .book .balanceOf (o .account)) f) p w)
           → LimitSetAgain m s events n o p w figure later
       limit-set-again before e behind c l cut limits computed under shown =
-          let there = plainly-after (rosterFrom s) (afterOpening m s) begun (plainly m s bytes opens) (writtenAll (events ++ (n ∷ []))) in
-          let kept-is : stateAfter gate derivatives (memoryAt m s (events ++ (n ∷ []))) (stateAt m s (events ++ (n ∷ []))) before ≡ endOf
-          (rosterFrom s) (plainState s (events ++ (n ∷ []))) (asEvents before) =
-          state-plainly (rosterFrom s) _ _ there before
-          ∙ ap (λ k. endOf (rosterFrom s) k (asEvents before)) (state-at (events ++ (n ∷ []))) in
+          let there = plainly-after (afterOpening m s) (begun derivatives (rosterFrom s)) (plainly m s bytes opens) (writtenAll (events ++ (n ∷ []))) in
+          let kept-is : stateAfter gate (memoryAt m s (events ++ (n ∷ []))) (stateAt m s (events ++ (n ∷ []))) before ≡ endOf
+          (plainState s (events ++ (n ∷ []))) (asEvents before) =
+          state-plainly _ _ there before
+          ∙ ap (λ k. endOf k (asEvents before)) (state-at (events ++ (n ∷ []))) in
           record {
             set-again = λ none. none before e behind c l cut limits (there before e ∙ rw kept-is computed) (inl (rw kept-is under));
             past = rw (state-at (events ++ (n ∷ later))) shown;
@@ -180,7 +181,7 @@ module _ {m s : List ℕ} {events : List (List ℕ)} {n : List ℕ} {o : Order} 
   -- filled by f, the orders open with N and N itself put position p past its limit on side w
   pub refused : Asks s events n o → {number : ℕ} → plainAnswer s events n ≡ number → ForPositionLimit number
       → (let r = rosterFrom s in
-      let b = work one (plainState s events .book) (asEvent (written n)) in
+      let b = bookAfter one (plainState s events .book) (asEvent (written n)) in
       (p : Scope) (w : Way) → Moves r o p w
       → (f : Filling (b .orders))
       → limit r (b .linesOf (o .account)) p w <ℤ position r (balanceAfter one (o .account) (b .balanceOf (o .account)) f) p w

@@ -15,7 +15,9 @@ use Rattle.ledger.specs.Positions.{group, long, ofInstrument, potential}
 use Rattle.ledger.specs.Fillings.{none, fill}
 use Rattle.book.specs.EventBytes.{cancelBytes}
 use Rattle.book.specs.Decoding.{between}
-use Rattle.book.specs.EventLists.{RawEvent, begun}
+use Rattle.book.specs.Market.{derivatives}
+use Rattle.book.specs.States.{begun}
+use Rattle.book.specs.EventLists.{RawEvent}
 use Rattle.book.specs.Listing.{listingEvents}
 use Rattle.book.specs.Written.{written, writtenAll}
 use Rattle.book.proofs.LongerDay.{weighs-more, weighs-less}
@@ -43,28 +45,28 @@ module _ (m : List ℕ) (bytes : Bytes m) (opens : openingAnswer m listingRoster
   -- what is reported of an instrument, by demand 2, is what the book gives, by demand 3
   instrument-line : (i : ℕ) → between 1 (rosterFrom listingRoster .instruments) i ≡ true → (before : List ℤ)
       → reported (instrumentAnswer (memoryAt m listingRoster listingEvents) 1 i)
-      (instrumentReport (memoryAt m listingRoster listingEvents) 1 i) before ≡ instrumentIn (rosterFrom listingRoster)
-      (plainState listingRoster listingEvents .book) 1 i
+      (instrumentReport (memoryAt m listingRoster listingEvents) 1 i) before ≡ instrumentIn
+      (plainState listingRoster listingEvents) 1 i
   unfolding opened instrumentReport positionIn potential ofInstrument
   instrument-line i on before =
       let read = demand-3 m listingRoster bytes opens (writtenAll listingEvents) .3 1 i refl on in
       demand-2 .instrument-reported (memoryAt m listingRoster listingEvents) 1 i before (read .0) ∙ read .1
-      ∙ ap (λ k. instrumentIn (rosterFrom listingRoster) (k .book) 1 i) (state-at m listingRoster bytes opens listingEvents)
+      ∙ ap (λ k. instrumentIn k 1 i) (state-at m listingRoster bytes opens listingEvents)
 
   group-line : (before : List ℤ) → reported (groupAnswer (memoryAt m listingRoster listingEvents) 1 1)
-      (groupReport (memoryAt m listingRoster listingEvents) 1 1) before ≡ groupIn (rosterFrom listingRoster)
-      (plainState listingRoster listingEvents .book) 1 1
+      (groupReport (memoryAt m listingRoster listingEvents) 1 1) before ≡ groupIn
+      (plainState listingRoster listingEvents) 1 1
   unfolding opened groupReport positionIn potential ofInstrument
   group-line before =
       let read = demand-3 m listingRoster bytes opens (writtenAll listingEvents) .4 1 1 refl refl in
       demand-2 .group-reported (memoryAt m listingRoster listingEvents) 1 1 before (read .0) ∙ read .1
-      ∙ ap (λ k. groupIn (rosterFrom listingRoster) (k .book) 1 1) (state-at m listingRoster bytes opens listingEvents)
+      ∙ ap (λ k. groupIn k 1 1) (state-at m listingRoster bytes opens listingEvents)
 
   answered-so : answersOver (afterOpening m listingRoster) (map (λ e. e .bytes) (writtenAll listingEvents)) ≡ 0 ∷ 0 ∷ 0 ∷ 0 ∷ 23 ∷ 0 ∷ 0 ∷ 0
       ∷ []
   unfolding opened
   answered-so =
-      answers-plainly (rosterFrom listingRoster) (afterOpening m listingRoster) begun (plainly m listingRoster bytes opens)
+      answers-plainly (afterOpening m listingRoster) (begun derivatives (rosterFrom listingRoster)) (plainly m listingRoster bytes opens)
       (writtenAll listingEvents)
 
   in-one-run : (room : List ℕ) → 8 ≤ length room

@@ -13,7 +13,9 @@ use Rattle.ledger.specs.Positions.{instrument, group, long, short}
 use Rattle.ledger.specs.Fillings.{none, fill}
 use Rattle.book.specs.declared.LimitLine.the-variants.{OfGroup}
 use Rattle.book.specs.EventBytes.{groupLine, blockBytes, buy}
-use Rattle.book.specs.EventLists.{RawEvent, begun}
+use Rattle.book.specs.Market.{derivatives}
+use Rattle.book.specs.States.{begun}
+use Rattle.book.specs.EventLists.{RawEvent}
 use Rattle.book.specs.LongerDay.{morning, putSoldToTheLimit, afternoon, evening}
 use Rattle.book.specs.Written.{written, writtenAll}
 use Rattle.book.proofs.LongerDay.{weighs-more, weighs-less}
@@ -53,7 +55,7 @@ module _ (m : List ℕ) (bytes : Bytes m) (opens : openingAnswer m longerRoster 
   all-of-it =
       record {
         opens = opens;
-        answers = answers-plainly (rosterFrom longerRoster) (afterOpening m longerRoster) begun (plainly m longerRoster bytes opens) day;
+        answers = answers-plainly (afterOpening m longerRoster) (begun derivatives (rosterFrom longerRoster)) (plainly m longerRoster bytes opens) day;
         -- 21: all 50 of order 7 and the 53 of N put instrument 1 at 101, past 100
         too-long =
             refused bytes opens (refl, refl, refl) refl (inl refl) (instrument 1) long (refl, refl)

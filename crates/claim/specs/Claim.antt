@@ -24,9 +24,10 @@ use Rattle.book.specs.declared.LimitLine.{LimitLine}
 use Rattle.book.specs.declared.Event.the-variants.{Limit}
 use Rattle.book.specs.Market.{derivatives}
 use Rattle.book.specs.Decoding.{between, decode}
-use Rattle.book.specs.Books.{work}
+use Rattle.book.specs.Books.{bookAfter}
 use Rattle.book.specs.Table.{q, entered, questionsBefore, answer}
-use Rattle.book.specs.EventLists.{RawEvent, asEvent, begun, keep, memoryAfter, stateAfter}
+use Rattle.book.specs.States.{begun}
+use Rattle.book.specs.EventLists.{RawEvent, asEvent, keep, memoryAfter, stateAfter}
 use Rattle.book.specs.SetAgain.{nameOf, lineOver}
 use Rattle.layout.specs.View.{rosterOf, balancesOf, openOrders, bookOf}
 use Rattle.soundness.specs.Soundness.{soundDesk}
@@ -125,14 +126,14 @@ Demand3 =
     → (let r = rosterFrom s in
     -- each event gets the memory as the one before left it; the plain book is kept from the roster, the events and their answers
     let now = memoryAfter gate (afterOpening m s) events in
-    let kept = stateAfter gate derivatives (afterOpening m s) begun events in
+    let kept = stateAfter gate (afterOpening m s) (begun derivatives r) events in
     let book = kept .book in
     -- "After it let N be a new order, or a replace that raises one (then counted once, at its new total), that passes every check before
     -- the position limits." o is the order that N enters, or raises to its new total
     ((n : RawEvent) (o : Order)
     → entered book (asEvent n) ≡ some o
-    → allPass (questionsBefore derivatives r book (kept .trading) (asEvent n)) ≡ true
-    → (let withN = work one book (asEvent n) in
+    → allPass (questionsBefore kept (asEvent n)) ≡ true
+    → (let withN = bookAfter one book (asEvent n) in
     -- "N is refused for a position limit exactly when some filling of the open orders and N, each by any whole number from none to all
     -- that remains, puts the instrument's or group's position past its limit on a side to which N's own fills move it."
     (((answerTo now (n .bytes) ≡ 21)
@@ -149,32 +150,32 @@ Demand3 =
     → Moves r o p w
     → (later : List RawEvent)
     → (let next = afterEvent now (n .bytes) in
-    let keptN = keep derivatives kept (asEvent n) (answerTo now (n .bytes)) in
+    let keptN = keep kept (asEvent n) (answerTo now (n .bytes)) in
     -- no accepted LIMIT among them is on the line that the position is under before it or after it
     ((before : List RawEvent) (e : RawEvent) (behind : List RawEvent) (a : ℕ) (l : LimitLine)
     → later ≡ before ++ (e ∷ behind)
     → asEvent e ≡ Limit a l
     → answerTo (memoryAfter gate next before) (e .bytes) ≡ 0
-    → (let b = stateAfter gate derivatives next keptN before .book in
-    (nameOf a l ≡ lineOver r b (o .account) p) ⊎ (nameOf a l ≡ lineOver r (work one b (asEvent e)) (o .account) p) → ⊥))
+    → (let b = stateAfter gate next keptN before .book in
+    (nameOf a l ≡ lineOver r b (o .account) p) ⊎ (nameOf a l ≡ lineOver r (bookAfter one b (asEvent e)) (o .account) p) → ⊥))
     -- the limit is the one that N was judged by, the position is not past it, and no filling of what is open then puts it past
-    → (let b = stateAfter gate derivatives next keptN later .book in
+    → (let b = stateAfter gate next keptN later .book in
     (limit r (b .linesOf (o .account)) p w ≡ limit r (book .linesOf (o .account)) p w)
     × (position r (b .balanceOf (o .account)) p w ≤ℤ limit r (book .linesOf (o .account)) p w)
     × ((f : Filling (b .orders))
     → position r (balanceAfter one (o .account) (b .balanceOf (o .account)) f) p w ≤ℤ limit r (book .linesOf (o .account)) p w))))))
     -- "Answers are demand 2's": the same table, asked of the plain book, so that 5 is never the answer
-    × ((e : RawEvent) → answerTo now (e .bytes) ≡ answer derivatives r book (kept .trading) (asEvent e))
+    × ((e : RawEvent) → answerTo now (e .bytes) ≡ answer kept (asEvent e))
     × ((e : RawEvent) → answerTo now (e .bytes) ≢ 5)
     -- document 01: "Positions read after the list are those that the book gives"
     × ((a i : ℕ)
     → between 1 (r .accounts) a ≡ true
     → between 1 (r .instruments) i ≡ true
-    → (instrumentAnswer now a i ≡ 0) × (instrumentReport now a i ≡ instrumentIn r book a i))
+    → (instrumentAnswer now a i ≡ 0) × (instrumentReport now a i ≡ instrumentIn kept a i))
     × ((a g : ℕ)
     → between 1 (r .accounts) a ≡ true
     → between 1 (r .groups) g ≡ true
-    → (groupAnswer now a g ≡ 0) × (groupReport now a g ≡ groupIn r book a g)))
+    → (groupAnswer now a g ≡ 0) × (groupReport now a g ≡ groupIn kept a g)))
 
 -- ---- The run: desk_run answers many events in one call, as desk_event does one after the other.
 pub record Run : Type 0 where

@@ -18,9 +18,10 @@ use Rattle.limits.specs.Questions.{allPass}
 use Rattle.book.specs.declared.LimitLine.{LimitLine}
 use Rattle.book.specs.declared.Event.the-variants.{Limit}
 use Rattle.book.specs.Market.{derivatives}
-use Rattle.book.specs.Books.{Book, work}
+use Rattle.book.specs.Books.{Book, bookAfter}
 use Rattle.book.specs.Table.{entered, questionsBefore}
-use Rattle.book.specs.EventLists.{RawEvent, asEvent, State, begun, memoryAfter, stateAfter}
+use Rattle.book.specs.States.{State, begun}
+use Rattle.book.specs.EventLists.{RawEvent, asEvent, memoryAfter, stateAfter}
 use Rattle.book.specs.SetAgain.{nameOf, lineOver}
 use Rattle.book.specs.Written.{asBytes, written, writtenAll}
 use Rattle.opening.specs.Questions.{rosterFrom}
@@ -34,15 +35,13 @@ abbrev pub memoryAt : (m s : List ℕ) → List (List ℕ) → List ℕ
 memoryAt m s events = memoryAfter gate (afterOpening m s) (writtenAll events)
 
 abbrev pub stateAt : (m s : List ℕ) → List (List ℕ) → State
-stateAt m s events = stateAfter gate derivatives (afterOpening m s) begun (writtenAll events)
+stateAt m s events = stateAfter gate (afterOpening m s) (begun derivatives (rosterFrom s)) (writtenAll events)
 
 -- ---- N after events: an order o is entered, or raised to its new total, and every check before the position limits is passed
 pub record OrderAsked (m s : List ℕ) (events : List (List ℕ)) (n : List ℕ) (o : Order) : Type 0 where
   pub bytes : asBytes n ≡ n
   pub enters : entered (stateAt m s events .book) (asEvent (written n)) ≡ some o
-  pub passes :
-      allPass (questionsBefore derivatives (rosterFrom s) (stateAt m s events .book) (stateAt m s events .trading) (asEvent (written n)))
-      ≡ true
+  pub passes : allPass (questionsBefore (stateAt m s events) (asEvent (written n))) ≡ true
 
 -- some filling of book b's orders puts a position of o's account past its limit on a side to which o's fills move it
 abbrev pub SomeFillingPast : Roster → Book → Order → Type 0
@@ -58,7 +57,7 @@ pub record OrderRefused (m s : List ℕ) (events : List (List ℕ)) (n : List �
   pub asked : OrderAsked m s events n o
   pub answered : answerTo (memoryAt m s events) n ≡ number
   -- demand 3, from the answer
-  pub past : SomeFillingPast (rosterFrom s) (work one (stateAt m s events .book) (asEvent (written n))) o
+  pub past : SomeFillingPast (rosterFrom s) (bookAfter one (stateAt m s events .book) (asEvent (written n))) o
   -- demand 3, from a filling that is shown
   pub refused :
       (answerTo (memoryAt m s events) n ≡ 21)
@@ -76,8 +75,8 @@ NoneSetsAgain m s events later a p =
     → writtenAll later ≡ before ++ (e ∷ behind)
     → asEvent e ≡ Limit c l
     → answerTo (memoryAfter gate (memoryAt m s events) before) (e .bytes) ≡ 0
-    → (let b = stateAfter gate derivatives (memoryAt m s events) (stateAt m s events) before .book in
-    (nameOf c l ≡ lineOver (rosterFrom s) b a p) ⊎ (nameOf c l ≡ lineOver (rosterFrom s) (work one b (asEvent e)) a p) → ⊥)
+    → (let b = stateAfter gate (memoryAt m s events) (stateAt m s events) before .book in
+    (nameOf c l ≡ lineOver (rosterFrom s) b a p) ⊎ (nameOf c l ≡ lineOver (rosterFrom s) (bookAfter one b (asEvent e)) a p) → ⊥)
 
 -- N is accepted, and after later events the position p is not past the limit, `figure`, on side w
 pub record OrderAccepted (m s : List ℕ) (events : List (List ℕ)) (n : List ℕ) (o : Order) (p : Scope) (w : Way) (figure : ℤ)
