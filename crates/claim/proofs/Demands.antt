@@ -141,8 +141,9 @@ demand-3 m s bytes opens events =
           let now = memoryAfter gate (afterOpening m s) events in
           let keptN = keep kept (asEvent n) (answerTo now (n .bytes)) in
           let heldN = held-kept r kept (asEvent n) (answerTo now (n .bytes)) held in
-          let j = d .judged events n o (record { enters = enters; passes = passes }) in (
-            subst (λ (k : State). RefusedExactly k n o (answerTo now (n .bytes))) (by-name r kept held) (j .refused),
+          let j = d .judged events n o (record { enters = enters; passes = passes }) in
+          let refused = subst (λ (k : State). RefusedExactly k n o (answerTo now (n .bytes))) (by-name r kept held) (j .refused) in (
+            refused,
             λ zero p w moves later out.
                 let next = afterEvent now (n .bytes) in
                 let end = stateAfter gate next keptN later in

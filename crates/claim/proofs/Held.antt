@@ -83,7 +83,8 @@ module _ (r : Roster) where
             none before e behind (x .0) (x .1) cut (x .2) zero (x .3)),
       )
     where
-      sets : (before : List RawEvent) (e : RawEvent) → SetsAgain (stateAfter gate m k before) (asEvent e) a p ↔ OnTheLine (stateAfter gate m k before) (asEvent e) a p
+      sets : (before : List RawEvent) (e : RawEvent)
+          → SetsAgain (stateAfter gate m k before) (asEvent e) a p ↔ OnTheLine (stateAfter gate m k before) (asEvent e) a p
       sets before e = sets-on-the-line (stateAfter gate m k before) (held-after m k before held) (asEvent e) a p
 
 pub held-from-opening : (m s : List ℕ) (events : List RawEvent) → Held (rosterFrom s) (keptAfter m s events)

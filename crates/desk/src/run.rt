@@ -38,7 +38,8 @@ pub fn answer_next(m: &mut [u8], cells: &mut [u64; 1089], event: &[u8], sound: b
     if !sound {
         return 5;
     }
-    number_of(step(m, cells, decode(event)))
+    let answer = step(m, cells, decode(event));
+    number_of(answer)
 }
 
 // Answers the events, a byte for each, until they or the room for answers end. Returns how many.
