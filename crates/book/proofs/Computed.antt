@@ -34,7 +34,8 @@ unfolding
     number u8At u16At u64At i64At signedOf sumOver below remaining filledBy replacedTotal closes groupOfInstrument sideOf standsIn openOn
     ofInstrument groupPart sumGroup potential position fillMoves balanceAfter lineInForce limit firstNo allPass limitsSet sizeFits
     movesInstrument
-    movesGroup within positionQuestions derivatives one named fieldsFit wellFormed eventOf decode find insert change kept emptyBook unsets lineOf
+    movesGroup within positionQuestions derivatives one named fieldsFit wellFormed eventOf decode find insert change kept emptyBook unsets
+    lineOf
     groupLineOf setLine setBlock newOrder changed changedBalances bookAfter mark isEvent accountKnown itemKnown
     figuresFit notYetTrading idOpen quantityFits entered
     idFree placeFree questionsBefore limitQuestions answer keep memoryAfter stateAfter lineSet lineOver asBytes bytesOf figureBytes

@@ -115,7 +115,9 @@ module _ {D : Desk} (C : Contract D) where
   not-past k₀ a p w m k s =
       record {
         same = s .same;
-        stands = let u = upper-standing (k .market .unit) a (k .book .balanceOf a) (k .book .orders) (k .roster) p w in omega (signed, s .within);
+        stands =
+            let u = upper-standing (k .market .unit) a (k .book .balanceOf a) (k .book .orders) (k .roster) p w in
+            omega (signed, s .within);
         filled = λ f. let u = upper (k .market .unit) a (k .book .balanceOf a) f (k .roster) p w in omega (signed, s .within);
       }
 

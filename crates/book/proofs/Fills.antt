@@ -148,7 +148,8 @@ fills-behind (fill {o} {orders} n most f) front k sound whole =
           fills = then (o .id) (pos n) (accepted₁ h) (w .fills);
           balances =
               λ a i. w .balances a i
-              ∙ after-moved (k .market .unit) a (k .book .balanceOf a) (k₁ .book .balanceOf a) (λ j. fillMoves (k .market .unit) a j o n) f i
+              ∙ after-moved (k .market .unit) a (k .book .balanceOf a) (k₁ .book .balanceOf a) (λ j. fillMoves (k .market .unit) a j o n) f
+              i
               (change-balances k (o .id) o found (Fill (pos n)) a i);
           orders = w .orders ∙ append-assoc front (kept (filledBy o n)) (leaves f);
         }

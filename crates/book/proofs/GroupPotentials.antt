@@ -110,7 +110,8 @@ module _ (k : State) where
   new-group s a i id n w numbered moves =
       let K = r .weight i in
       let way : wayBy K w ≡ wayOf s = ap (wayBy K) (sym (moves .2)) ∙ weight-way K (wayOf s) in
-      group-moved (k .market .unit) r a (k .book .orders) (work k (New s a i id n) .book .orders) (k .book .balanceOf a) (k .book .balanceOf a) w i
+      group-moved (k .market .unit) r a (k .book .orders) (work k (New s a i id n) .book .orders) (k .book .balanceOf a)
+      (k .book .balanceOf a) w i
       numbered
       (λ j apart v. sym (new-unmoved k a (instrument j) v s a i id n (λ m. apart (sym (m .0)))))
       (pos (k .market .unit (newOrder s a i id n) * natAbs n))
@@ -127,7 +128,8 @@ module _ (k : State) where
     shifted-group : {m m′ : ℕ} {orders : List Order} → CountChanged (k .market .unit) o m m′ (k .book .orders) orders
         → Numbered (r .instruments) (o .instrument)
         → Moves r o (group (groupOfInstrument r (o .instrument))) w
-        → potential (k .market .unit) r orders (o .account) (k .book .balanceOf (o .account)) (group (groupOfInstrument r (o .instrument))) w
+        → potential (k .market .unit) r orders (o .account) (k .book .balanceOf (o .account)) (group (groupOfInstrument r (o .instrument)))
+        w
         ≡ ownSide k +ℤ pos (natAbs (r .weight (o .instrument))) *ℤ (counts m′ -ℤ counts m)
     unfolding potential
     shifted-group {m} {m′} {orders} shift numbered moves =
@@ -223,5 +225,6 @@ module _ (k : State) where
     unfolding potential
     fill-at-weight-0 w weightless =
         let a = o .account in
-        potential-same (k .market .unit) r a (filled .book .orders) (k .book .orders) (filled .book .balanceOf a) (k .book .balanceOf a) own w
+        potential-same (k .market .unit) r a (filled .book .orders) (k .book .orders) (filled .book .balanceOf a) (k .book .balanceOf a)
+        own w
         (λ j bears. sym (others j (λ e. bears .1 (ap (r .weight) e ∙ weightless)) (wayTo r own w j)))

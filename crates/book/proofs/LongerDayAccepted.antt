@@ -33,7 +33,8 @@ Stays n p w figure =
 
 module _ (n : List ℕ) (i id : ℕ) (s : Side) (total : ℕ) (p : Scope) (w : Way) where
   both : Meets longerRoster morning n (order id i s total) → answerTo longerRoster morning n ≡ 0
-      → Moves (stateOf longerRoster (writtenAll morning) .roster) (order id i s total) p w → noneAgain longerRoster morning n 1 p afternoon ≡ true
+      → Moves (stateOf longerRoster (writtenAll morning) .roster) (order id i s total) p w
+      → noneAgain longerRoster morning n 1 p afternoon ≡ true
       → Stays n p w (limitOf (stateOf longerRoster (writtenAll morning)) 1 p w)
   both j zero moves test = (
     promised longerRoster morning n longer-fits (order id i s total) j zero p w moves [] refl,

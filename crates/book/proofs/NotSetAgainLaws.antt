@@ -75,7 +75,9 @@ is-not-line x n test e = true≢false (sym (rw (e, same-as-itself n) at test))
 -- does an event with this answer leave the limit as it is
 abbrev leavesLimit : State → ℕ → Scope → Event → ℕ → Bool
 leavesLimit k a p e n =
-    not (eqb n 0) || (not (isLine (lineSet e) (lineOver (k .roster) (k .book) a p)) && not (isLine (lineSet e) (lineOver (k .roster) (work k e .book) a p)))
+    not (eqb n 0)
+    || (not (isLine (lineSet e) (lineOver (k .roster) (k .book) a p))
+    && not (isLine (lineSet e) (lineOver (k .roster) (work k e .book) a p)))
 
 leaves-limit : (k : State) (a : ℕ) (p : Scope) (e : Event) (n : ℕ) → leavesLimit k a p e n ≡ true → n ≡ 0
     → SetsAgain k e a p → ⊥

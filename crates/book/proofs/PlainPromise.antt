@@ -54,7 +54,8 @@ module _ (r : Roster) where
     -- some filling of the open orders and N puts a position that o's fills move past its limit
     abbrev pub Past : Order → Type 0
     Past o =
-        (p : Scope) × (w : Way) × Moves (stateBefore .roster) o p w × SomeFillingPasses (work stateBefore (asEvent (written n))) (o .account) p w
+        (p : Scope) × (w : Way) × Moves (stateBefore .roster) o p w
+        × SomeFillingPasses (work stateBefore (asEvent (written n))) (o .account) p w
 
     -- from the answer a filling, and from a filling the answer
     pub both-ways : RosterFits r → (o : Order) → Meets o → Refused → Past o → Past o × Refused

@@ -74,7 +74,8 @@ default-keeps-own : (k : State) (e : Event) (a c i : ℕ) → lineSet e ≡ some
 unfolding bookAfter lineSet setLine
 default-keeps-own k (Limit d (Own j f)) a c i e = absurd (let z : _≡_ {A = ℕ} 0 1 = cc in omega arith)
 default-keeps-own k (Limit d (Default j f)) a c i e =
-    at-each d (setLine (Default j f) (k .book .linesOf d)) (k .book .linesOf) (λ ls. ls .ownOf i ≡ k .book .linesOf a .ownOf i) a (λ own. rw own) (λ _. refl)
+    at-each d (setLine (Default j f) (k .book .linesOf d)) (k .book .linesOf) (λ ls. ls .ownOf i ≡ k .book .linesOf a .ownOf i) a
+    (λ own. rw own) (λ _. refl)
 default-keeps-own k (Limit d (OfGroup g x y)) a c i e = absurd (let z : _≡_ {A = ℕ} 0 1 = cc in omega arith)
 default-keeps-own k (Balance d j z) a c i e = refl
 default-keeps-own k (Block what z) a c i e = refl
@@ -86,7 +87,8 @@ module _ (k : State) (e : Event) (a : ℕ) where
   -- an instrument's limit is set again by a LIMIT on its own line where that is set before or after it, or on its contract's default
   -- line where its own is not set
   pub instrument-set-again : (i : ℕ) → SetsAgain k e a (instrument i)
-      ↔ (((lineSet e ≡ some (ownLine a i)) × ((isSet (k .book .linesOf a .ownOf i) ≡ true) ⊎ (isSet (work k e .book .linesOf a .ownOf i) ≡ true)))
+      ↔ (((lineSet e ≡ some (ownLine a i)) × ((isSet (k .book .linesOf a .ownOf i) ≡ true)
+      ⊎ (isSet (work k e .book .linesOf a .ownOf i) ≡ true)))
       ⊎ ((lineSet e ≡ some (defaultLine a (k .roster .contractOf i))) × (isSet (k .book .linesOf a .ownOf i) ≡ false)))
   instrument-set-again i = (⊎-elim before after, ⊎-elim own-back default-back)
     where
@@ -114,7 +116,8 @@ module _ (k : State) (e : Event) (a : ℕ) where
           × ((isSet (k .book .linesOf a .ownOf i) ≡ true) ⊎ (isSet (work k e .book .linesOf a .ownOf i) ≡ true))
           → SetsAgain k e a (instrument i)
       own-back h =
-          ⊎-elim (λ set. inl (h .0 ∙ ap some (sym (under-own (k .roster) (k .book) a i set)))) (λ set. inr (h .0 ∙ ap some (sym (under-own (k .roster) (work k e .book) a i set))))
+          ⊎-elim (λ set. inl (h .0 ∙ ap some (sym (under-own (k .roster) (k .book) a i set))))
+          (λ set. inr (h .0 ∙ ap some (sym (under-own (k .roster) (work k e .book) a i set))))
           (h .1)
 
       default-back : (lineSet e ≡ some (defaultLine a (k .roster .contractOf i))) × (isSet (k .book .linesOf a .ownOf i) ≡ false)

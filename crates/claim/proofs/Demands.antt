@@ -147,7 +147,8 @@ demand-3 m s bytes opens events =
             λ zero p w moves later out.
                 let next = afterEvent now (n .bytes) in
                 let end = stateAfter gate next keptN later in
-                let so = j .accepted zero p w (rw (held .1) moves) later (none-on-the-line r next keptN heldN (o .account) p later .1 out) in
+                let unset = none-on-the-line r next keptN heldN (o .account) p later .1 out in
+                let so = j .accepted zero p w (rw (held .1) moves) later unset in
                 let named =
                 subst (λ (k : State). NotPast k (named r end) (o .account) p w) (by-name r kept held)
                 (subst (λ (k : State). NotPast kept k (o .account) p w) (by-name r end (held-after r next keptN later heldN)) so) in

@@ -114,7 +114,8 @@ module _ (m s : List ℕ) (bytes : Bytes m) (opens : openingAnswer m s ≡ 0) wh
 
     state-next : stateAt m s (events ++ (n ∷ [])) ≡ stateNext
     state-next =
-        rw (written-joined events (n ∷ [])) (state-of-more gate (afterOpening m s) (begun derivatives (rosterFrom s)) (writtenAll events) (written n))
+        rw (written-joined events (n ∷ [])) (state-of-more gate (afterOpening m s) (begun derivatives (rosterFrom s)) (writtenAll events)
+        (written n))
 
     state-later : (later : List (List ℕ)) → stateAt m s (events ++ (n ∷ later)) ≡ stateAfter gate next stateNext
         (writtenAll later)
@@ -166,7 +167,8 @@ module _ (m s : List ℕ) (bytes : Bytes m) (opens : openingAnswer m s ≡ 0) wh
           (plainState s (events ++ (n ∷ later)) .book .balanceOf (o .account)) f) p w)
           → LimitSetAgain m s events n o p w figure later
       limit-set-again before e behind c l cut limits computed under shown =
-          let there = plainly-after (afterOpening m s) (begun derivatives (rosterFrom s)) (plainly m s bytes opens) (writtenAll (events ++ (n ∷ []))) in
+          let there = plainly-after (afterOpening m s) (begun derivatives (rosterFrom s)) (plainly m s bytes opens)
+          (writtenAll (events ++ (n ∷ []))) in
           let kept-is : stateAfter gate (memoryAt m s (events ++ (n ∷ []))) (stateAt m s (events ++ (n ∷ []))) before ≡ endOf
           (plainState s (events ++ (n ∷ []))) (asEvents before) =
           state-plainly _ _ there before

@@ -55,7 +55,9 @@ module _ (m : List ℕ) (bytes : Bytes m) (opens : openingAnswer m longerRoster 
   all-of-it =
       record {
         opens = opens;
-        answers = answers-plainly (afterOpening m longerRoster) (begun derivatives (rosterFrom longerRoster)) (plainly m longerRoster bytes opens) day;
+        answers =
+            answers-plainly (afterOpening m longerRoster) (begun derivatives (rosterFrom longerRoster))
+            (plainly m longerRoster bytes opens) day;
         -- 21: all 50 of order 7 and the 53 of N put instrument 1 at 101, past 100
         too-long =
             refused bytes opens (refl, refl, refl) refl (inl refl) (instrument 1) long (refl, refl)

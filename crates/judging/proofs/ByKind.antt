@@ -75,7 +75,8 @@ module _ (m : List ℕ) where
   balance-answer a i b x y z t d e f g = by-kind (Balance a i b) ∙ rw (d, e, f, g)
 
   pub block-answer : (what : Blocked) (on : ℤ) (x y z : Bool)
-      → whereSome (between 1 (rosterOf m .accounts)) (blockedAccount what) ≡ x → whereSome (isListed (rosterOf m)) (blockedItem what) ≡ y → betweenℤ (pos 0) (pos 1) on ≡ z
+      → whereSome (between 1 (rosterOf m .accounts)) (blockedAccount what) ≡ x → whereSome (isListed (rosterOf m)) (blockedItem what) ≡ y
+      → betweenℤ (pos 0) (pos 1) on ≡ z
       → judged m (Block what on) ≡ cond x (cond y (cond z 0 9) 8) 7
   block-answer what on x y z d e f = by-kind (Block what on) ∙ rw (d, e, f)
 

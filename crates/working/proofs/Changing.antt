@@ -105,7 +105,8 @@ change-is {m} {id} {p} {c} ready =
     ap (λ x. Change x c) (sym (ap (λ x. x .id) (ready .named .1) ∙ named-id m id p (ready .named .0)))
 
 -- ---- REPLACE, CANCEL and FILL: the order found becomes another, or leaves
-module _ (m : List ℕ) (id : ℕ) {p : ℕ} {o : Order} (at : placeFrom 0 id (openOrders m) ≡ At p) (loaded : o ≡ orderIn m p) (c : OrderChange) where
+module _ (m : List ℕ) (id : ℕ) {p : ℕ} {o : Order} (at : placeFrom 0 id (openOrders m) ≡ At p) (loaded : o ≡ orderIn m p)
+    (c : OrderChange) where
   pub becomes : (y : Order) → changed c o ≡ y ∷ [] → storeFrom m (firstOf m) (set (openOrders m) p y) ≡ recordsChanged m id c o
   becomes y new =
       rw new
@@ -147,7 +148,8 @@ module _ {m : List ℕ} {o : Order} {p n : ℕ} (ready : Ready m (Change (o .id)
   pub replaced : (x : List ℕ) → x ≡ storeFrom m (firstOf m) (set (openOrders m) p y) → x ≡ worked m (Change (o .id) (Replace (pos n)))
   unfolding changed
   replaced x stored =
-      stored ∙ becomes m (o .id) (ready .named .0) (ready .named .1) (Replace (pos n)) y (ap (λ z. z ∷ []) (sym made)) ∙ sym (changed-memory ready)
+      stored ∙ becomes m (o .id) (ready .named .0) (ready .named .1) (Replace (pos n)) y (ap (λ z. z ∷ []) (sym made))
+      ∙ sym (changed-memory ready)
 
 -- ---- CANCEL
 pub cancelled : {m : List ℕ} {o : Order} {p : ℕ} → Ready m (Change (o .id) Cancel) p o → (x : List ℕ)
@@ -178,7 +180,8 @@ module _ {m : List ℕ} {p : ℕ} {o : Order} {n : ℕ} (bytes : Bytes m) (stand
   pub filled-leaves : r ≡ 0 → storeFrom m (leftFirst m p) (without p (openOrders m)) ≡ recordsChanged m (o .id) (Fill (pos n)) o
   unfolding changed
   filled-leaves none-left =
-      leaves m (o .id) (stands .found) (stands .loaded) (Fill (pos n)) (kept-none (filledBy o n) (sym (ap remaining made) ∙ sym read ∙ none-left))
+      leaves m (o .id) (stands .found) (stands .loaded) (Fill (pos n))
+      (kept-none (filledBy o n) (sym (ap remaining made) ∙ sym read ∙ none-left))
 
   pub filled-stays : r ≢ 0 → storeFrom m (firstOf m) (set (openOrders m) p next) ≡ recordsChanged m (o .id) (Fill (pos n)) o
   unfolding changed

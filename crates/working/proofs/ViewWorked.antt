@@ -117,7 +117,8 @@ module _ (m : List ℕ) (bytes : Bytes m) (held : SoundMemory m) where
       → view (recordsChanged m id c o) ≡ withOrders (change id (changed c) (openOrders m))
   unfolding bookAfter bookOf
   records-shown id c o passes =
-      orders-shown (records-first id c o) (after-small m (held .first) (placeFrom 0 id (openOrders m)) (changed c o)) (Change id c) tt passes
+      orders-shown (records-first id c o) (after-small m (held .first) (placeFrom 0 id (openOrders m)) (changed c o)) (Change id c) tt
+      passes
 
   fill-shown : (id : ℕ) (n : ℤ) (o : Order) → OrderFits (rosterOf m) o → judged m (Change id (Fill n)) ≡ 0 → Numbered 1000000 (natAbs n)
       → view (orderChanged m id (Fill n) (some o)) ≡ stateOf (rosterOf m) (filledBalances (derivatives .unit) (some o) (natAbs n)

@@ -1,5 +1,5 @@
--- Cells, balances, roster and group line are parts of the memory that say what its view says (`by-parts`), so the answer by the parts is that of
--- questions 21 to 24; a sound desk keeps all within the bounds that are asked for.
+-- Cells, balances, roster and group line are parts of the memory that say what its view says (`by-parts`), so the answer by the parts is
+-- that of questions 21 to 24; a sound desk keeps all within the bounds that are asked for.
 use borrow.Author.Needs.{needs}
 use Rattle.ledger.specs.Roster.{groupOfInstrument}
 use Rattle.layout.specs.View.{rosterOf, linesOf}
@@ -37,5 +37,6 @@ returns c after raised =
 
 pub positions-of-spec : {M : Type 1} → statement M
 positions-of-spec =
-    tie.close (tie.spec (λ c κs. search needs) (λ c κs. search needs) (λ c κs. search needs) (λ c κs. search needs) positions-within-requires
+    tie.close (tie.spec (λ c κs. search needs) (λ c κs. search needs) (λ c κs. search needs) (λ c κs. search needs)
+    positions-within-requires
     returns)

@@ -31,7 +31,9 @@ entering c =
     is ∙ new-is (ready-as is (c .before .before .before .before .before .pre .0))
 
 -- a change is one of the order that the judge hands on
-changing : (c : tie.After-known-told5) → let a = c .before .before .before .before .before .args in a .e ≡ Change (a .o .id) (c .before .e5 .given .0 .1 .0)
+changing : (c : tie.After-known-told5)
+    → let a = c .before .before .before .before .before .args in
+    a .e ≡ Change (a .o .id) (c .before .e5 .given .0 .1 .0)
 changing c =
     let is = c .before .e5 .given .1 in
     is ∙ change-is (ready-as is (c .before .before .before .before .before .pre .0))
@@ -100,8 +102,10 @@ returns-6 c = (rw (c .enum-told .given .1), c .before .before .before .before .p
 
 pub work-spec : {M : Type 1} → statement M
 work-spec =
-    tie.close (tie.spec (λ c. search needs) (λ c κs. accepted-as (c .before .before .e .given .1) (c .before .before .before .before .before .before .pre .0)) (λ c. search needs)
+    tie.close (tie.spec (λ c. search needs) (λ c κs. accepted-as (c .before .before .e .given .1)
+    (c .before .before .before .before .before .before .pre .0)) (λ c. search needs)
     (λ c κs. accepted-as (balance (c .before)) (c .before .before .before .before .before .before .pre .0)) (λ c. search needs)
-    (λ c κs. accepted-as (block (c .before)) (c .before .before .before .before .before .before .pre .0)) (λ c. search needs) enter-requires (λ c. search needs)
+    (λ c κs. accepted-as (block (c .before)) (c .before .before .before .before .before .before .pre .0)) (λ c. search needs)
+    enter-requires (λ c. search needs)
     change-order-requires (λ c. search needs) (λ c. search needs) returns (λ c. search needs) returns-2 (λ c. search needs) returns-3
     (λ c. search needs) (λ c. search needs) returns-4 (λ c. search needs) (λ c. search needs) returns-5 returns-6)

@@ -20,7 +20,9 @@ use Rattle.judging.proofs.changes.judge_change.Tie as tie
 whole : (c : tie.Else1) → changeInRange (c .before .before .before .before .args .change) ≡ true
 whole c = answered-yes _ _ (c .before .change-in-range .ensures) (c .if1 .left)
 
-found : (c : tie.After-p) → let a = c .before .before .before .before .before .before .before .args in placeFrom 0 (a .id) (openOrders (a .m .now)) ≡ At (c .p .given .0 .0)
+found : (c : tie.After-p)
+    → let a = c .before .before .before .before .before .before .before .args in
+    placeFrom 0 (a .id) (openOrders (a .m .now)) ≡ At (c .p .given .0 .0)
 found c = sym (c .before .before .find-order .ensures) ∙ c .p .given .1
 
 returns : tie.Need-returns

@@ -8,7 +8,8 @@ use Rattle.judging.proofs.ranges.change_in_range.Tie as tie
 
 returns : tie.Need-returns
 returns c =
-    test-handed-on isQuantity {z = c .before .before .change .given .0 .0} (record { sfits = c .before .known-told .given .0 .1 }) (c .is-quantity .ensures)
+    test-handed-on isQuantity {z = c .before .before .change .given .0 .0}
+    (record { sfits = c .before .known-told .given .0 .1 }) (c .is-quantity .ensures)
     ∙ sym (ap changeInRange (c .before .before .change .given .1))
 
 returns-2 : tie.Need-returns-2
@@ -16,7 +17,8 @@ returns-2 c = sym (ap changeInRange (c .enum-told .given .1))
 
 returns-3 : tie.Need-returns-3
 returns-3 c =
-    test-handed-on isQuantity {z = c .before .before .change2 .given .0 .0} (record { sfits = c .before .known-told2 .given .0 .1 }) (c .is-quantity2 .ensures)
+    test-handed-on isQuantity {z = c .before .before .change2 .given .0 .0}
+    (record { sfits = c .before .known-told2 .given .0 .1 }) (c .is-quantity2 .ensures)
     ∙ sym (ap changeInRange (c .before .before .change2 .given .1))
 
 pub change-in-range-spec : {M : Type 1} → statement M

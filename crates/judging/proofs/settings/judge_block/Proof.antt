@@ -16,7 +16,9 @@ use Rattle.judging.proofs.ByKind.{block-answer}
 use Rattle.judging.proofs.settings.judge_block.Statement.{statement}
 use Rattle.judging.proofs.settings.judge_block.Tie as tie
 
-known : (c : tie.Else1) → let a = c .before .before .before .args in whereSome (between 1 (rosterOf (a .m .now) .accounts)) (blockedAccount (a .what)) ≡ true
+known : (c : tie.Else1)
+    → let a = c .before .before .before .args in
+    whereSome (between 1 (rosterOf (a .m .now) .accounts)) (blockedAccount (a .what)) ≡ true
 known c = answered-yes _ _ (c .before .blocked-account-known .ensures) (c .if1 .left)
 
 listed : (c : tie.Else2) → let a = c .before .before .before .before .before .args in

@@ -37,7 +37,12 @@ balance-after-requires c κs =
     (small .0, rw (c .of .ensures) (small .1))
 
 set-balance-requires : tie.Need-set-balance-requires
-set-balance-requires c κs = omega (arith, fill-room (c .before .before .before .before .before .before .before .before .before .before .before .before .before .before .before .before .before .pre .0))
+set-balance-requires c κs =
+    omega (
+      arith,
+      fill-room (c .before .before .before .before .before .before .before .before .before .before .before .before .before
+          .before .before .before .before .pre .0),
+    )
 
 returns : tie.Need-returns
 returns c =
@@ -46,7 +51,8 @@ returns c =
     let counted = read .before .before .before .before in
     let start = counted .before .before .before .before .before in
     let stored = fill-worked (start .pre .0) (record { sfits = read .balance .ok }) (read .balance .ensures)
-    (c .before .before .before .before .before .before .before .before .before .fill-record .ensures) (rw (after .before .of .ensures) at (after .balance-after .ensures))
+    (c .before .before .before .before .before .before .before .before .before .fill-record .ensures)
+    (rw (after .before .of .ensures) at (after .balance-after .ensures))
     (c .before .before .set-balance .ensures) in (
       stored,
       rw stored
@@ -56,5 +62,6 @@ returns c =
 
 pub fill-spec : {M : Type 1} → statement M
 fill-spec =
-    tie.close (tie.spec (λ c κs. search needs) sub-recount recount-requires balance-requires fill-record-requires of-requires balance-after-requires set-balance-requires (λ c. search needs)
+    tie.close (tie.spec (λ c κs. search needs) sub-recount recount-requires balance-requires fill-record-requires of-requires
+    balance-after-requires set-balance-requires (λ c. search needs)
     (λ c. search needs) returns)

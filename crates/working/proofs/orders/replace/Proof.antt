@@ -17,7 +17,9 @@ recount-requires c κs =
     (change-sums (λ i. made .before .before .slice-known .given i .fits) (start .pre .0)))
 
 replace-order-requires : tie.Need-replace-order-requires
-replace-order-requires c κs = replaced-storable (c .before .before .before .before .before .before .before .before .before .before .pre .0) (c .before .before .before .before .before .before .before .replaced-total .ensures)
+replace-order-requires c κs =
+    replaced-storable (c .before .before .before .before .before .before .before .before .before .before .pre .0)
+    (c .before .before .before .before .before .before .before .replaced-total .ensures)
 
 returns : tie.Need-returns
 unfolding remaining replacedTotal
