@@ -14,10 +14,6 @@ use Rattle.book.proofs.SoundSteps.{sound-empty}
 use Rattle.book.proofs.Runs.{keep-accepted, keep-refused, holds-after}
 use Rattle.book.proofs.Demand3Proof.{demand3}
 
--- what is kept at an opening is sound
-pub sound-begun : (mk : Market) (r : Roster) → RosterFits r → Sound (begun mk r)
-sound-begun mk r fits = sound-empty mk r fits
-
 abbrev plainAnswer : State → RawEvent → ℕ
 plainAnswer k e = answer k (asEvent e)
 
@@ -36,10 +32,10 @@ plain-meets =
 module _ (mk : Market) (r : Roster) (fits : RosterFits r) where
   pub plain-demand3 : Demand3At plain (begun mk r) (begun mk r)
   unfolding plain-meets
-  plain-demand3 = demand3 plain-meets (begun mk r) (begun mk r) refl (sound-begun mk r fits)
+  plain-demand3 = demand3 plain-meets (begun mk r) (begun mk r) refl (sound-empty mk r fits)
 
   -- and after every list of events what it keeps is sound
   pub plain-sound : (es : List RawEvent) → Sound (stateAfter plain (begun mk r) (begun mk r) es)
   unfolding plain-meets
   plain-sound es =
-      holds-after plain-meets (begun mk r) (begun mk r) es (record { shown = refl; sound = sound-begun mk r fits }) .sound
+      holds-after plain-meets (begun mk r) (begun mk r) es (record { shown = refl; sound = sound-empty mk r fits }) .sound

@@ -1,4 +1,4 @@
--- A list of events at a desk, and the plain book kept from the events and their answers alone.
+-- A list of events at a desk, and what is kept from the events and their answers alone.
 use Prim.Native.Nat.{ℕ}
 use mathlib.Core.Bool.{cond}
 use mathlib.Core.List.{List, [], _∷_}

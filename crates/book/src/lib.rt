@@ -1,4 +1,4 @@
-// Events and answers as plain data. The crate's definitions and laws are in specs/ and proofs/.
+// Events as plain data. The crate's definitions and laws are in specs/ and proofs/.
 ghost use mathlib.Core.Path.{_≡_};
 ghost use Rattle.book.specs.Books.{isMinusOne, unsets};
 use ledger::order::Side;

@@ -149,10 +149,10 @@ demand-3 m s bytes opens events =
                 let end = stateAfter gate next keptN later in
                 let unset = none-on-the-line r next keptN heldN (o .account) p later .1 out in
                 let so = j .accepted zero p w (rw (held .1) moves) later unset in
-                let named =
+                let past =
                 subst (λ (k : State). NotPast k (named r end) (o .account) p w) (by-name r kept held)
                 (subst (λ (k : State). NotPast kept k (o .account) p w) (by-name r end (held-after r next keptN later heldN)) so) in
-                (named .same, named .stands, named .filled),
+                (past .same, past .stands, past .filled),
           ),
       d .answered events,
       d .never-5 events,

@@ -3,7 +3,7 @@
 use Prim.Native.Nat.{ℕ}
 use mathlib.Core.Path.{_≡_, refl, sym, _∙_, subst}
 use mathlib.Core.Logic.{_⊎_, inl, inr, ⊎-elim, _↔_}
-use mathlib.Core.List.{List, _∷_, _++_}
+use mathlib.Core.List.{List}
 use Rattle.ledger.specs.Derivatives.{one}
 use Rattle.ledger.specs.Positions.{Scope}
 use Rattle.ledger.specs.Roster.{Roster}
@@ -13,7 +13,7 @@ use Rattle.book.specs.declared.Event.the-variants.{Limit}
 use Rattle.book.specs.Market.{derivatives}
 use Rattle.book.specs.Books.{bookAfter}
 use Rattle.book.specs.States.{State, begun}
-use Rattle.book.specs.EventLists.{RawEvent, asEvent, keep, memoryAfter, stateAfter}
+use Rattle.book.specs.EventLists.{RawEvent, asEvent, keep, stateAfter}
 use Rattle.book.specs.SetAgain.{nameOf, lineOver, SetsAgain}
 use Rattle.book.specs.Demand3.{NotSetAgain}
 use Rattle.book.proofs.StateLaws.{market-kept, market-after, roster-kept, roster-after}
@@ -21,8 +21,8 @@ use Rattle.book.proofs.SetAgainLaws.{set-by-that-limit}
 use Rattle.book.proofs.NotSetAgainLaws.{not-set-again-iff}
 use Rattle.opening.specs.Questions.{rosterFrom}
 use Rattle.opening.specs.Opening.{afterOpening}
-use Rattle.desk.specs.Step.{answerTo}
 use Rattle.desk.specs.Demands.{gate, keptAfter}
+use Rattle.claim.specs.Examples.{NoneOnTheLine}
 
 module _ (r : Roster) where
   abbrev pub Held : State → Type 0
@@ -63,18 +63,9 @@ module _ (r : Roster) where
         (h .3)),
   )
 
-  -- no accepted LIMIT of the list is on that line
-  abbrev pub NoneOnTheLine : List ℕ → State → ℕ → Scope → List RawEvent → Type 0
-  NoneOnTheLine m k a p es =
-      (before : List RawEvent) (e : RawEvent) (behind : List RawEvent) (c : ℕ) (l : LimitLine)
-      → es ≡ before ++ (e ∷ behind)
-      → asEvent e ≡ Limit c l
-      → answerTo (memoryAfter gate m before) (e .bytes) ≡ 0
-      → (let b = stateAfter gate m k before .book in
-      (nameOf c l ≡ lineOver r b a p) ⊎ (nameOf c l ≡ lineOver r (bookAfter one b (asEvent e)) a p) → ⊥)
-
+  -- so no accepted LIMIT of a list is on that line
   pub none-on-the-line : (m : List ℕ) (k : State) → Held k → (a : ℕ) (p : Scope) (es : List RawEvent)
-      → NotSetAgain gate m k a p es ↔ NoneOnTheLine m k a p es
+      → NotSetAgain gate m k a p es ↔ NoneOnTheLine r m k a p es
   none-on-the-line m k held a p es =
       let same = not-set-again-iff gate a p m k es in (
         λ out before e behind c l cut limits zero under. same .0 out before e behind cut zero (sets before e .1 (c, l, limits, under)),

@@ -20,7 +20,8 @@ use Rattle.opening.specs.Opening.{afterOpening}
 use Rattle.desk.specs.Step.{answerTo, afterEvent}
 use Rattle.desk.specs.Days.{answersOver}
 use Rattle.desk.specs.Demands.{gate}
-use Rattle.claim.proofs.Held.{Held, NoneOnTheLine, none-on-the-line}
+use Rattle.claim.specs.Examples.{NoneOnTheLine}
+use Rattle.claim.proofs.Held.{Held, none-on-the-line}
 use Rattle.claim.proofs.Demands.{demand-3}
 
 abbrev pub asEvents : List RawEvent → List Event

@@ -124,7 +124,8 @@ Demand3 =
     → openingAnswer m s ≡ 0
     → (events : List RawEvent)
     → (let r = rosterFrom s in
-    -- each event gets the memory as the one before left it; the plain book is kept from the roster, the events and their answers
+    -- each event gets the memory as the one before left it; the plain book is kept from the roster, the events and their answers. What is
+    -- kept holds the market and the roster that it began with (`market-after` and `roster-after` in crates/book/proofs/StateLaws.antt)
     let now = memoryAfter gate (afterOpening m s) events in
     let kept = stateAfter gate (afterOpening m s) (begun derivatives r) events in
     let book = kept .book in

@@ -68,15 +68,19 @@ pub record OrderRefused (m s : List ℕ) (events : List (List ℕ)) (n : List �
   -- demand 1
   pub unchanged : afterEvent (memoryAt m s events) n ≡ memoryAt m s events
 
--- no accepted LIMIT of the later events is on the line that the position of account a is under before it or after it
-abbrev pub NoneSetsAgain : (m s : List ℕ) (events later : List (List ℕ)) (a : ℕ) (p : Scope) → Type 0
-NoneSetsAgain m s events later a p =
+-- from memory m on, of which k is kept: no accepted LIMIT of the events is on the line that the position of account a is under before it
+-- or after it
+abbrev pub NoneOnTheLine : Roster → List ℕ → State → ℕ → Scope → List RawEvent → Type 0
+NoneOnTheLine r m k a p events =
     (before : List RawEvent) (e : RawEvent) (behind : List RawEvent) (c : ℕ) (l : LimitLine)
-    → writtenAll later ≡ before ++ (e ∷ behind)
+    → events ≡ before ++ (e ∷ behind)
     → asEvent e ≡ Limit c l
-    → answerTo (memoryAfter gate (memoryAt m s events) before) (e .bytes) ≡ 0
-    → (let b = stateAfter gate (memoryAt m s events) (stateAt m s events) before .book in
-    (nameOf c l ≡ lineOver (rosterFrom s) b a p) ⊎ (nameOf c l ≡ lineOver (rosterFrom s) (bookAfter one b (asEvent e)) a p) → ⊥)
+    → answerTo (memoryAfter gate m before) (e .bytes) ≡ 0
+    → (let b = stateAfter gate m k before .book in
+    (nameOf c l ≡ lineOver r b a p) ⊎ (nameOf c l ≡ lineOver r (bookAfter one b (asEvent e)) a p) → ⊥)
+
+abbrev pub NoneSetsAgain : (m s : List ℕ) (events later : List (List ℕ)) (a : ℕ) (p : Scope) → Type 0
+NoneSetsAgain m s events later a p = NoneOnTheLine (rosterFrom s) (memoryAt m s events) (stateAt m s events) a p (writtenAll later)
 
 -- N is accepted, and after later events the position p is not past the limit, `figure`, on side w
 pub record OrderAccepted (m s : List ℕ) (events : List (List ℕ)) (n : List ℕ) (o : Order) (p : Scope) (w : Way) (figure : ℤ)

@@ -12,7 +12,7 @@ use Rattle.limits.proofs.Answers.{both-true, and-true, passed, zero-pass}
 use Rattle.book.specs.Market.{derivatives}
 use Rattle.book.specs.Sound.{RosterFits, LineFits, GroupLineFits}
 use Rattle.book.specs.States.{begun}
-use Rattle.book.proofs.Plain.{sound-begun}
+use Rattle.book.proofs.SoundSteps.{sound-empty}
 use Rattle.layout.specs.Layout.{ownRow, defaultRow, groupRow}
 use Rattle.layout.specs.Rosters.{sizesFit, namesFit, weightsFit}
 use Rattle.layout.specs.View.{view}
@@ -74,7 +74,7 @@ module _ (m s : List ℕ) (zero : openingAnswer m s ≡ 0) where
         kind = kind-opened m s ok;
         first = omega (arith, blank-opened m s ok 113 (omega arith) (omega arith));
         figures = figures;
-        book = rw (view-opened m s ok) (sound-begun derivatives (rosterFrom s) fits);
+        book = rw (view-opened m s ok) (sound-empty derivatives (rosterFrom s) fits);
       })
 
   pub view-after : view (afterOpening m s) ≡ begun derivatives (rosterFrom s)

@@ -1,5 +1,5 @@
 -- The three demands, as types over the definitions that the exported functions' contracts cite: openingAnswer and afterOpening,
--- answerTo and after, instrumentAnswer, groupAnswer and what they report. Bytes are numbers, a memory and an event any list of them.
+-- answerTo and afterEvent, instrumentAnswer, groupAnswer and what they report. Bytes are numbers, a memory and an event any list of them.
 use Prim.Native.Nat.{ℕ, _≤_}
 use mathlib.Core.Path.{_≡_}
 use mathlib.Core.Logic.{_⊎_, _↔_, _≢_}
@@ -102,6 +102,7 @@ gate = record { Memory = List ℕ; answerTo = λ m e. answerTo m (e .bytes); nex
 abbrev pub keptAfter : List ℕ → List ℕ → List RawEvent → State
 keptAfter m s events = stateAfter gate (afterOpening m s) (begun derivatives (rosterFrom s)) events
 
+-- from an accepted opening of memory m with roster s
 pub record Demand3From (m s : List ℕ) : Type 0 where
   -- over every list of events and every N: see Demand3At in crates/book/specs/Demand3.antt, sentence by sentence
   pub judged : Demand3At gate (afterOpening m s) (begun derivatives (rosterFrom s))

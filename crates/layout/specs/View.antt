@@ -1,4 +1,4 @@
--- What a memory means: the roster, the plain book and the trading marks that it holds.
+-- What a memory means: the state that it holds, of the derivatives market.
 use Prim.Native.Nat.{ℕ, _+_, _*_}
 use mathlib.Core.Bool.{Bool, false, not, _&&_, cond}
 use mathlib.Core.List.{List}

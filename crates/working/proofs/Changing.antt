@@ -64,9 +64,6 @@ named-found m id p = found-there _ id (wordAt m countWord) 0 p
 pub at-place : (m : List ℕ) (id p : ℕ) → Records m → placeFrom 0 id (openOrders m) ≡ At p → Records m × (p < wordAt m countWord)
 at-place m id p r found = (r, named-inside m id p found)
 
-pub loadable : (m : List ℕ) (id p : ℕ) → Records m → placeFrom 0 id (openOrders m) ≡ At p → Records m × (p < 256)
-loadable m id p r found = let inside = named-inside m id p found in (r, omega (arith, r .count))
-
 -- ---- NEW
 module _ {m : List ℕ} {o : Order} {p : ℕ} (ready : Ready m (newOf o) p o) where
   new-facts : AcceptedFacts m (newOf o)

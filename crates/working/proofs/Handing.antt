@@ -26,7 +26,7 @@ accepted-as {m} {e} same ready =
 pub ready-as : {m : List ℕ} {e e′ : Event} {p : ℕ} {o : Order} → e ≡ e′ → Ready m e p o → Ready m e′ p o
 ready-as same ready = rw same at ready
 
--- the memory that it leaves, and the sums, which such an event leaves as they are
+-- the memory that it leaves
 pub done-as : (m : List ℕ) {e e′ : Event} {x : List ℕ} → e ≡ e′ → x ≡ worked m e′ → x ≡ worked m e
 done-as m same stored = rw same stored
 

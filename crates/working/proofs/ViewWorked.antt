@@ -1,4 +1,4 @@
--- The view of a memory after an accepted event is the book's work and mark of the view before it.
+-- The view of a memory after an accepted event is the view before it, worked.
 use Prim.Native.Nat.{ℕ, _^_, _≤_, _<_}
 use mathlib.Core.Path.{_≡_, refl, _∙_, sym, ap, fun-ext}
 use mathlib.Core.Bool.{true, cond}
