@@ -40,22 +40,22 @@ pub state-at-an-acceptance : (k : State) (e : Event) → keep k e 0 ≡ work k e
 unfolding keep
 state-at-an-acceptance k e = refl
 
--- market and roster stay
-pub market-kept : (k : State) (e : Event) (n : ℕ) → keep k e n .market ≡ k .market
+-- what no accepted event changes is kept
+kept-alike : {A : Type 0} (part : State → A) → ((k : State) (e : Event) → part (work k e) ≡ part k)
+    → (k : State) (e : Event) (n : ℕ) → part (keep k e n) ≡ part k
 unfolding keep
-market-kept k e n = by (eqb n 0)
+kept-alike part same k e n = by (eqb n 0)
   where
-    by : (t : Bool) → cond t (work k e) k .market ≡ k .market
-    by true = refl
+    by : (t : Bool) → part (cond t (work k e) k) ≡ part k
+    by true = same k e
     by false = refl
 
+-- market and roster stay
+pub market-kept : (k : State) (e : Event) (n : ℕ) → keep k e n .market ≡ k .market
+market-kept = kept-alike (λ k. k .market) (λ k e. refl)
+
 pub roster-kept : (k : State) (e : Event) (n : ℕ) → keep k e n .roster ≡ k .roster
-unfolding keep
-roster-kept k e n = by (eqb n 0)
-  where
-    by : (t : Bool) → cond t (work k e) k .roster ≡ k .roster
-    by true = refl
-    by false = refl
+roster-kept = kept-alike (λ k. k .roster) (λ k e. refl)
 
 -- "Each, N and later events too, gets the desk's memory as the one before left it"
 module _ (D : Desk) where
@@ -103,15 +103,16 @@ module _ (D : Desk) where
   unfolding stateAfter
   state-past m k xs n ys = state-joined m k xs (n ∷ ys)
 
+  after-alike : {A : Type 0} (part : State → A) → ((k : State) (e : Event) (n : ℕ) → part (keep k e n) ≡ part k)
+      → (m : D .Memory) (k : State) (es : List RawEvent) → part (stateAfter D m k es) ≡ part k
+  unfolding stateAfter
+  after-alike part same m k [] = refl
+  after-alike part same m k (e ∷ es) =
+      after-alike part same (D .next m e) (keep k (asEvent e) (D .answerTo m e)) es ∙ same k (asEvent e) (D .answerTo m e)
+
   -- market and roster are those that it began with
   pub market-after : (m : D .Memory) (k : State) (es : List RawEvent) → stateAfter D m k es .market ≡ k .market
-  unfolding stateAfter
-  market-after m k [] = refl
-  market-after m k (e ∷ es) =
-      market-after (D .next m e) (keep k (asEvent e) (D .answerTo m e)) es ∙ market-kept k (asEvent e) (D .answerTo m e)
+  market-after = after-alike (λ k. k .market) market-kept
 
   pub roster-after : (m : D .Memory) (k : State) (es : List RawEvent) → stateAfter D m k es .roster ≡ k .roster
-  unfolding stateAfter
-  roster-after m k [] = refl
-  roster-after m k (e ∷ es) =
-      roster-after (D .next m e) (keep k (asEvent e) (D .answerTo m e)) es ∙ roster-kept k (asEvent e) (D .answerTo m e)
+  roster-after = after-alike (λ k. k .roster) roster-kept
