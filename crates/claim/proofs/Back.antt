@@ -14,9 +14,9 @@ use Rattle.book.specs.Table.{q, entered}
 use Rattle.book.specs.States.{State}
 use Rattle.book.specs.EventLists.{RawEvent, asEvent, keep, memoryAfter, stateAfter}
 use Rattle.book.specs.Demand3.{RefusedExactly, NotPast}
-use Rattle.layout.specs.View.{bookOf}
-use Rattle.opening.specs.Questions.{rosterFrom}
-use Rattle.opening.specs.Opening.{afterOpening}
+use Rattle.memory_layout.specs.View.{bookOf}
+use Rattle.memory_opening.specs.Questions.{rosterFrom}
+use Rattle.memory_opening.specs.Opening.{afterOpening}
 use Rattle.desk.specs.Step.{eventQuestions, answerTo, afterEvent}
 use Rattle.desk.specs.Days.{answersOver, memoryOver}
 use Rattle.desk.specs.Run.{Whole, eventsFor, bytesOfEach, concatenated}

@@ -18,11 +18,11 @@ use Rattle.book.specs.States.{State}
 use Rattle.book.specs.EventLists.{RawEvent, asEvent, keep, memoryAfter, stateAfter}
 use Rattle.book.specs.Demand3.{RefusedExactly, NotPast}
 use Rattle.book.proofs.TableLaws.{positionNumbers, numbers-in-order}
-use Rattle.layout.specs.View.{bookOf, view}
-use Rattle.soundness.specs.Soundness.{soundDesk}
-use Rattle.opening.specs.Questions.{rosterFrom, openingQuestions}
-use Rattle.opening.specs.Opening.{afterOpening}
-use Rattle.reading.specs.Reading.{readingQuestions}
+use Rattle.memory_layout.specs.View.{bookOf, view}
+use Rattle.memory_soundness.specs.Soundness.{soundDesk}
+use Rattle.memory_opening.specs.Questions.{rosterFrom, openingQuestions}
+use Rattle.memory_opening.specs.Opening.{afterOpening}
+use Rattle.memory_reading.specs.Reading.{readingQuestions}
 use Rattle.desk.specs.Step.{eventQuestions, answerTo, afterEvent}
 use Rattle.desk.specs.Days.{answersOver}
 use Rattle.desk.specs.Run.{Whole, answered}

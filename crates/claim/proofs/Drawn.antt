@@ -8,8 +8,8 @@ use Rattle.words.specs.Bytes.{Bytes}
 use Rattle.book.specs.Edges.{Case, starredEdges, allAccepted}
 use Rattle.book.proofs.Computed.{computes}
 use Rattle.book.proofs.Edges.{starred-answers, starred-positions}
-use Rattle.opening.specs.Opening.{afterOpening}
-use Rattle.reading.specs.Reading.{instrumentReport}
+use Rattle.memory_opening.specs.Opening.{afterOpening}
+use Rattle.memory_reading.specs.Reading.{instrumentReport}
 use Rattle.desk.specs.Step.{answerTo}
 use Rattle.desk.specs.Days.{answersOver, memoryOver}
 use Rattle.desk.specs.Edges.{AllHold, edgeRoster}

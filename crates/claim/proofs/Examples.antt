@@ -29,8 +29,8 @@ use Rattle.book.specs.Days.{endOf}
 use Rattle.book.proofs.Plain.{plain}
 use Rattle.book.proofs.StateLaws.{memory-of-more, state-of-more, state-joined}
 use Rattle.book.proofs.NotSetAgainLaws.{setsNone}
-use Rattle.opening.specs.Questions.{rosterFrom, openingAnswer}
-use Rattle.opening.specs.Opening.{afterOpening}
+use Rattle.memory_opening.specs.Questions.{rosterFrom, openingAnswer}
+use Rattle.memory_opening.specs.Opening.{afterOpening}
 use Rattle.desk.specs.Step.{answerTo, afterEvent}
 use Rattle.desk.specs.Demands.{gate}
 use Rattle.claim.specs.Examples.{memoryAt, stateAt, OrderAsked, SomeFillingPast, OrderRefused, NoneSetsAgain, OrderAccepted}

@@ -19,8 +19,8 @@ use Rattle.book.specs.Demand3.{NotSetAgain}
 use Rattle.book.proofs.StateLaws.{market-kept, market-after, roster-kept, roster-after}
 use Rattle.book.proofs.SetAgainLaws.{set-by-that-limit}
 use Rattle.book.proofs.NotSetAgainLaws.{not-set-again-iff}
-use Rattle.opening.specs.Questions.{rosterFrom}
-use Rattle.opening.specs.Opening.{afterOpening}
+use Rattle.memory_opening.specs.Questions.{rosterFrom}
+use Rattle.memory_opening.specs.Opening.{afterOpening}
 use Rattle.desk.specs.Demands.{gate, keptAfter}
 use Rattle.claim.specs.Examples.{NoneOnTheLine}
 

@@ -21,9 +21,9 @@ use Rattle.book.specs.EventLists.{RawEvent}
 use Rattle.book.specs.Listing.{listingEvents}
 use Rattle.book.specs.Written.{written, writtenAll}
 use Rattle.book.proofs.LongerDay.{weighs-more, weighs-less}
-use Rattle.opening.specs.Questions.{rosterFrom, openingAnswer}
-use Rattle.opening.specs.Opening.{afterOpening}
-use Rattle.reading.specs.Reading.{instrumentAnswer, groupAnswer, instrumentReport, groupReport, positionIn, reported}
+use Rattle.memory_opening.specs.Questions.{rosterFrom, openingAnswer}
+use Rattle.memory_opening.specs.Opening.{afterOpening}
+use Rattle.memory_reading.specs.Reading.{instrumentAnswer, groupAnswer, instrumentReport, groupReport, positionIn, reported}
 use Rattle.book.specs.Positions.{instrumentIn, groupIn}
 use Rattle.desk.specs.Days.{answersOver, memoryOver}
 use Rattle.desk.specs.Run.{eventsFor, answered, concatenated}

@@ -19,8 +19,8 @@ use Rattle.book.specs.EventLists.{RawEvent}
 use Rattle.book.specs.LongerDay.{morning, putSoldToTheLimit, afternoon, evening}
 use Rattle.book.specs.Written.{written, writtenAll}
 use Rattle.book.proofs.LongerDay.{weighs-more, weighs-less}
-use Rattle.opening.specs.Questions.{rosterFrom, openingAnswer}
-use Rattle.opening.specs.Opening.{afterOpening}
+use Rattle.memory_opening.specs.Questions.{rosterFrom, openingAnswer}
+use Rattle.memory_opening.specs.Opening.{afterOpening}
 use Rattle.claim.specs.Examples.{LimitSetAgain}
 use Rattle.claim.specs.Days.{orderOf, order, longerRoster, LongerDay, InEveryMemory}
 use Rattle.claim.proofs.Plainly.{plainly, answers-plainly}

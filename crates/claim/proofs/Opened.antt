@@ -6,8 +6,8 @@ use mathlib.Core.List.{List}
 use lib.ListN.{length}
 use borrow.Author.Tests.{le-leb}
 use Rattle.limits.specs.Questions.{allPass}
-use Rattle.layout.specs.Rosters.{longEnough}
-use Rattle.opening.specs.Questions.{openingQuestions, openingAnswer}
+use Rattle.memory_layout.specs.Rosters.{longEnough}
+use Rattle.memory_opening.specs.Questions.{openingQuestions, openingAnswer}
 use Rattle.desk.specs.Listing.{listingRoster}
 use Rattle.desk.proofs.Rosters.{rosterQuestions, reads}
 use Rattle.claim.specs.Days.{longerRoster}

@@ -15,8 +15,8 @@ use Rattle.book.specs.Days.{answersTo, endOf}
 use Rattle.book.proofs.Plain.{plain}
 use Rattle.book.proofs.StateLaws.{memory-joined, state-joined}
 use Rattle.book.proofs.NotSetAgainLaws.{setsNone, sets-none}
-use Rattle.opening.specs.Questions.{rosterFrom, openingAnswer}
-use Rattle.opening.specs.Opening.{afterOpening}
+use Rattle.memory_opening.specs.Questions.{rosterFrom, openingAnswer}
+use Rattle.memory_opening.specs.Opening.{afterOpening}
 use Rattle.desk.specs.Step.{answerTo, afterEvent}
 use Rattle.desk.specs.Days.{answersOver}
 use Rattle.desk.specs.Demands.{gate}

@@ -16,12 +16,12 @@ use Rattle.book.specs.Decoding.{between, decode}
 use Rattle.book.specs.Table.{q, isEvent, entered, questionsBefore, questions}
 use Rattle.book.specs.EventLists.{RawEvent, memoryAfter}
 use Rattle.book.specs.Written.{written}
-use Rattle.layout.specs.Rosters.{longEnough}
-use Rattle.layout.specs.View.{rosterOf, bookOf}
-use Rattle.soundness.specs.Soundness.{soundDesk}
-use Rattle.opening.specs.Questions.{openingQuestions, openingAnswer}
-use Rattle.opening.specs.Opening.{afterOpening}
-use Rattle.reading.specs.Reading.{readingQuestions, instrumentAnswer, groupAnswer}
+use Rattle.memory_layout.specs.Rosters.{longEnough}
+use Rattle.memory_layout.specs.View.{rosterOf, bookOf}
+use Rattle.memory_soundness.specs.Soundness.{soundDesk}
+use Rattle.memory_opening.specs.Questions.{openingQuestions, openingAnswer}
+use Rattle.memory_opening.specs.Opening.{afterOpening}
+use Rattle.memory_reading.specs.Reading.{readingQuestions, instrumentAnswer, groupAnswer}
 use Rattle.desk.specs.Step.{eventQuestions, answerTo, afterEvent}
 use Rattle.desk.specs.Demands.{gate}
 use Rattle.claim.specs.Claim.{FirstNo}

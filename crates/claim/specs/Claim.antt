@@ -29,11 +29,11 @@ use Rattle.book.specs.Table.{q, entered, questionsBefore, answer}
 use Rattle.book.specs.States.{begun}
 use Rattle.book.specs.EventLists.{RawEvent, asEvent, keep, memoryAfter, stateAfter}
 use Rattle.book.specs.SetAgain.{nameOf, lineOver}
-use Rattle.layout.specs.View.{rosterOf, balancesOf, openOrders, bookOf}
-use Rattle.soundness.specs.Soundness.{soundDesk}
-use Rattle.opening.specs.Questions.{rosterFrom, openingQuestions, openingAnswer}
-use Rattle.opening.specs.Opening.{afterOpening}
-use Rattle.reading.specs.Reading.{readingQuestions, instrumentAnswer, groupAnswer, instrumentReport, groupReport, reported}
+use Rattle.memory_layout.specs.View.{rosterOf, balancesOf, openOrders, bookOf}
+use Rattle.memory_soundness.specs.Soundness.{soundDesk}
+use Rattle.memory_opening.specs.Questions.{rosterFrom, openingQuestions, openingAnswer}
+use Rattle.memory_opening.specs.Opening.{afterOpening}
+use Rattle.memory_reading.specs.Reading.{readingQuestions, instrumentAnswer, groupAnswer, instrumentReport, groupReport, reported}
 use Rattle.desk.specs.Step.{eventQuestions, answerTo, afterEvent}
 use Rattle.book.specs.Positions.{instrumentIn, groupIn}
 use Rattle.desk.specs.Days.{answersOver, memoryOver}

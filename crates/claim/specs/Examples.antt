@@ -24,8 +24,8 @@ use Rattle.book.specs.States.{State, begun}
 use Rattle.book.specs.EventLists.{RawEvent, asEvent, memoryAfter, stateAfter}
 use Rattle.book.specs.SetAgain.{nameOf, lineOver}
 use Rattle.book.specs.Written.{asBytes, written, writtenAll}
-use Rattle.opening.specs.Questions.{rosterFrom}
-use Rattle.opening.specs.Opening.{afterOpening}
+use Rattle.memory_opening.specs.Questions.{rosterFrom}
+use Rattle.memory_opening.specs.Opening.{afterOpening}
 use Rattle.desk.specs.Step.{eventQuestions, answerTo, afterEvent}
 use Rattle.desk.specs.Demands.{gate}
 use Rattle.claim.specs.Claim.{FirstNo}

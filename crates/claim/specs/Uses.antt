@@ -12,12 +12,12 @@ use Rattle.book.specs.declared.Event.the-variants.{Junk}
 use Rattle.book.specs.Decoding.{decode}
 use Rattle.book.specs.Table.{q}
 use Rattle.book.specs.EventLists.{RawEvent, memoryAfter}
-use Rattle.layout.specs.View.{rosterOf}
-use Rattle.layout.specs.Rosters.{longEnough}
-use Rattle.soundness.specs.Soundness.{soundDesk}
-use Rattle.opening.specs.Questions.{openingQuestions, openingAnswer}
-use Rattle.opening.specs.Opening.{afterOpening}
-use Rattle.reading.specs.Reading.{readingQuestions, instrumentAnswer, groupAnswer, instrumentReport, groupReport, reported}
+use Rattle.memory_layout.specs.View.{rosterOf}
+use Rattle.memory_layout.specs.Rosters.{longEnough}
+use Rattle.memory_soundness.specs.Soundness.{soundDesk}
+use Rattle.memory_opening.specs.Questions.{openingQuestions, openingAnswer}
+use Rattle.memory_opening.specs.Opening.{afterOpening}
+use Rattle.memory_reading.specs.Reading.{readingQuestions, instrumentAnswer, groupAnswer, instrumentReport, groupReport, reported}
 use Rattle.desk.specs.Step.{eventQuestions, answerTo, afterEvent}
 use Rattle.desk.specs.Days.{answersOver, memoryOver}
 use Rattle.desk.specs.Demands.{gate}

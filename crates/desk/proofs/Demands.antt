@@ -21,14 +21,15 @@ use Rattle.book.specs.Table.{q, entered, questionsBefore, positionsAfter, limit
 use Rattle.book.specs.EventLists.{RawEvent, asEvent, stateAfter}
 use Rattle.book.proofs.Accepted.{never-5}
 use Rattle.book.proofs.StateLaws.{roster-after}
-use Rattle.layout.specs.View.{rosterOf, bookOf, view}
-use Rattle.opening.specs.Questions.{openingQuestions, openingAnswer, rosterFrom}
-use Rattle.opening.specs.Opening.{afterOpening}
-use Rattle.opening.proofs.Opened.{later-after}
-use Rattle.reading.specs.Reading.{readingQuestions, instrumentAnswer, groupAnswer, instrumentReport, groupReport, positionIn, reported}
-use Rattle.soundness.specs.Soundness.{soundDesk}
-use Rattle.soundness.proofs.SoundDesk.{sound-out}
-use Rattle.working.proofs.Writes.{later-worked}
+use Rattle.memory_layout.specs.View.{rosterOf, bookOf, view}
+use Rattle.memory_opening.specs.Questions.{openingQuestions, openingAnswer, rosterFrom}
+use Rattle.memory_opening.specs.Opening.{afterOpening}
+use Rattle.memory_opening.proofs.Opened.{later-after}
+use Rattle.memory_reading.specs.Reading.{readingQuestions, instrumentAnswer, groupAnswer, instrumentReport, groupReport, positionIn}
+use Rattle.memory_reading.specs.Reading.{reported}
+use Rattle.memory_soundness.specs.Soundness.{soundDesk}
+use Rattle.memory_soundness.proofs.SoundDesk.{sound-out}
+use Rattle.memory_working.proofs.Writes.{later-worked}
 use Rattle.desk.specs.Step.{eventQuestions, answerTo, afterEvent}
 use Rattle.desk.specs.Demands.{OneOf, Demand1, Answers, Demand2, gate, Demand3}
 use Rattle.desk.proofs.Readings.{instrument-read, group-read, shown-opened}

@@ -10,8 +10,8 @@ use Rattle.book.specs.States.{begun}
 use Rattle.book.specs.Rosters.{rosterOfTables}
 use Rattle.book.specs.Edges.{Case, edgeTables, starredEdges, outcome, expected}
 use Rattle.book.proofs.Edges.{edges}
-use Rattle.opening.specs.Questions.{rosterFrom, openingAnswer}
-use Rattle.opening.specs.Opening.{afterOpening}
+use Rattle.memory_opening.specs.Questions.{rosterFrom, openingAnswer}
+use Rattle.memory_opening.specs.Opening.{afterOpening}
 use Rattle.desk.specs.Edges.{CaseHolds, AllHold, edgeRoster, StarredEdges}
 use Rattle.desk.proofs.Readings.{instrument-read, shown-opened}
 use Rattle.desk.proofs.Carried.{bytes-are, bytes-apart, answer-shown, answers-carried, shown-over, roster-over}

@@ -19,16 +19,16 @@ use Rattle.book.proofs.Accepted.{sound-answer, unsound-answer}
 use Rattle.book.proofs.Decoded.{decoded-id}
 use Rattle.book.proofs.Runs.{holds-after, answers-after}
 use Rattle.book.proofs.Demand3Proof.{demand3}
-use Rattle.layout.specs.View.{view}
-use Rattle.layout.specs.Judged.{judged}
-use Rattle.soundness.specs.Soundness.{soundDesk}
-use Rattle.soundness.specs.SoundMemory.{SoundMemory}
-use Rattle.soundness.proofs.SoundDesk.{sound-in}
-use Rattle.working.specs.Working.{worked}
-use Rattle.working.proofs.Writes.{bytes-worked}
-use Rattle.working.proofs.Small.{decoded-sized}
-use Rattle.working.proofs.ViewWorked.{view-worked}
-use Rattle.working.proofs.SoundWorked.{sound-worked}
+use Rattle.memory_layout.specs.View.{view}
+use Rattle.memory_layout.specs.Judged.{judged}
+use Rattle.memory_soundness.specs.Soundness.{soundDesk}
+use Rattle.memory_soundness.specs.SoundMemory.{SoundMemory}
+use Rattle.memory_soundness.proofs.SoundDesk.{sound-in}
+use Rattle.memory_working.specs.Working.{worked}
+use Rattle.memory_working.proofs.Writes.{bytes-worked}
+use Rattle.memory_working.proofs.Small.{decoded-sized}
+use Rattle.memory_working.proofs.ViewWorked.{view-worked}
+use Rattle.memory_working.proofs.SoundWorked.{sound-worked}
 use Rattle.desk.specs.Step.{eventQuestions, answerTo, afterEvent}
 use Rattle.desk.specs.Demands.{gate}
 

@@ -11,8 +11,8 @@ use Rattle.book.specs.Days.{allBytes, decoded}
 use Rattle.book.specs.Rosters.{rosterOfTables}
 use Rattle.book.specs.Listing.{listingTables, listingEvents}
 use Rattle.book.proofs.Listing.{listing as computed}
-use Rattle.opening.specs.Questions.{rosterFrom, openingAnswer}
-use Rattle.opening.specs.Opening.{afterOpening}
+use Rattle.memory_opening.specs.Questions.{rosterFrom, openingAnswer}
+use Rattle.memory_opening.specs.Opening.{afterOpening}
 use Rattle.desk.specs.Listing.{listingRoster, Listing}
 use Rattle.desk.proofs.Readings.{instrument-read, group-read, shown-opened}
 use Rattle.desk.proofs.Carried.{answers-carried, shown-over, roster-over}

@@ -13,16 +13,16 @@ use Rattle.book.specs.Market.{derivatives}
 use Rattle.book.specs.Sound.{RosterFits, LineFits, GroupLineFits}
 use Rattle.book.specs.States.{begun}
 use Rattle.book.proofs.SoundSteps.{sound-empty}
-use Rattle.layout.specs.Layout.{ownRow, defaultRow, groupRow}
-use Rattle.layout.specs.Rosters.{sizesFit, namesFit, weightsFit}
-use Rattle.layout.specs.View.{view}
-use Rattle.opening.specs.Questions.{rosterFrom, rosterLength, lengthsFit, openingQuestions, openingAnswer}
-use Rattle.opening.specs.Opening.{opened, afterOpening}
-use Rattle.opening.proofs.Opened.{Accepted, accepted-out, kind-opened, blank-opened, roster-opened, sized-opened, view-opened}
-use Rattle.opening.proofs.Opened.{length-opened}
-use Rattle.soundness.specs.Soundness.{rosterSound}
-use Rattle.soundness.specs.SoundMemory.{Figures, SoundMemory}
-use Rattle.soundness.proofs.RosterFacts.{roster-out}
+use Rattle.memory_layout.specs.Layout.{ownRow, defaultRow, groupRow}
+use Rattle.memory_layout.specs.Rosters.{sizesFit, namesFit, weightsFit}
+use Rattle.memory_layout.specs.View.{view}
+use Rattle.memory_opening.specs.Questions.{rosterFrom, rosterLength, lengthsFit, openingQuestions, openingAnswer}
+use Rattle.memory_opening.specs.Opening.{opened, afterOpening}
+use Rattle.memory_opening.proofs.Opened.{Accepted, accepted-out, kind-opened, blank-opened, roster-opened, sized-opened, view-opened}
+use Rattle.memory_opening.proofs.Opened.{length-opened}
+use Rattle.memory_soundness.specs.Soundness.{rosterSound}
+use Rattle.memory_soundness.specs.SoundMemory.{Figures, SoundMemory}
+use Rattle.memory_soundness.proofs.RosterFacts.{roster-out}
 
 module _ (m s : List ℕ) (zero : openingAnswer m s ≡ 0) where
   ok : Accepted m s

@@ -8,13 +8,13 @@ use Rattle.limits.specs.Questions.{firstNo}
 use Rattle.book.specs.Decoding.{between}
 use Rattle.book.specs.Market.{derivatives}
 use Rattle.book.specs.States.{State, begun}
-use Rattle.layout.specs.View.{rosterOf, bookOf}
-use Rattle.opening.specs.Questions.{openingAnswer, rosterFrom}
-use Rattle.opening.specs.Opening.{afterOpening}
-use Rattle.opening.proofs.Opened.{bytes-after}
-use Rattle.reading.specs.Reading.{readingQuestions, instrumentAnswer, groupAnswer, instrumentReport, groupReport, positionIn}
-use Rattle.reading.proofs.Reports.{answered}
-use Rattle.soundness.proofs.SoundDesk.{sound-in}
+use Rattle.memory_layout.specs.View.{rosterOf, bookOf}
+use Rattle.memory_opening.specs.Questions.{openingAnswer, rosterFrom}
+use Rattle.memory_opening.specs.Opening.{afterOpening}
+use Rattle.memory_opening.proofs.Opened.{bytes-after}
+use Rattle.memory_reading.specs.Reading.{readingQuestions, instrumentAnswer, groupAnswer, instrumentReport, groupReport, positionIn}
+use Rattle.memory_reading.proofs.Reports.{answered}
+use Rattle.memory_soundness.proofs.SoundDesk.{sound-in}
 use Rattle.book.specs.Positions.{instrumentIn, groupIn}
 use Rattle.desk.proofs.Opened.{sound-opened, view-after}
 use Rattle.desk.proofs.Gate.{Shown}

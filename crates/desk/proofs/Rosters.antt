@@ -15,8 +15,8 @@ use Rattle.book.specs.Decoding.{between}
 use Rattle.book.specs.Table.{q}
 use Rattle.book.specs.Rosters.{Tables, rosterOfTables, weightBytes, rosterBytes}
 use Rattle.book.proofs.Computed.{computes}
-use Rattle.layout.specs.Rosters.{listed, every, sizesFit, namesFit, weightsFit, longEnough}
-use Rattle.opening.specs.Questions.{rosterFrom, rosterLength, lengthsFit, openingQuestions, openingAnswer}
+use Rattle.memory_layout.specs.Rosters.{listed, every, sizesFit, namesFit, weightsFit, longEnough}
+use Rattle.memory_opening.specs.Questions.{rosterFrom, rosterLength, lengthsFit, openingQuestions, openingAnswer}
 
 module _ {A : Type 0} (none : A) where
   -- the values of f at 0 to n − 1

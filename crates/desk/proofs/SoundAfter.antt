@@ -7,11 +7,11 @@ use native.Mathlib.Decide.{ℕ-discrete}
 use Rattle.words.specs.Bytes.{Bytes}
 use Rattle.book.specs.Decoding.{decode}
 use Rattle.book.proofs.Decoded.{decoded-id}
-use Rattle.soundness.specs.Soundness.{soundDesk}
-use Rattle.soundness.specs.SoundMemory.{SoundMemory}
-use Rattle.soundness.proofs.SoundDesk.{sound-out, sound-in}
-use Rattle.working.proofs.Small.{decoded-sized}
-use Rattle.working.proofs.SoundWorked.{sound-worked}
+use Rattle.memory_soundness.specs.Soundness.{soundDesk}
+use Rattle.memory_soundness.specs.SoundMemory.{SoundMemory}
+use Rattle.memory_soundness.proofs.SoundDesk.{sound-out, sound-in}
+use Rattle.memory_working.proofs.Small.{decoded-sized}
+use Rattle.memory_working.proofs.SoundWorked.{sound-worked}
 use Rattle.desk.specs.Step.{answerTo, afterEvent}
 use Rattle.desk.proofs.Gate.{after-refused, after-accepted, answer-sound}
 use Rattle.desk.proofs.Stepped.{unsound-event}

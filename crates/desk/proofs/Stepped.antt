@@ -13,11 +13,11 @@ use Rattle.limits.specs.Answers.{numberOf}
 use Rattle.book.specs.Decoding.{decode}
 use Rattle.book.proofs.Accepted.{unsound-answer}
 use Rattle.limits.proofs.Refused.{Refusal, not-zero}
-use Rattle.layout.specs.View.{view}
-use Rattle.layout.specs.Judged.{judged}
-use Rattle.soundness.specs.Soundness.{soundDesk}
-use Rattle.soundness.proofs.SoundDesk.{sound-out}
-use Rattle.working.specs.Working.{worked}
+use Rattle.memory_layout.specs.View.{view}
+use Rattle.memory_layout.specs.Judged.{judged}
+use Rattle.memory_soundness.specs.Soundness.{soundDesk}
+use Rattle.memory_soundness.proofs.SoundDesk.{sound-out}
+use Rattle.memory_working.specs.Working.{worked}
 use Rattle.desk.specs.Step.{eventQuestions, answerTo, afterEvent, stepped}
 use Rattle.desk.proofs.Gate.{answer-sound, after-refused}
 

@@ -18,10 +18,10 @@ use Rattle.book.specs.States.{State, begun}
 use Rattle.book.specs.Table.{answer}
 use Rattle.book.specs.EventLists.{RawEvent, asEvent, Desk, memoryAfter, stateAfter}
 use Rattle.book.specs.Demand3.{Demand3At}
-use Rattle.layout.specs.View.{rosterOf, balancesOf, openOrders}
-use Rattle.opening.specs.Questions.{rosterFrom, openingQuestions, openingAnswer}
-use Rattle.opening.specs.Opening.{afterOpening}
-use Rattle.reading.specs.Reading.{readingQuestions, instrumentAnswer, groupAnswer, instrumentReport, groupReport, reported}
+use Rattle.memory_layout.specs.View.{rosterOf, balancesOf, openOrders}
+use Rattle.memory_opening.specs.Questions.{rosterFrom, openingQuestions, openingAnswer}
+use Rattle.memory_opening.specs.Opening.{afterOpening}
+use Rattle.memory_reading.specs.Reading.{readingQuestions, instrumentAnswer, groupAnswer, instrumentReport, groupReport, reported}
 use Rattle.desk.specs.Step.{eventQuestions, answerTo, afterEvent}
 use Rattle.book.specs.Positions.{instrumentIn, groupIn}
 

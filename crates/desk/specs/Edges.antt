@@ -6,9 +6,9 @@ use lib.ListN.{length}
 use Rattle.words.specs.Bytes.{Bytes}
 use Rattle.book.specs.Rosters.{rosterBytes}
 use Rattle.book.specs.Edges.{Case, edgeTables, starredEdges, allAccepted}
-use Rattle.opening.specs.Questions.{openingAnswer}
-use Rattle.opening.specs.Opening.{afterOpening}
-use Rattle.reading.specs.Reading.{instrumentAnswer, instrumentReport}
+use Rattle.memory_opening.specs.Questions.{openingAnswer}
+use Rattle.memory_opening.specs.Opening.{afterOpening}
+use Rattle.memory_reading.specs.Reading.{instrumentAnswer, instrumentReport}
 use Rattle.desk.specs.Step.{answerTo}
 use Rattle.desk.specs.Days.{answersOver, memoryOver}
 

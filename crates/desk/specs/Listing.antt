@@ -5,9 +5,9 @@ use mathlib.Core.List.{List, [], _∷_}
 use lib.ListN.{length}
 use lib.IntN.{pos, negsuc}
 use Rattle.words.specs.Bytes.{Bytes}
-use Rattle.opening.specs.Questions.{openingAnswer}
-use Rattle.opening.specs.Opening.{afterOpening}
-use Rattle.reading.specs.Reading.{instrumentReport, groupReport}
+use Rattle.memory_opening.specs.Questions.{openingAnswer}
+use Rattle.memory_opening.specs.Opening.{afterOpening}
+use Rattle.memory_reading.specs.Reading.{instrumentReport, groupReport}
 use Rattle.book.specs.Rosters.{rosterBytes}
 use Rattle.book.specs.Listing.{listingTables, listingEvents}
 use Rattle.desk.specs.Days.{answersOver, memoryOver}

@@ -5,7 +5,7 @@ use mathlib.Core.Bool.{false}
 use mathlib.Core.List.{List, [], _∷_, _++_, map}
 use lib.ListN.{length, take, drop, replicate}
 use Rattle.book.specs.EventLists.{RawEvent, memoryAfter}
-use Rattle.soundness.specs.Soundness.{soundDesk}
+use Rattle.memory_soundness.specs.Soundness.{soundDesk}
 use Rattle.desk.specs.Step.{answerTo}
 use Rattle.desk.specs.Days.{answersOver, memoryOver}
 use Rattle.desk.specs.Demands.{gate}

@@ -7,10 +7,10 @@ use Rattle.limits.specs.Questions.{Question, firstNo}
 use Rattle.book.specs.declared.Event.{Event}
 use Rattle.book.specs.Decoding.{decode}
 use Rattle.book.specs.Table.{questions}
-use Rattle.layout.specs.View.{view}
-use Rattle.layout.specs.Judged.{judged}
-use Rattle.soundness.specs.Soundness.{soundDesk}
-use Rattle.working.specs.Working.{worked}
+use Rattle.memory_layout.specs.View.{view}
+use Rattle.memory_layout.specs.Judged.{judged}
+use Rattle.memory_soundness.specs.Soundness.{soundDesk}
+use Rattle.memory_working.specs.Working.{worked}
 
 -- questions 5 to 24 of the event that the bytes e say, asked of memory m
 unfoldable pub eventQuestions : List ℕ → List ℕ → List Question

@@ -4,16 +4,16 @@ pub mod run;
 pub mod step;
 
 ghost use mathlib.Core.Path.{_≡_};
-ghost use Rattle.opening.specs.Questions.{openingAnswer};
-ghost use Rattle.opening.specs.Opening.{afterOpening};
-ghost use Rattle.reading.specs.Reading.{instrumentAnswer, groupAnswer, instrumentReport, groupReport, reported};
+ghost use Rattle.memory_opening.specs.Questions.{openingAnswer};
+ghost use Rattle.memory_opening.specs.Opening.{afterOpening};
+ghost use Rattle.memory_reading.specs.Reading.{instrumentAnswer, groupAnswer, instrumentReport, groupReport, reported};
 ghost use Rattle.desk.specs.Step.{answerTo, afterEvent};
 use crate::run::answer_next;
 use limits::answer::number_of;
-use opening::open_desk;
-use reading::read_group;
-use reading::read_instrument;
-use soundness::is_sound_with_sums;
+use memory_opening::open_desk;
+use memory_reading::read_group;
+use memory_reading::read_instrument;
+use memory_soundness::is_sound_with_sums;
 
 // Opens a desk in `m` from the roster's bytes.
 #[no_mangle]

@@ -3,16 +3,16 @@ ghost use mathlib.Core.Path.{_≡_};
 ghost use mathlib.Core.Bool.{true};
 ghost use Prim.Native.Nat.{_<_};
 ghost use lib.ListN.{length, take, drop};
-ghost use Rattle.layout.specs.View.{openOrders};
-ghost use Rattle.soundness.specs.Soundness.{soundDesk};
-ghost use Rattle.soundness.specs.Cells.{Sums};
+ghost use Rattle.memory_layout.specs.View.{openOrders};
+ghost use Rattle.memory_soundness.specs.Soundness.{soundDesk};
+ghost use Rattle.memory_soundness.specs.Cells.{Sums};
 ghost use Rattle.desk.specs.Step.{answerTo, afterEvent};
 ghost use Rattle.desk.specs.Days.{memoryOver};
 ghost use Rattle.desk.specs.Run.{eventsFor, answered};
 use crate::step::step;
 use decoding::decode;
 use limits::answer::number_of;
-use soundness::is_sound_with_sums;
+use memory_soundness::is_sound_with_sums;
 
 // The event at byte `at`: 48 bytes, or what is left.
 fn event_at<'a>(events: &'a [u8], at: usize) -> &'a [u8]

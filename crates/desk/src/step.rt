@@ -1,15 +1,15 @@
 // One event on a sound desk: judged, and worked where it is accepted, with the order that the judge hands on.
 ghost use mathlib.Core.Path.{_≡_};
 ghost use Rattle.limits.specs.Answers.{numberOf};
-ghost use Rattle.layout.specs.View.{openOrders};
-ghost use Rattle.layout.specs.Judged.{judged};
-ghost use Rattle.soundness.specs.Cells.{Sums};
-ghost use Rattle.soundness.specs.SoundMemory.{SoundMemory};
+ghost use Rattle.memory_layout.specs.View.{openOrders};
+ghost use Rattle.memory_layout.specs.Judged.{judged};
+ghost use Rattle.memory_soundness.specs.Cells.{Sums};
+ghost use Rattle.memory_soundness.specs.SoundMemory.{SoundMemory};
 ghost use Rattle.desk.specs.Step.{stepped};
 use book::Event;
-use judging::judge;
+use memory_judging::judge;
 use limits::answer::Answer;
-use working::work;
+use memory_working::work;
 
 // The cells hold B and V of all accounts, before the event and after it.
 pub fn step(m: &mut [u8], cells: &mut [u64], e: Event) -> Answer

@@ -1,7 +1,7 @@
 -- Question 5 gathers the sums where it says yes, which is what `answer_next` asks for; its answer and memory are the desk's.
 use mathlib.Core.Path.{refl}
 use borrow.Author.Needs.{needs}
-use Rattle.soundness.proofs.Gathering.{empty-cells}
+use Rattle.memory_soundness.proofs.Gathering.{empty-cells}
 use Rattle.desk.proofs.desk_event.Statement.{statement}
 use Rattle.desk.proofs.desk_event.Tie as tie
 

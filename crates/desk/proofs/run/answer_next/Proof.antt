@@ -3,9 +3,9 @@
 use mathlib.Core.Path.{_∙_, sym, ap}
 use borrow.Author.Needs.{needs}
 use borrow.Author.Tests.{not-false}
-use Rattle.soundness.specs.Soundness.{soundDesk}
-use Rattle.soundness.proofs.Asked.{answered-no, answered-yes}
-use Rattle.soundness.proofs.SoundDesk.{sound-out}
+use Rattle.memory_soundness.specs.Soundness.{soundDesk}
+use Rattle.memory_soundness.proofs.Asked.{answered-no, answered-yes}
+use Rattle.memory_soundness.proofs.SoundDesk.{sound-out}
 use Rattle.desk.proofs.Stepped.{unsound-event, sound-event}
 use Rattle.desk.proofs.SoundAfter.{sound-after}
 use Rattle.desk.proofs.run.answer_next.Statement.{statement}

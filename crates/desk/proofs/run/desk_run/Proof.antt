@@ -7,10 +7,10 @@ use native.Mathlib.Omega.{arith}
 use borrow.Author.Needs.{needs}
 use borrow.Author.Tests.{ltb-true, ltb-false}
 use lib.ListN.{length}
-use Rattle.layout.specs.View.{openOrders}
-use Rattle.soundness.specs.Soundness.{soundDesk}
-use Rattle.soundness.specs.Cells.{Sums}
-use Rattle.soundness.proofs.Gathering.{empty-cells}
+use Rattle.memory_layout.specs.View.{openOrders}
+use Rattle.memory_soundness.specs.Soundness.{soundDesk}
+use Rattle.memory_soundness.specs.Cells.{Sums}
+use Rattle.memory_soundness.proofs.Gathering.{empty-cells}
 use Rattle.desk.proofs.Cutting.{event-within}
 use Rattle.desk.proofs.RunLoop.{Running, begins, turns, events-end, room-ends}
 use Rattle.desk.proofs.run.desk_run.Statement.{statement}

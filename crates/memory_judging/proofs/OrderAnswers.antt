@@ -1,0 +1,111 @@
+-- Questions 19 to 24 at a sound desk, as the functions below answer them.
+use Prim.Native.Nat.{ℕ}
+use mathlib.Core.Path.{_≡_, _∙_, sym, ap}
+use mathlib.Core.Logic.{_≢_}
+use mathlib.Core.Bool.{true}
+use mathlib.Core.List.{List}
+use native.Mathlib.Omega.{arith}
+use lib.IntN.{ℤ, pos, natAbs}
+use lib.ListN.{length}
+use Rattle.ledger.specs.declared.order.Order.{Order}
+use Rattle.ledger.specs.Roster.{Numbered, groupOfInstrument}
+use Rattle.ledger.specs.Records.{balancesIn, rosterIn}
+use Rattle.ledger.specs.Derivatives.{one}
+use Rattle.positions.specs.Gathered.{Gathered}
+use Rattle.positions.proofs.Weighing.{cells-small}
+use Rattle.limits.specs.Lines.{Lines, lineInForce, isSet}
+use Rattle.limits.specs.Questions.{firstNo}
+use Rattle.limits.specs.Asked.{limitsSet, positionQuestions}
+use Rattle.limits.specs.Raised.{Raised}
+use Rattle.limits.specs.Numbers.{sizeQuestions}
+use Rattle.limits.specs.Bounds.{EventBounds, InForce, OfGroup}
+use Rattle.limits.proofs.Agreement.{same-in-force, same-questions}
+use Rattle.limits.proofs.Answers.{both-true, zero-pass, append-passed, append-refused}
+use Rattle.book.specs.Market.{derivatives}
+use Rattle.memory_layout.specs.View.{rosterPart, rosterOf, balancesPart, linesOf, balancesOf, openOrders}
+use Rattle.memory_layout.specs.Readable.{HoldsLine, HoldsGroupLine}
+use Rattle.memory_layout.proofs.RosterRead.{instruments-same, contract-same}
+use Rattle.memory_soundness.specs.Cells.{Sums}
+use Rattle.memory_soundness.proofs.Bounded.{sound-readable, unfilled-small, group-bounds}
+use Rattle.memory_soundness.proofs.Agreement.{group-same, words-agree}
+use Rattle.memory_judging.specs.OrderQuestions.{withinLimits, Sizable}
+use Rattle.memory_judging.specs.OrderFields.{cellsOf}
+use Rattle.memory_judging.proofs.Cells.{gathered-of}
+
+-- the line in force and the group line are set
+pub both-set : (m : List ℕ) (o : Order) → limitsSet (rosterOf m) (linesOf m (o .account)) o ≡ true
+    → (isSet (lineInForce (rosterOf m) (linesOf m (o .account)) (o .instrument)) ≡ true)
+    × (isSet (linesOf m (o .account) .lineOfGroup (groupOfInstrument (rosterOf m) (o .instrument))) ≡ true)
+unfolding limitsSet
+both-set m o set = both-true _ _ set
+
+-- ---- 19 and 20 before 21 to 24
+module _ (m : List ℕ) (after : List Order) (o : Order) where
+  abbrev sizes : ℕ
+  sizes = firstNo (sizeQuestions one (rosterOf m) (linesOf m (o .account)) o)
+
+  abbrev positions : ℕ
+  positions = firstNo (positionQuestions one (rosterOf m) (linesOf m (o .account)) after (balancesOf m (o .account)) o)
+
+  pub size-fits : sizes ≡ 0 → firstNo (withinLimits m after o) ≡ positions
+  unfolding withinLimits derivatives sizeQuestions
+  size-fits e =
+      append-passed (sizeQuestions one (rosterOf m) (linesOf m (o .account)) o)
+      (positionQuestions one (rosterOf m) (linesOf m (o .account)) after (balancesOf m (o .account)) o)
+      (zero-pass (sizeQuestions one (rosterOf m) (linesOf m (o .account)) o) (omega arith) e)
+
+  pub size-refuses : sizes ≢ 0 → firstNo (withinLimits m after o) ≡ sizes
+  unfolding withinLimits derivatives
+  size-refuses =
+      append-refused (sizeQuestions one (rosterOf m) (linesOf m (o .account)) o)
+      (positionQuestions one (rosterOf m) (linesOf m (o .account)) after (balancesOf m (o .account)) o)
+
+-- ---- 21 to 24
+module _ (m : List ℕ) (cells : List ℕ) (o : Order) (z : ℤ) (n : ℕ) (s : Sizable m o n) (more : z ≡ pos n)
+    (g : Sums cells (openOrders m)) where
+  account : Numbered 16 (o .account)
+  account = (s .on .account .0, omega (arith, s .on .account .1, sound-readable m (s .on .held) .accounts))
+
+  own : (length (cellsOf cells (o .account)) ≡ 65) × Gathered (cellsOf cells (o .account)) 0 (openOrders m) (o .account)
+  own = gathered-of cells (o .account) (openOrders m) g account
+
+  pub event-bounds : EventBounds (cellsOf cells (o .account)) (balancesPart m (o .account)) (rosterPart m) o z
+  event-bounds =
+      let all = group-bounds m (s .on .held) (o .account) (s .on .account) in
+      record {
+        positions = record {
+          size = own .0;
+          unfilled =
+              cells-small (cellsOf cells (o .account)) (openOrders m) (o .account) (own .1)
+              (λ side i. omega (arith, unfilled-small m (s .on .held) side (o .account) i));
+          balances-small = all .balances-small;
+          roster-small = all .roster-small;
+        };
+        instrument = rw (instruments-same m) (s .on .instrument);
+        small = omega (arith, s .small, ap natAbs more);
+      }
+
+  -- x is the answer about the desk's parts and the cells
+  pub by-parts : (x : ℕ) (line groupLine : List ℕ) →
+      HoldsLine line (lineInForce (rosterOf m) (linesOf m (o .account)) (o .instrument)) →
+      HoldsGroupLine groupLine (linesOf m (o .account) .lineOfGroup (groupOfInstrument (rosterOf m) (o .instrument))) →
+      (let r = rosterIn (rosterPart m) in
+      (ls : Lines) (k : ℕ) (before after : List Order) → z ≡ pos k →
+      Gathered (cellsOf cells (o .account)) 0 before (o .account) →
+      InForce r ls o line → OfGroup r ls o groupLine → Raised k o before after →
+      x ≡ firstNo (positionQuestions one r ls after (balancesIn (balancesPart m (o .account))) o)) →
+      (after : List Order) → Raised n o (openOrders m) after →
+      x ≡ firstNo (positionQuestions one (rosterOf m) (linesOf m (o .account)) after (balancesOf m (o .account)) o)
+  by-parts x line groupLine holds-line holds-group answer after raised =
+      let on = s .on in
+      let ls = linesOf m (o .account) in
+      let r = rosterIn (rosterPart m) in
+      let contract = contract-same m (o .instrument) (on .instrument) in
+      answer ls n (openOrders m) after
+      more
+      (own .1)
+      (rw (← same-in-force ls o (rosterOf m) r contract) (holds-line .line (both-set m o (s .set) .0)))
+      (rw (← group-same m (on .held) (o .instrument) (on .instrument)) (holds-group .line (both-set m o (s .set) .1)))
+      raised
+      ∙ ap firstNo (sym (same-questions ls o (rosterOf m) r contract one after (balancesOf m (o .account))
+      (balancesIn (balancesPart m (o .account))) (words-agree m (on .held) (o .account) (on .account)) (on .instrument)))

@@ -1,0 +1,40 @@
+-- The order that a NEW enters, and the one that a REPLACE raises: what it adds to the open orders, and that it is on the roster.
+use Prim.Native.Nat.{ℕ, _-_, _<_}
+use mathlib.Core.Path.{_≡_, refl}
+use mathlib.Core.List.{List, [], _∷_}
+use native.Mathlib.Omega.{arith}
+use Rattle.ledger.specs.declared.order.Order.{Order}
+use Rattle.ledger.specs.Orders.{remaining, replacedTotal}
+use Rattle.limits.specs.Raised.{Raised}
+use Rattle.limits.proofs.Raising.{raised-by-new, raised-by-replace}
+use Rattle.book.specs.OpenOrders.{insert, change}
+use Rattle.book.specs.Sound.{OrderFits}
+use Rattle.book.proofs.Cuts.{insert-sums, standing, standing-member, change-sums}
+use Rattle.memory_layout.specs.View.{rosterOf, openOrders, bookOf}
+use Rattle.memory_judging.specs.OrderQuestions.{OnRoster}
+use Rattle.memory_judging.specs.QuestionsLeft.{Replaceable}
+
+-- nothing of the order is filled: all of it is added
+pub entered-raises : (o : Order) (os : List Order) → o .filled ≡ 0 → Raised (o .total) o os (insert o os)
+unfolding remaining
+entered-raises o os e =
+    let whole : o .total - o .filled ≡ o .total = omega arith in
+    rw whole at (raised-by-new o os (insert o os) (insert-sums o os))
+
+module _ (m : List ℕ) (o : Order) (total : ℕ) (r : Replaceable m o total) where
+  open-fits : OrderFits (rosterOf m) o
+  unfolding bookOf
+  open-fits = r .held .book .fits o (standing-member (standing (o .id) (openOrders m) o (r .found)))
+
+  pub replaced-on : OnRoster m (replacedTotal o total)
+  unfolding replacedTotal
+  replaced-on = record { held = r .held; account = open-fits .account; instrument = open-fits .instrument }
+
+  -- the rise is added
+  pub replaced-raises : o .total < total
+      → Raised (total - o .total) (replacedTotal o total) (openOrders m) (change (o .id) (λ x. replacedTotal x total ∷ []) (openOrders m))
+  unfolding remaining
+  replaced-raises h =
+      let f : Order → List Order = λ x. replacedTotal x total ∷ [] in
+      raised-by-replace o (openOrders m) (change (o .id) f (openOrders m)) total (omega (arith, open-fits .remains)) (omega arith)
+      (change-sums (standing (o .id) (openOrders m) o (r .found)) f (replacedTotal o total) refl)

@@ -1,0 +1,62 @@
+-- Each change by its own questions, with its figure, which is in range, as a whole number.
+use mathlib.Core.Path.{_≡_, _∙_, sym, ap}
+use mathlib.Core.Bool.{true}
+use borrow.Author.Needs.{needs}
+use mir.Syntax.{w64}
+use mir.Val.{SFits}
+use mir.ValLaws.{toZ-ofZ}
+use Rattle.limits.specs.Questions.{firstNo}
+use Rattle.limits.specs.Answers.{numberOf}
+use Rattle.book.specs.declared.OrderChange.{OrderChange}
+use Rattle.book.specs.Table.{isQuantity, changeInRange}
+use Rattle.book.proofs.Tables.{quantity-numbered}
+use Rattle.memory_judging.specs.QuestionsLeft.{changeFrom12}
+use Rattle.memory_judging.proofs.HandedOn.{quantity-cast}
+use Rattle.memory_judging.proofs.changes.change_answer.Statement.{statement}
+use Rattle.memory_judging.proofs.changes.change_answer.Tie as tie
+
+replace-fits : (c : tie.After-known-told) → SFits w64 (c .before .change .given .0 .0)
+replace-fits c = record { sfits = c .known-told .given .0 .1 }
+
+replace-whole : (c : tie.After-known-told) → isQuantity (c .before .change .given .0 .0) ≡ true
+replace-whole c = sym (ap changeInRange (c .before .change .given .1)) ∙ c .before .before .before .before .before .pre .0 .figures
+
+fill-fits : (c : tie.After-known-told2) → SFits w64 (c .before .change2 .given .0 .0)
+fill-fits c = record { sfits = c .known-told2 .given .0 .1 }
+
+fill-whole : (c : tie.After-known-told2) → isQuantity (c .before .change2 .given .0 .0) ≡ true
+fill-whole c = sym (ap changeInRange (c .before .change2 .given .1)) ∙ c .before .before .before .before .before .pre .0 .figures
+
+replaced-requires : tie.Need-replaced-requires
+replaced-requires c κs =
+    let s = c .before .before .before .before .before in
+    let n = c .before .change .given .0 .0 in
+    rw (toZ-ofZ w64 n (replace-fits c))
+    (record { held = s .pre .0 .held; found = s .pre .0 .found; small = quantity-numbered n (replace-whole c) .1 }, s .pre .1)
+
+returns : tie.Need-returns
+unfolding changeFrom12
+returns c =
+    let told = c .before in
+    let a = told .before .before .before .before .before .args in
+    rw (toZ-ofZ w64 (told .before .change .given .0 .0) (replace-fits told)) at (c .replaced .ensures)
+    ∙ sym (ap (λ (x : OrderChange). firstNo (changeFrom12 (a .m .now) (a .o) x)) (told .before .change .given .1))
+
+returns-2 : tie.Need-returns-2
+unfolding changeFrom12 firstNo numberOf
+returns-2 c =
+    let a = c .before .before .before .before .args in
+    sym (ap (λ (x : OrderChange). firstNo (changeFrom12 (a .m .now) (a .o) x)) (c .enum-told .given .1))
+
+returns-3 : tie.Need-returns-3
+unfolding changeFrom12 firstNo
+returns-3 c =
+    let told = c .before in
+    let a = told .before .before .before .before .before .args in
+    rw (toZ-ofZ w64 (told .before .change2 .given .0 .0) (fill-fits told)) at (c .filled .ensures)
+    ∙ sym (ap (λ (x : OrderChange). firstNo (changeFrom12 (a .m .now) (a .o) x)) (told .before .change2 .given .1))
+
+pub change-answer-spec : {M : Type 1} → statement M
+change-answer-spec =
+    tie.close (tie.spec (λ c. search needs) (λ c. quantity-cast _ (replace-fits c) (replace-whole c)) replaced-requires (λ c. search needs)
+    (λ c. search needs) (λ c. quantity-cast _ (fill-fits c) (fill-whole c)) (λ c κs. search needs) returns returns-2 returns-3)

@@ -1,0 +1,26 @@
+-- The answer is 0 or 12 as the quantity is at most what remains of the order or not: the branch compares these two numbers.
+use Prim.Native.Nat.{ℕ}
+use mathlib.Core.Path.{sym, ap}
+use mathlib.Core.Bool.{Bool, cond}
+use native.Mathlib.Omega.{arith}
+use borrow.Author.Needs.{needs}
+use borrow.Author.Tests.{le-leb, lt-leb}
+use Rattle.ledger.specs.Orders.{remaining}
+use Rattle.limits.specs.Answers.{numberOf}
+use Rattle.memory_judging.proofs.changes.filled.Statement.{statement}
+use Rattle.memory_judging.proofs.changes.filled.Tie as tie
+
+returns : tie.Need-returns
+unfolding numberOf
+returns c =
+    let a = c .before .before .args in
+    sym (ap (λ (t : Bool). cond {A = ℕ} t 0 12) (le-leb (a .quantity) (remaining (a .o)) (omega (arith, c .before .remaining .ensures))))
+
+returns-2 : tie.Need-returns-2
+unfolding numberOf
+returns-2 c =
+    let a = c .before .before .args in
+    sym (ap (λ (t : Bool). cond {A = ℕ} t 0 12) (lt-leb (a .quantity) (remaining (a .o)) (omega (arith, c .before .remaining .ensures))))
+
+pub filled-spec : {M : Type 1} → statement M
+filled-spec = tie.close (tie.spec (λ c κs. search needs) returns returns-2)

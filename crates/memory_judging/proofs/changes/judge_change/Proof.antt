@@ -1,0 +1,66 @@
+-- 9, then 11 by the search, then the rest asked of the order loaded from the place that the search found.
+use mathlib.Core.Path.{_≡_, sym, _∙_}
+use mathlib.Core.Bool.{true}
+use native.Mathlib.Omega.{arith}
+use borrow.Author.Needs.{needs}
+use Rattle.ledger.specs.declared.find.Found.the-variants.{At}
+use Rattle.ledger.specs.Orders.{placeFrom}
+use Rattle.limits.specs.declared.answer.Answer.the-variants.{FigureOutOfRange, OrderNotFound}
+use Rattle.limits.specs.Answers.{numberOf}
+use Rattle.book.specs.Table.{changeInRange}
+use Rattle.memory_layout.specs.View.{openOrders}
+use Rattle.memory_soundness.proofs.Asked.{answered-no, answered-yes}
+use Rattle.memory_soundness.proofs.SoundDesk.{sound-records}
+use Rattle.memory_judging.proofs.Verdicts.{refused}
+use Rattle.memory_judging.proofs.ByKind.{change-figure, change-none, change-found}
+use Rattle.memory_judging.proofs.Places.{sound-ranked, found-order, order-named, place-small, no-order}
+use Rattle.memory_judging.proofs.changes.judge_change.Statement.{statement}
+use Rattle.memory_judging.proofs.changes.judge_change.Tie as tie
+
+whole : (c : tie.Else1) → changeInRange (c .before .before .before .before .args .change) ≡ true
+whole c = answered-yes _ _ (c .before .change-in-range .ensures) (c .if1 .left)
+
+found : (c : tie.After-p)
+    → let a = c .before .before .before .before .before .before .before .args in
+    placeFrom 0 (a .id) (openOrders (a .m .now)) ≡ At (c .p .given .0 .0)
+found c = sym (c .before .before .find-order .ensures) ∙ c .p .given .1
+
+returns : tie.Need-returns
+unfolding numberOf
+returns c =
+    refused FigureOutOfRange (c .plain .ensures) (change-figure _ _ _
+    (answered-no _ _ (c .before .before .change-in-range .ensures) (c .before .if1 .taken))) (omega arith)
+
+load-order-requires : tie.Need-load-order-requires
+load-order-requires c κs =
+    let s = c .before .before .before .before .before .before .before .before in
+    (sound-records _ (s .pre .0), place-small _ _ (s .pre .0) _ (found (c .before)))
+
+change-answer-requires : tie.Need-change-answer-requires
+change-answer-requires c κs =
+    let p = c .before .before in
+    let one = p .before .before .before in
+    let s = one .before .before .before .before in
+    (rw (c .load-order .ensures) (record { held = s .pre .0; found = order-named _ _ _ (found p); figures = whole one }), s .pre .1)
+
+returns-2 : tie.Need-returns-2
+returns-2 c =
+    let p = c .before .before .before in
+    let one = p .before .before .before in (
+      rw (c .before .load-order .ensures) at (c .change-answer .ensures)
+          ∙ sym (change-found _ _ _ _ (whole one) (found-order _ _ _ (found p))),
+      λ z. (found p, c .before .load-order .ensures),
+    )
+
+returns-3 : tie.Need-returns-3
+unfolding numberOf
+returns-3 c =
+    let find = c .before .before .before in
+    refused OrderNotFound (c .plain2 .ensures) (change-none _ _ _ (whole (find .before))
+    (no-order _ _ (sym (find .find-order .ensures) ∙ c .before .enum-told .given .1))) (omega arith)
+
+pub judge-change-spec : {M : Type 1} → statement M
+judge-change-spec =
+    tie.close (tie.spec (λ c κs. search needs) (λ c κs. search needs) returns
+    (λ c κs. sound-ranked _ (c .before .before .before .before .pre .0)) (λ c. search needs) load-order-requires
+    change-answer-requires (λ c. search needs) (λ c κs. search needs) returns-2 returns-3)

@@ -1,0 +1,54 @@
+-- A REPLACE that raises an order is asked 14 to 17 of the replaced order, and where they pass 19 to 24 with the rise added.
+use mathlib.Core.Path.{_≡_, sym, _∙_}
+use native.Mathlib.Omega.{arith}
+use borrow.Author.Needs.{needs}
+use Rattle.ledger.specs.Orders.{replacedTotal}
+use Rattle.limits.specs.Questions.{firstNo}
+use Rattle.limits.specs.Answers.{numberOf}
+use Rattle.memory_judging.specs.OrderQuestions.{admission, OnRoster}
+use Rattle.memory_judging.specs.QuestionsLeft.{raisedFrom14}
+use Rattle.memory_judging.proofs.QuestionsInOrder.{first-refuses, then-second, limits-set}
+use Rattle.memory_judging.proofs.Rises.{replaced-on, replaced-raises}
+use Rattle.memory_judging.proofs.changes.raised.Statement.{statement}
+use Rattle.memory_judging.proofs.changes.raised.Tie as tie
+
+after-on : (c : tie.After-replaced-total) → let a = c .before .before .before .args in OnRoster (a .m .now) (c .replaced-total .result)
+after-on c = rw (c .replaced-total .ensures) (replaced-on _ _ _ (c .before .before .before .pre .0))
+
+asked : (c : tie.After-admitted) → let a =
+    c .before .before .before .before .before .args in
+    numberOf (c .admitted .result) ≡ firstNo (admission (a .m .now) (replacedTotal (a .o) (a .total)))
+asked c = rw (c .before .before .replaced-total .ensures) at (c .admitted .ensures)
+
+within-limits-requires : tie.Need-within-limits-requires
+unfolding replacedTotal
+within-limits-requires c κs =
+    let at = c .before .before in
+    let total = at .before .before in
+    let s = total .before .before .before in (
+      rw (total .replaced-total .ensures) (record {
+        on = replaced-on _ _ _ (s .pre .0);
+        set = limits-set _ _ _ (asked at) (c .enum-told .given .1);
+        total = s .pre .0 .small;
+        small = omega (arith, s .pre .0 .small);
+      }),
+      s .pre .2,
+      at .before .underlying-of .ensures,
+    )
+
+returns : tie.Need-returns
+unfolding raisedFrom14
+returns c =
+    let at = c .before .before .before in
+    let s = at .before .before .before .before .before in
+    (rw (at .before .before .replaced-total .ensures) at (c .within-limits .ensures)) _ (replaced-raises _ _ _ (s .pre .0) (s .pre .1))
+    ∙ sym (then-second _ _ _ (asked at) (c .before .enum-told .given .1) _)
+
+returns-2 : tie.Need-returns-2
+unfolding raisedFrom14
+returns-2 c = first-refuses _ _ _ (asked (c .before)) (c .match .keys2) _
+
+pub raised-spec : {M : Type 1} → statement M
+raised-spec =
+    tie.close (tie.spec (λ c κs. search needs) (λ c κs. after-on c) (λ c κs. (after-on (c .before), c .underlying-of .ensures))
+    (λ c. search needs) (λ c. search needs) within-limits-requires returns returns-2)

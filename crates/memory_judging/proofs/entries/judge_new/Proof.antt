@@ -1,0 +1,102 @@
+-- 7, 8 and 9 in turn, then `new_order` on an order that they put on the roster, with the id's rank as the place where it joins.
+use mathlib.Core.Path.{_≡_, refl, sym, _∙_}
+use mathlib.Core.Bool.{true, false}
+use native.Mathlib.Omega.{arith}
+use borrow.Author.Needs.{needs}
+use mir.Syntax.{w64}
+use mir.ValLaws.{toZ-ofZ}
+use Rattle.limits.specs.declared.answer.Answer.the-variants.{UnknownAccount, UnknownItem, FigureOutOfRange}
+use Rattle.limits.specs.Answers.{numberOf}
+use Rattle.book.specs.Books.{newOrder}
+use Rattle.book.specs.Decoding.{between}
+use Rattle.book.specs.Table.{isQuantity}
+use Rattle.book.proofs.Tables.{between-numbered, quantity-numbered}
+use Rattle.memory_layout.specs.View.{rosterOf}
+use Rattle.memory_soundness.proofs.Asked.{answered-no, answered-yes}
+use Rattle.memory_judging.proofs.HandedOn.{test-handed-on, quantity-cast}
+use Rattle.memory_judging.proofs.Verdicts.{refused}
+use Rattle.memory_judging.proofs.ByKind.{new-answer}
+use Rattle.memory_judging.proofs.Places.{sound-ranked}
+use Rattle.memory_judging.proofs.entries.judge_new.Statement.{statement}
+use Rattle.memory_judging.proofs.entries.judge_new.Tie as tie
+
+known : (c : tie.Else1) → let a = c .before .before .before .before .args in between 1 (rosterOf (a .m .now) .accounts) (a .account) ≡ true
+known c = answered-yes _ _ (c .before .account-known .ensures) (c .if1 .left)
+
+listed : (c : tie.Else2) → let a = c .before .before .before .before .before .before .args in
+    between 1 (rosterOf (a .m .now) .instruments) (a .instrument) ≡ true
+listed c = answered-yes _ _ (c .before .instrument-known .ensures) (c .if2 .left)
+
+whole : (c : tie.Else3) → isQuantity (c .before .before .before .before .before .before .before .before .args .quantity) ≡ true
+whole c =
+    let s = c .before .before .before .before .before .before .before .before in
+    answered-yes _ _ (test-handed-on isQuantity (s .fits .quantity) (c .before .is-quantity .ensures)) (c .if3 .left)
+
+returns : tie.Need-returns
+unfolding numberOf
+returns c =
+    let asked = c .before in
+    refused UnknownAccount (c .plain .ensures) (new-answer _ _ _ _ _ _ false _ _
+    (answered-no _ _ (asked .before .account-known .ensures) (asked .if1 .taken)) refl refl) (omega arith)
+
+returns-2 : tie.Need-returns-2
+unfolding numberOf
+returns-2 c =
+    let asked = c .before in
+    refused UnknownItem (c .plain2 .ensures) (new-answer _ _ _ _ _ _ true false _ (known (asked .before .before))
+    (answered-no _ _ (asked .before .instrument-known .ensures) (asked .if2 .taken)) refl) (omega arith)
+
+returns-3 : tie.Need-returns-3
+unfolding numberOf
+returns-3 c =
+    let asked = c .before in
+    let two = asked .before .before in
+    let s = two .before .before .before .before .before .before in
+    refused FigureOutOfRange (c .plain3 .ensures)
+    (new-answer _ _ _ _ _ _ true true false (known (two .before .before)) (listed two)
+    (answered-no _ _ (test-handed-on isQuantity (s .fits .quantity) (asked .before .is-quantity .ensures)) (asked .if3 .taken)))
+    (omega arith)
+
+cast-t15 : tie.Need-cast-t15
+cast-t15 c = quantity-cast _ (c .before .before .before .before .before .before .before .before .fits .quantity) (whole c)
+
+place-requires : tie.Need-place-requires
+place-requires c κs = sound-ranked _ (c .before .before .before .before .before .before .before .before .pre .0)
+
+new-order-requires : tie.Need-new-order-requires
+new-order-requires c κs =
+    let three = c .before in
+    let two = three .before .before in
+    let one = two .before .before in
+    let s = one .before .before .before .before in
+    let a = s .args in
+    let r = rosterOf (a .m .now) in (
+      record {
+        on = record {
+          held = s .pre .0;
+          account = between-numbered (r .accounts) (a .account) (known one);
+          instrument = between-numbered (r .instruments) (a .instrument) (listed two);
+        };
+        small = rw (toZ-ofZ w64 (a .quantity) (s .fits .quantity)) (quantity-numbered (a .quantity) (whole three) .1);
+        unfilled = refl;
+      },
+      s .pre .1,
+      c .place .ensures,
+    )
+
+returns-4 : tie.Need-returns-4
+unfolding newOrder
+returns-4 c =
+    let three = c .before .before in
+    let two = three .before .before in
+    let one = two .before .before in
+    let s = one .before .before .before .before in (
+      rw (toZ-ofZ w64 (s .args .quantity) (s .fits .quantity)) at (c .new-order .ensures)
+          ∙ sym (new-answer _ _ _ _ _ _ true true true (known one) (listed two) (whole three)),
+      λ z. (c .before .place .ensures, rw (toZ-ofZ w64 (s .args .quantity) (s .fits .quantity))),
+    )
+
+pub judge-new-spec : {M : Type 1} → statement M
+judge-new-spec =
+    tie.close (tie.spec (λ c κs. search needs) (λ c κs. search needs) returns (λ c κs. search needs) (λ c κs. search needs) returns-2
+    (λ c κs. search needs) (λ c κs. search needs) returns-3 cast-t15 place-requires new-order-requires returns-4)

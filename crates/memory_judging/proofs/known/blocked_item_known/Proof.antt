@@ -1,0 +1,15 @@
+-- A block of an instrument or of a group asks for that item on the roster; a block of an account names none, and passes.
+use borrow.Author.Needs.{needs}
+use Rattle.memory_judging.proofs.known.blocked_item_known.Statement.{statement}
+use Rattle.memory_judging.proofs.known.blocked_item_known.Tie as tie
+
+returns-2 : tie.Need-returns-2
+returns-2 c = cc
+
+returns-3 : tie.Need-returns-3
+returns-3 c = cc
+
+pub blocked-item-known-spec : {M : Type 1} → statement M
+blocked-item-known-spec =
+    tie.close (tie.spec (λ c. search needs) (λ c. search needs) (λ c κs. search needs) (λ c. search needs) (λ c κs. search needs)
+    (λ c. search needs) returns-2 returns-3)

@@ -1,0 +1,79 @@
+-- BALANCE is asked 7, 8, 9 and 10: each return is the first that fails; 10 reads the mark of an account that 7 has found known.
+use mathlib.Core.Path.{_≡_, refl, sym, _∙_}
+use mathlib.Core.Bool.{Bool, true, false, not, cond}
+use borrow.Author.Needs.{needs}
+use lib.IntN.{pos, negsuc}
+use Rattle.book.specs.declared.Event.the-variants.{Balance}
+use Rattle.limits.specs.Answers.{numberOf}
+use Rattle.book.specs.Decoding.{between}
+use Rattle.book.specs.Table.{betweenℤ}
+use Rattle.book.proofs.Tables.{between-numbered}
+use Rattle.memory_layout.specs.View.{rosterOf, tradingOf}
+use Rattle.memory_layout.specs.Judged.{judged}
+use Rattle.memory_soundness.proofs.Bounded.{sound-readable}
+use Rattle.memory_soundness.proofs.Asked.{answered-no, answered-yes}
+use Rattle.memory_judging.proofs.HandedOn.{test-handed-on}
+use Rattle.memory_judging.proofs.ByKind.{balance-answer}
+use Rattle.memory_judging.proofs.settings.judge_balance.Statement.{statement}
+use Rattle.memory_judging.proofs.settings.judge_balance.Tie as tie
+
+-- the three tests before the mark's
+known : (c : tie.Else1) → let a = c .before .before .before .args in between 1 (rosterOf (a .m .now) .accounts) (a .account) ≡ true
+known c = answered-yes _ _ (c .before .account-known .ensures) (c .if1 .left)
+
+listed : (c : tie.Else2) → let a = c .before .before .before .before .before .args in
+    between 1 (rosterOf (a .m .now) .instruments) (a .instrument) ≡ true
+listed c = answered-yes _ _ (c .before .instrument-known .ensures) (c .if2 .left)
+
+in-range : (c : tie.Else3) → let a = c .before .before .before .before .before .before .before .args in
+    betweenℤ (negsuc 999999999) (pos 1000000000) (a .balance) ≡ true
+in-range c =
+    let s = c .before .before .before .before .before .before .before in
+    answered-yes _ _ (test-handed-on (betweenℤ (negsuc 999999999) (pos 1000000000)) (s .fits .balance) (c .before .in-range .ensures))
+    (c .if3 .left)
+
+returns : tie.Need-returns
+unfolding numberOf
+returns c = sym (balance-answer _ _ _ _ false _ _ _ (answered-no _ _ (c .before .account-known .ensures) (c .if1 .taken)) refl refl refl)
+
+returns-2 : tie.Need-returns-2
+unfolding numberOf
+returns-2 c =
+    sym (balance-answer _ _ _ _ true false _ _ (known (c .before .before))
+    (answered-no _ _ (c .before .instrument-known .ensures) (c .if2 .taken)) refl refl)
+
+returns-3 : tie.Need-returns-3
+unfolding numberOf
+returns-3 c =
+    let two = c .before .before in
+    let s = two .before .before .before .before .before in
+    sym (balance-answer _ _ _ _ true true false _ (known (two .before .before)) (listed two)
+    (answered-no _ _ (test-handed-on (betweenℤ (negsuc 999999999) (pos 1000000000)) (s .fits .balance) (c .before .in-range .ensures))
+    (c .if3 .taken)) refl)
+
+is-trading-requires : tie.Need-is-trading-requires
+is-trading-requires c κs =
+    let one = c .before .before .before .before in
+    let s = one .before .before .before in
+    (sound-readable _ (s .pre), between-numbered (rosterOf (s .args .m .now) .accounts) (s .args .account) (known one))
+
+-- the three tests are passed, and t says whether the account trades
+answered : (c : tie.After-is-trading) (t : Bool) → let a = c .before .before .before .before .before .before .before .before .args in
+    tradingOf (a .m .now) (a .account) ≡ t → judged (a .m .now) (Balance (a .account) (a .instrument) (a .balance)) ≡ cond (not t) 0 10
+answered c t e =
+    let three = c .before in
+    let two = three .before .before in
+    balance-answer _ _ _ _ true true true t (known (two .before .before)) (listed two) (in-range three) e
+
+returns-4 : tie.Need-returns-4
+unfolding numberOf
+returns-4 c = sym (answered (c .before) true (sym (c .before .is-trading .ensures) ∙ c .if4 .taken))
+
+returns-5 : tie.Need-returns-5
+unfolding numberOf
+returns-5 c = sym (answered (c .before) false (sym (c .before .is-trading .ensures) ∙ c .if4 .left))
+
+pub judge-balance-spec : {M : Type 1} → statement M
+judge-balance-spec =
+    tie.close (tie.spec (λ c κs. search needs) returns (λ c κs. search needs) returns-2 (λ c κs. search needs) returns-3 is-trading-requires
+    returns-4 returns-5)

@@ -1,0 +1,57 @@
+-- BLOCK is asked 7, 8 and 9 in this order: each return is the first of these tests that fails, or 0 where all pass.
+use mathlib.Core.Path.{_≡_, refl, sym}
+use mathlib.Core.Bool.{Bool, true, false, cond}
+use borrow.Author.Needs.{needs}
+use lib.IntN.{pos}
+use Rattle.book.specs.declared.Event.the-variants.{Block}
+use Rattle.limits.specs.Answers.{numberOf}
+use Rattle.book.specs.Table.{whereSome, isListed, betweenℤ}
+use Rattle.book.specs.Decoding.{between}
+use Rattle.book.specs.Names.{blockedAccount, blockedItem}
+use Rattle.memory_layout.specs.View.{rosterOf}
+use Rattle.memory_layout.specs.Judged.{judged}
+use Rattle.memory_soundness.proofs.Asked.{answered-no, answered-yes}
+use Rattle.memory_judging.proofs.HandedOn.{test-handed-on}
+use Rattle.memory_judging.proofs.ByKind.{block-answer}
+use Rattle.memory_judging.proofs.settings.judge_block.Statement.{statement}
+use Rattle.memory_judging.proofs.settings.judge_block.Tie as tie
+
+known : (c : tie.Else1)
+    → let a = c .before .before .before .args in
+    whereSome (between 1 (rosterOf (a .m .now) .accounts)) (blockedAccount (a .what)) ≡ true
+known c = answered-yes _ _ (c .before .blocked-account-known .ensures) (c .if1 .left)
+
+listed : (c : tie.Else2) → let a = c .before .before .before .before .before .args in
+    whereSome (isListed (rosterOf (a .m .now))) (blockedItem (a .what)) ≡ true
+listed c = answered-yes _ _ (c .before .blocked-item-known .ensures) (c .if2 .left)
+
+returns : tie.Need-returns
+unfolding numberOf
+returns c = sym (block-answer _ _ _ false _ _ (answered-no _ _ (c .before .blocked-account-known .ensures) (c .if1 .taken)) refl refl)
+
+returns-2 : tie.Need-returns-2
+unfolding numberOf
+returns-2 c =
+    let unlisted = answered-no _ _ (c .before .blocked-item-known .ensures) (c .if2 .taken) in
+    sym (block-answer _ _ _ true false _ (known (c .before .before)) unlisted refl)
+
+-- the account and the item are known, and z says whether the block's figure fits
+answered : (c : tie.After-in-range) (z : Bool) → let a = c .before .before .before .before .before .before .args in
+    betweenℤ (pos 0) (pos 1) (a .on) ≡ z → judged (a .m .now) (Block (a .what) (a .on)) ≡ cond z 0 9
+answered c z e = block-answer _ _ _ true true z (known (c .before .before .before)) (listed (c .before)) e
+
+fits : (c : tie.After-in-range) → let a = c .before .before .before .before .before .before .args in
+    c .in-range .result ≡ betweenℤ (pos 0) (pos 1) (a .on)
+fits c = test-handed-on (betweenℤ (pos 0) (pos 1)) (c .before .before .before .before .before .before .fits .on) (c .in-range .ensures)
+
+returns-3 : tie.Need-returns-3
+unfolding numberOf
+returns-3 c = sym (answered (c .before) false (answered-no _ _ (fits (c .before)) (c .if3 .taken)))
+
+returns-4 : tie.Need-returns-4
+unfolding numberOf
+returns-4 c = sym (answered (c .before) true (answered-yes _ _ (fits (c .before)) (c .if3 .left)))
+
+pub judge-block-spec : {M : Type 1} → statement M
+judge-block-spec =
+    tie.close (tie.spec (λ c κs. search needs) returns (λ c κs. search needs) returns-2 (λ c κs. search needs) returns-3 returns-4)

@@ -1,0 +1,50 @@
+-- LIMIT is asked 7, 8 and 9 in this order: each return is the first of these tests that fails, or 0 where all pass.
+use mathlib.Core.Path.{_≡_, refl, sym}
+use mathlib.Core.Bool.{Bool, true, false, cond}
+use borrow.Author.Needs.{needs}
+use Rattle.book.specs.declared.Event.the-variants.{Limit}
+use Rattle.book.specs.Market.{derivatives}
+use Rattle.limits.specs.Answers.{numberOf}
+use Rattle.book.specs.Decoding.{between}
+use Rattle.book.specs.Names.{limitedItem}
+use Rattle.book.specs.Table.{isListed, lineFits}
+use Rattle.memory_layout.specs.View.{rosterOf}
+use Rattle.memory_layout.specs.Judged.{judged}
+use Rattle.memory_soundness.proofs.Asked.{answered-no, answered-yes}
+use Rattle.memory_judging.proofs.ByKind.{limit-answer}
+use Rattle.memory_judging.proofs.settings.judge_limit.Statement.{statement}
+use Rattle.memory_judging.proofs.settings.judge_limit.Tie as tie
+
+known : (c : tie.Else1) → let a = c .before .before .before .args in between 1 (rosterOf (a .m .now) .accounts) (a .account) ≡ true
+known c = answered-yes _ _ (c .before .account-known .ensures) (c .if1 .left)
+
+listed : (c : tie.Else2) → let a = c .before .before .before .before .before .args in
+    isListed (rosterOf (a .m .now)) (limitedItem (a .line)) ≡ true
+listed c = answered-yes _ _ (c .before .line-known .ensures) (c .if2 .left)
+
+returns : tie.Need-returns
+unfolding numberOf
+returns c = sym (limit-answer _ _ _ false _ _ (answered-no _ _ (c .before .account-known .ensures) (c .if1 .taken)) refl refl)
+
+returns-2 : tie.Need-returns-2
+unfolding numberOf
+returns-2 c =
+    sym (limit-answer _ _ _ true false _ (known (c .before .before)) (answered-no _ _ (c .before .line-known .ensures) (c .if2 .taken))
+    refl)
+
+-- the two questions before the figures are passed, and z says whether those fit
+answered : (c : tie.After-limit-fits) (z : Bool) → let a = c .before .before .before .before .before .before .args in
+    lineFits derivatives (a .line) ≡ z → judged (a .m .now) (Limit (a .account) (a .line)) ≡ cond z 0 9
+answered c z e = limit-answer _ _ _ true true z (known (c .before .before .before)) (listed (c .before)) e
+
+returns-3 : tie.Need-returns-3
+unfolding numberOf
+returns-3 c = sym (answered (c .before) false (answered-no _ _ (c .before .limit-fits .ensures) (c .if3 .taken)))
+
+returns-4 : tie.Need-returns-4
+unfolding numberOf
+returns-4 c = sym (answered (c .before) true (answered-yes _ _ (c .before .limit-fits .ensures) (c .if3 .left)))
+
+pub judge-limit-spec : {M : Type 1} → statement M
+judge-limit-spec =
+    tie.close (tie.spec (λ c κs. search needs) returns (λ c κs. search needs) returns-2 (λ c κs. search needs) returns-3 returns-4)

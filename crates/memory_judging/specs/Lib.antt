@@ -1,0 +1,3 @@
+pub mod OrderQuestions
+pub mod OrderFields
+pub mod QuestionsLeft

@@ -1,0 +1,42 @@
+-- Questions 14 to 17 and 19 to 24 of an order that a NEW enters or a REPLACE raises, asked of a desk's memory.
+use Prim.Native.Nat.{ℕ, _≤_}
+use mathlib.Core.Path.{_≡_}
+use mathlib.Core.Bool.{true, not}
+use mathlib.Core.List.{List, [], _∷_, _++_}
+use Rattle.ledger.specs.declared.order.Order.{Order}
+use Rattle.ledger.specs.Roster.{Numbered, groupOfInstrument}
+use Rattle.limits.specs.Questions.{Question}
+use Rattle.limits.specs.Asked.{limitsSet, positionQuestions}
+use Rattle.limits.specs.Numbers.{sizeQuestions}
+use Rattle.book.specs.Market.{derivatives}
+use Rattle.book.specs.Table.{q}
+use Rattle.memory_layout.specs.View.{rosterOf, linesOf, blocksOf, balancesOf}
+use Rattle.memory_soundness.specs.SoundMemory.{SoundMemory}
+
+-- 14 to 17: account, instrument and group unblocked, limits set
+unfoldable pub admission : List ℕ → Order → List Question
+admission m o =
+    q 14 (not (blocksOf m .account (o .account)))
+    ∷ q 15 (not (blocksOf m .instrument (o .instrument)))
+    ∷ q 16 (not (blocksOf m .group (o .account) (groupOfInstrument (rosterOf m) (o .instrument))))
+    ∷ q 17 (limitsSet (rosterOf m) (linesOf m (o .account)) o)
+    ∷ []
+
+-- 19 to 24: the order's size, and the positions with the event applied, `after` being the open orders then
+unfoldable pub withinLimits : List ℕ → List Order → Order → List Question
+withinLimits m after o =
+    sizeQuestions (derivatives .unit) (rosterOf m) (linesOf m (o .account)) o
+    ++ positionQuestions (derivatives .unit) (rosterOf m) (linesOf m (o .account)) after (balancesOf m (o .account)) o
+
+-- an order of the roster, asked about at a sound desk
+pub record OnRoster (m : List ℕ) (o : Order) : Type 0 where
+  pub held : SoundMemory m
+  pub account : Numbered (rosterOf m .accounts) (o .account)
+  pub instrument : Numbered (rosterOf m .instruments) (o .instrument)
+
+-- with a line in force and a group line, a total in range and no more added than any total
+pub record Sizable (m : List ℕ) (o : Order) (added : ℕ) : Type 0 where
+  pub on : OnRoster m o
+  pub set : limitsSet (rosterOf m) (linesOf m (o .account)) o ≡ true
+  pub total : o .total ≤ 1000000
+  pub small : added ≤ 1000000

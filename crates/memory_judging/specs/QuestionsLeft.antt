@@ -1,0 +1,60 @@
+-- The questions that are left of a NEW and of a change of an open order, once those before them are answered yes.
+use Prim.Native.Nat.{ℕ, _≤_}
+use mathlib.Core.Path.{_≡_}
+use mathlib.Core.Bool.{true, not, cond}
+use mathlib.Core.List.{List, [], _∷_, _++_}
+use mathlib.Core.Option.{some}
+use lib.Dec.{leb, ltb}
+use lib.IntN.{natAbs}
+use lib.ListN.{length}
+use Rattle.ledger.specs.declared.order.Order.{Order}
+use Rattle.ledger.specs.Orders.{remaining, replacedTotal}
+use Rattle.limits.specs.Lines.{isSet}
+use Rattle.limits.specs.Questions.{Question}
+use Rattle.book.specs.declared.OrderChange.{OrderChange}
+use Rattle.book.specs.declared.OrderChange.the-variants.{Replace, Cancel, Fill}
+use Rattle.book.specs.OpenOrders.{find, insert, change}
+use Rattle.book.specs.Table.{q, changeInRange}
+use Rattle.memory_layout.specs.View.{openOrders}
+use Rattle.memory_soundness.specs.SoundMemory.{SoundMemory}
+use Rattle.memory_judging.specs.OrderQuestions.{admission, withinLimits, OnRoster}
+
+-- ---- of a NEW of order o: 18 to 24, and 13 to 24
+unfoldable pub newFrom18 : List ℕ → Order → List Question
+newFrom18 m o = q 18 (ltb (length (openOrders m)) 256) ∷ withinLimits m (insert o (openOrders m)) o
+
+unfoldable pub newFrom13 : List ℕ → Order → List Question
+newFrom13 m o = q 13 (not (isSet (find (o .id) (openOrders m)))) ∷ (admission m o ++ newFrom18 m o)
+
+-- its order: nothing of it is filled
+pub record Fresh (m : List ℕ) (o : Order) : Type 0 where
+  pub on : OnRoster m o
+  pub small : o .total ≤ 1000000
+  pub unfilled : o .filled ≡ 0
+
+-- ---- of a REPLACE of order o to a new total: 14 to 24 where it rises, and 12 to 24
+unfoldable pub raisedFrom14 : List ℕ → Order → ℕ → List Question
+raisedFrom14 m o total =
+    admission m (replacedTotal o total)
+    ++ withinLimits m (change (o .id) (λ x. replacedTotal x total ∷ []) (openOrders m)) (replacedTotal o total)
+
+unfoldable pub replaceFrom12 : List ℕ → Order → ℕ → List Question
+replaceFrom12 m o total = q 12 (ltb (o .filled) total) ∷ cond (ltb (o .total) total) (raisedFrom14 m o total) []
+
+-- its order is open, at a sound desk
+pub record Replaceable (m : List ℕ) (o : Order) (total : ℕ) : Type 0 where
+  pub held : SoundMemory m
+  pub found : find (o .id) (openOrders m) ≡ some o
+  pub small : total ≤ 1000000
+
+-- ---- of a change of order o: 12 to 24
+unfoldable pub changeFrom12 : List ℕ → Order → OrderChange → List Question
+changeFrom12 m o (Replace n) = replaceFrom12 m o (natAbs n)
+changeFrom12 m o Cancel = []
+changeFrom12 m o (Fill n) = q 12 (leb (natAbs n) (remaining o)) ∷ []
+
+-- its order is open, at a sound desk, and its figure in range
+pub record Changeable (m : List ℕ) (o : Order) (c : OrderChange) : Type 0 where
+  pub held : SoundMemory m
+  pub found : find (o .id) (openOrders m) ≡ some o
+  pub figures : changeInRange c ≡ true

@@ -1,0 +1,100 @@
+// The judge of REPLACE, CANCEL and FILL. The cells hold B and V of all accounts.
+ghost use mathlib.Core.Path.{_≡_};
+ghost use mathlib.Core.Bool.{cond};
+ghost use Prim.Native.Nat.{_<_};
+ghost use lib.Dec.{leb};
+ghost use Rattle.ledger.specs.Orders.{remaining};
+ghost use Rattle.limits.specs.Questions.{firstNo};
+ghost use Rattle.limits.specs.Answers.{numberOf};
+ghost use Rattle.book.specs.declared.Event.the-variants.{Change};
+ghost use Rattle.memory_layout.specs.View.{openOrders};
+ghost use Rattle.memory_layout.specs.Judged.{judged, NamedAt};
+ghost use Rattle.memory_soundness.specs.Cells.{Sums};
+ghost use Rattle.memory_soundness.specs.SoundMemory.{SoundMemory};
+ghost use Rattle.memory_judging.specs.QuestionsLeft.{raisedFrom14, replaceFrom12, Replaceable, changeFrom12, Changeable};
+use crate::Verdict;
+use crate::plain;
+use crate::ranges::change_in_range;
+use book::OrderChange;
+use memory_layout::orders::load_order;
+use memory_layout::search::find_order;
+use ledger::find::Found;
+use ledger::order::Order;
+use limits::answer::Answer;
+use crate::order_checks::admitted;
+use crate::order_checks::underlying_of;
+use crate::order_checks::within_limits;
+
+// 14 to 24 of a REPLACE that raises order `o` to `total`.
+fn raised(m: &[u8], cells: &[u64], o: Order, total: u64) -> Answer
+    requires { ⌜ Replaceable (now m) o total × (o .total < total) × Sums (now cells) (openOrders (now m)) ⌝ }
+    ensures { λ r. ⌜ numberOf r ≡ firstNo (raisedFrom14 (now (m .entry)) o total) ⌝ }
+{
+    let before = o.total;
+    let after = o.replaced_total(total);
+    let under = underlying_of(m, after);
+    match admitted(m, after, under) {
+        Answer::Accepted => within_limits(m, cells, after, total - before, under),
+        no => no,
+    }
+}
+
+// 12 to 24 of a REPLACE of order `o`.
+fn replaced(m: &[u8], cells: &[u64], o: Order, total: u64) -> Answer
+    requires { ⌜ Replaceable (now m) o total × Sums (now cells) (openOrders (now m)) ⌝ }
+    ensures { λ r. ⌜ numberOf r ≡ firstNo (replaceFrom12 (now (m .entry)) o total) ⌝ }
+{
+    if total <= o.filled {
+        return Answer::QuantityOutOfRange;
+    }
+    if total <= o.total {
+        return Answer::Accepted;
+    }
+    raised(m, cells, o, total)
+}
+
+// 12 of a FILL of order `o`.
+fn filled(o: Order, quantity: u64) -> Answer
+    ensures { λ r. ⌜ numberOf r ≡ cond (leb quantity (remaining o)) 0 12 ⌝ }
+{
+    if quantity <= o.remaining() {
+        Answer::Accepted
+    } else {
+        Answer::QuantityOutOfRange
+    }
+}
+
+// 12 to 24 of a change of order `o`.
+fn change_answer(m: &[u8], cells: &[u64], o: Order, change: OrderChange) -> Answer
+    requires { ⌜ Changeable (now m) o change × Sums (now cells) (openOrders (now m)) ⌝ }
+    ensures { λ r. ⌜ numberOf r ≡ firstNo (changeFrom12 (now (m .entry)) o change) ⌝ }
+{
+    match change {
+        OrderChange::Replace { total } => replaced(m, cells, o, total as u64),
+        OrderChange::Cancel => Answer::Accepted,
+        OrderChange::Fill { quantity } => filled(o, quantity as u64),
+    }
+}
+
+// REPLACE, CANCEL and FILL: questions 9, 11, 12 and, of a REPLACE that raises, 14 to 24. The order is found and loaded once.
+pub fn judge_change(m: &[u8], cells: &[u64], id: u64, change: OrderChange) -> Verdict
+    requires { ⌜ SoundMemory (now m) × Sums (now cells) (openOrders (now m)) ⌝ }
+    ensures answer { λ r. ⌜ numberOf (r .answer) ≡ judged (now (m .entry)) (Change id change) ⌝ }
+    ensures named { λ r. ⌜ (judged (now (m .entry)) (Change id change) ≡ 0
+        → NamedAt (now (m .entry)) (Change id change) (r .place) (r .order)) ⌝ }
+{
+    if !change_in_range(change) {
+        return plain(Answer::FigureOutOfRange);
+    }
+    match find_order(m, id) {
+        Found::At(p) => {
+            let o = load_order(m, p);
+            Verdict {
+                answer: change_answer(m, cells, o, change),
+                place: p,
+                order: o,
+            }
+        }
+        Found::Nothing => plain(Answer::OrderNotFound),
+    }
+}

@@ -1,0 +1,84 @@
+-- A test of every number from 1 to n, number by number.
+use Prim.Native.Nat.{ℕ, zero, suc, _+_, _≤_, _<_}
+use mathlib.Core.Path.{_≡_, refl, sym, _∙_}
+use mathlib.Core.Bool.{Bool, true, false, not, _&&_}
+use native.Mathlib.Decide.{ℕ-discrete}
+use native.Mathlib.Numerals.{add-one}
+use native.Mathlib.Omega.{arith}
+use borrow.Author.Tests.{not-true, not-false}
+use Rattle.ledger.specs.Roster.{Numbered}
+use Rattle.limits.proofs.Answers.{both-true, and-true}
+use Rattle.memory_layout.specs.Rosters.{every}
+
+and-false : (b : Bool) → b && false ≡ false
+and-false true = refl
+and-false false = refl
+
+module _ (test : ℕ → Bool) where
+  pub every-none : every 0 test ≡ true
+  unfolding every
+  every-none = refl
+
+  pub every-out : (n : ℕ) → every n test ≡ true → (k : ℕ) → Numbered n k → test k ≡ true
+  unfolding every
+  every-out zero e k h = absurd (omega arith)
+  every-out (suc n) e k h =
+      let both = both-true (every n test) (test (suc n)) e in
+      by (ℕ-discrete k (suc n)) (both .1) (λ l. every-out n (both .0) k (h .0, l))
+    where
+      by : Dec (k ≡ suc n) → test (suc n) ≡ true → (k ≤ n → test k ≡ true) → test k ≡ true
+      by (yes same) here below = rw same here
+      by (no apart) here below = below (omega (arith, apart))
+
+  pub every-in : (n : ℕ) → ((k : ℕ) → Numbered n k → test k ≡ true) → every n test ≡ true
+  unfolding every
+  every-in zero h = refl
+  every-in (suc n) h =
+      and-true (every n test) (test (suc n)) (every-in n (λ k l. h k (l .0, omega arith))) (h (suc n) (omega arith, omega arith))
+
+  fails : (n k : ℕ) → k < n → test (suc k) ≡ false → every n test ≡ false
+  unfolding every
+  fails zero k h f = absurd (omega arith)
+  fails (suc n) k h f = by (ℕ-discrete k n) (λ l. fails n k l f)
+    where
+      by : Dec (k ≡ n) → (k < n → every n test ≡ false) → every n test && test (suc n) ≡ false
+      by (yes same) below = rw (← same, f, and-false)
+      by (no apart) below = rw (below (omega (arith, apart)))
+
+  -- ---- a loop that leaves at the first no: t is its answer at number j + 1
+  pub every-no : (n j : ℕ) (t : Bool) → j < n → t ≡ test (j + 1) → not t ≡ true → false ≡ every n test
+  every-no n j t h e f =
+      let here : test (j + 1) ≡ false = sym e ∙ not-true t f in
+      sym (fails n j h (rw add-one at here))
+
+  pub every-on : (j : ℕ) (t : Bool) → every j test ≡ true → t ≡ test (j + 1) → not t ≡ false → every (j + 1) test ≡ true
+  unfolding every
+  every-on j t was e on =
+      let here : test (j + 1) ≡ true = sym e ∙ not-false t on in
+      rw add-one (and-true (every j test) (test (suc j)) was (rw add-one at here))
+
+  pub every-all : (n j : ℕ) → j ≤ n → n ≤ j → every j test ≡ true → true ≡ every n test
+  every-all n j h l was =
+      let same : j ≡ n = omega arith in
+      sym (rw same at was)
+
+  -- ---- the same loop, by what holds before turn j
+  pub record SoFar (n j : ℕ) : Type 0 where
+    pub within : j ≤ n
+    pub yes : every j test ≡ true
+
+  pub so-far-none : (n : ℕ) → SoFar n 0
+  so-far-none n = record { within = omega arith; yes = every-none }
+
+  pub so-far-on : {n j : ℕ} (t : Bool) → SoFar n j → j < n → t ≡ test (j + 1) → not t ≡ false → SoFar n (j + 1)
+  so-far-on {n} {j} t was h e on = record { within = omega arith; yes = every-on j t (was .yes) e on }
+
+  pub so-far-all : {n j : ℕ} → SoFar n j → n ≤ j → true ≡ every n test
+  so-far-all {n} {j} was end = every-all n j (was .within) end (was .yes)
+
+-- tests that agree on the numbers from 1 to n
+pub every-same : (f g : ℕ → Bool) (n : ℕ) → ((k : ℕ) → Numbered n k → f k ≡ g k) → every n f ≡ every n g
+unfolding every
+every-same f g zero h = refl
+every-same f g (suc n) h =
+    rw (every-same f g n (λ k l. h k (l .0, omega arith)), h (suc n) (omega arith, omega arith))

@@ -1,0 +1,46 @@
+-- How many orders the lists have, and that a place is among them.
+use Prim.Native.Nat.{ℕ, zero, suc, _+_, _-_, _≤_, _<_}
+use mathlib.Core.Path.{_≡_, refl}
+use mathlib.Core.Bool.{Bool, true, false, cond}
+use mathlib.Core.List.{List, [], _∷_}
+use native.Mathlib.Omega.{arith}
+use lib.Dec.{ltb}
+use lib.ListN.{length}
+use Rattle.words.specs.Words.{wordAt}
+use Rattle.ledger.specs.declared.order.Order.{Order}
+use Rattle.book.specs.OpenOrders.{insert}
+use Rattle.memory_layout.specs.Layout.{countWord}
+use Rattle.memory_layout.specs.View.{recordsOf, openOrders}
+use Rattle.memory_layout.specs.Stores.{rank, without}
+use Rattle.memory_layout.proofs.Stored.{length-orders-from}
+
+pub length-insert : (o : Order) (os : List Order) → length (insert o os) ≡ length os + 1
+unfolding insert
+length-insert o [] = refl
+length-insert o (x ∷ os) = by (ltb (o .id) (x .id)) (length-insert o os)
+  where
+    by : (t : Bool) → length (insert o os) ≡ length os + 1 → length (cond t (o ∷ x ∷ os) (x ∷ insert o os)) ≡ suc (length os) + 1
+    by true e = omega arith
+    by false e = omega arith
+
+pub length-without : (p : ℕ) (os : List Order) → p < length os → length (without p os) ≡ length os - 1
+unfolding without
+length-without p [] h = absurd (omega arith)
+length-without zero (o ∷ os) h = omega arith
+length-without (suc p) (o ∷ os) h = omega (arith, length-without p os (omega arith))
+
+rank-within : (id : ℕ) (os : List Order) → rank id os ≤ length os
+unfolding rank
+rank-within id [] = omega arith
+rank-within id (o ∷ os) = by (ltb id (o .id)) (rank-within id os)
+  where
+    by : (t : Bool) → rank id os ≤ length os → cond t 0 (suc (rank id os)) ≤ suc (length os)
+    by true h = omega arith
+    by false h = omega arith
+
+pub length-open : (m : List ℕ) → length (openOrders m) ≡ wordAt m countWord
+unfolding openOrders
+length-open m = length-orders-from (recordsOf m) (wordAt m countWord) 0
+
+pub rank-open : (m : List ℕ) (id : ℕ) → rank id (openOrders m) ≤ wordAt m countWord
+rank-open m id = omega (arith, rank-within id (openOrders m), length-open m)

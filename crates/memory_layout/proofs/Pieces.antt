@@ -1,0 +1,62 @@
+-- A list of orders in records, cut at a place: with an order that joins there, leaves there, or becomes another there.
+use Prim.Native.Nat.{ℕ, zero, suc, _+_, _-_, _<_}
+use mathlib.Core.Path.{_≡_, refl, ap}
+use mathlib.Core.Bool.{Bool, true, false, cond}
+use mathlib.Core.List.{List, _∷_, _++_}
+use native.Mathlib.Omega.{arith}
+use lib.Dec.{ltb}
+use lib.ListN.{set}
+use Rattle.ledger.specs.declared.order.Order.{Order}
+use Rattle.ledger.specs.Records.{orderAt, ordersFrom}
+use Rattle.book.specs.OpenOrders.{insert}
+use Rattle.memory_layout.specs.Stores.{rank, without}
+
+module _ (s : List ℕ) (o : Order) where
+  -- the orders from record r on, with o at place p among those of n, q of which are behind it
+  abbrev with-at : ℕ → ℕ → ℕ → List Order
+  with-at r p q = ordersFrom s r p ++ (o ∷ ordersFrom s (r + p) q)
+
+  pub cut-insert : (n r : ℕ) → insert o (ordersFrom s r n) ≡ with-at r (rank (o .id) (ordersFrom s r n))
+      (n - rank (o .id) (ordersFrom s r n))
+  unfolding insert rank ordersFrom
+  cut-insert zero r = refl
+  cut-insert (suc n) r = by (ltb (o .id) (orderAt s r .id)) (cut-insert n (r + 1))
+    where
+      by : (t : Bool) → insert o (ordersFrom s (r + 1) n) ≡ with-at (r + 1) (rank (o .id) (ordersFrom s (r + 1) n))
+          (n - rank (o .id) (ordersFrom s (r + 1) n))
+          → cond t (o ∷ orderAt s r ∷ ordersFrom s (r + 1) n) (orderAt s r ∷ insert o (ordersFrom s (r + 1) n)) ≡ with-at r
+          (cond t 0 (suc (rank (o .id) (ordersFrom s (r + 1) n)))) (suc n - cond t 0 (suc (rank (o .id) (ordersFrom s (r + 1) n))))
+      by true later =
+          let e : r + 0 ≡ r = omega arith in
+          let f : suc n - 0 ≡ suc n = omega arith in
+          rw (e, f)
+      by false later =
+          let p : ℕ = rank (o .id) (ordersFrom s (r + 1) n) in
+          let e : r + suc p ≡ r + 1 + p = omega arith in
+          let f : suc n - suc p ≡ n - p = omega arith in
+          rw (e, f) (ap (λ l. orderAt s r ∷ l) later)
+
+  pub cut-set : (p n r : ℕ) → p < n → set (ordersFrom s r n) p o ≡ ordersFrom s r p ++ (o ∷ ordersFrom s (r + p + 1) (n - (p + 1)))
+  unfolding ordersFrom
+  cut-set p zero r h = absurd (omega arith)
+  cut-set zero (suc n) r h =
+      let e : r + 0 ≡ r = omega arith in
+      let f : suc n - (0 + 1) ≡ n = omega arith in
+      rw (e, f)
+  cut-set (suc p) (suc n) r h =
+      let e : r + suc p ≡ r + 1 + p = omega arith in
+      let f : suc n - (suc p + 1) ≡ n - (p + 1) = omega arith in
+      rw (e, f, cut-set p n (r + 1) (omega arith))
+
+pub cut-without : (s : List ℕ) (p n r : ℕ) → p < n
+    → without p (ordersFrom s r n) ≡ ordersFrom s r p ++ ordersFrom s (r + p + 1) (n - (p + 1))
+unfolding without ordersFrom
+cut-without s p zero r h = absurd (omega arith)
+cut-without s zero (suc n) r h =
+    let e : r + 0 ≡ r = omega arith in
+    let f : suc n - (0 + 1) ≡ n = omega arith in
+    rw (e, f)
+cut-without s (suc p) (suc n) r h =
+    let e : r + suc p ≡ r + 1 + p = omega arith in
+    let f : suc n - (suc p + 1) ≡ n - (p + 1) = omega arith in
+    rw (e, f, cut-without s p n (r + 1) (omega arith))

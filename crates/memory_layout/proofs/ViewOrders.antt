@@ -1,0 +1,67 @@
+-- Stored orders: the view's list is the book's, nothing else of the view changes, and the records can be worked on again.
+use Prim.Native.Nat.{ℕ, _+_, _≤_, _<_}
+use mathlib.Core.Path.{_≡_, _∙_, sym, ap}
+use mathlib.Core.List.{List, [], _∷_}
+use native.Mathlib.Omega.{arith}
+use lib.ListN.{length, set}
+use Rattle.words.specs.Words.{wordAt}
+use Rattle.ledger.specs.declared.order.Order.{Order}
+use Rattle.ledger.specs.declared.find.Found.the-variants.{At}
+use Rattle.ledger.specs.Orders.{placeFrom}
+use Rattle.book.specs.OpenOrders.{change}
+use Rattle.memory_layout.specs.Layout.{countWord}
+use Rattle.memory_layout.specs.View.{balancesOf, linesOf, blocksOf, rosterOf, openOrders, bookOf, tradingOf, view}
+use Rattle.memory_layout.specs.Stores.{orderIn, recordWord, storeFrom, SmallOrders, without}
+use Rattle.memory_layout.proofs.RosterLaws.{roster-same}
+use Rattle.memory_layout.proofs.GuardedTables.{same-view, stateOf}
+use Rattle.memory_layout.proofs.SameFields.{Same, InBounds, balances-same, lines-same, blocks-same, marks-same}
+use Rattle.memory_layout.proofs.Stored.{length-store, word-store, count-store, first-store, orders-store}
+use Rattle.memory_layout.proofs.BookLists.{leaving, becoming}
+
+-- ---- the view of stored orders
+module _ (m : List ℕ) (f : ℕ) (os : List Order) (held : InBounds m) (low : f ≤ 256) (few : length os ≤ 256) where
+  elsewhere : (from to : ℕ) → (from < 114 → 112 < to → ⊥) → to ≤ recordWord 0 → Same from to (storeFrom m f os) m
+  elsewhere from to apart below k above under =
+      word-store m f os low few k (λ e. apart (omega arith) (omega arith)) (λ e. apart (omega arith) (omega arith)) (λ a b. omega arith)
+
+  pub roster-orders : rosterOf (storeFrom m f os) ≡ rosterOf m
+  roster-orders =
+      roster-same (storeFrom m f os) m (held .sized) (elsewhere 1 77 (λ a b. omega arith) (omega arith))
+
+  pub bounds-orders : InBounds (storeFrom m f os)
+  bounds-orders =
+      record {
+        long = omega (arith, length-store m f os, held .long);
+        sized = rw roster-orders (held .sized);
+        count = omega (arith, count-store m f os low few (held .long));
+        first = omega (arith, first-store m f os low few (held .long));
+      }
+
+  pub view-orders : SmallOrders os → view (storeFrom m f os) ≡ stateOf (rosterOf m) (balancesOf m) (linesOf m) (blocksOf m) os (tradingOf m)
+  unfolding bookOf
+  view-orders small =
+      let l : List ℕ = storeFrom m f os in
+      same-view roster-orders
+      (balances-same l m held roster-orders (elsewhere 256 768 (λ a b. omega arith) (omega arith)))
+      (lines-same l m held roster-orders (elsewhere 768 1472 (λ a b. omega arith) (omega arith))
+      (elsewhere 1536 2880 (λ a b. omega arith) (omega arith)))
+      (blocks-same l m held roster-orders (elsewhere 144 256 (λ a b. omega arith) (omega arith)))
+      (orders-store m f os low few (held .long) small)
+      (marks-same l m held roster-orders (elsewhere 128 144 (λ a b. omega arith) (omega arith)))
+
+-- ---- the list is the book's: an order found by its id
+module _ (m : List ℕ) (id p : ℕ) (found : placeFrom 0 id (openOrders m) ≡ At p) (f : Order → List Order) where
+  from-zero : 0 + p ≡ p
+  from-zero = omega arith
+
+  -- CANCEL, and a FILL that leaves nothing
+  pub change-leaves : f (orderIn m p) ≡ [] → change id f (openOrders m) ≡ without p (openOrders m)
+  unfolding openOrders
+  change-leaves gone =
+      leaving m id f (wordAt m countWord) 0 p (found ∙ ap At (sym from-zero)) (ap (λ q. f (orderIn m q)) from-zero ∙ gone)
+
+  -- REPLACE, and any other FILL
+  pub change-becomes : (y : Order) → f (orderIn m p) ≡ y ∷ [] → change id f (openOrders m) ≡ set (openOrders m) p y
+  unfolding openOrders
+  change-becomes y new =
+      becoming m id f y (wordAt m countWord) 0 p (found ∙ ap At (sym from-zero)) (ap (λ q. f (orderIn m q)) from-zero ∙ new)

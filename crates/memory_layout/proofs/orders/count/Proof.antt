@@ -1,0 +1,12 @@
+-- The list has as many orders as the count says (`length-open`).
+use mathlib.Core.Path.{_∙_, sym}
+use borrow.Author.Needs.{needs}
+use Rattle.memory_layout.proofs.Lengths.{length-open}
+use Rattle.memory_layout.proofs.orders.count.Statement.{statement}
+use Rattle.memory_layout.proofs.orders.count.Tie as tie
+
+returns : tie.Need-returns
+returns c = c .word .ensures ∙ sym (length-open _)
+
+pub count-spec : {M : Type 1} → statement M
+count-spec = tie.close (tie.spec (λ c κs. search needs) returns)

@@ -1,0 +1,12 @@
+-- The word says it of an account on the roster (`account-flag`).
+use mathlib.Core.Path.{_∙_, sym}
+use borrow.Author.Needs.{needs}
+use Rattle.memory_layout.proofs.FieldsRead.{account-flag}
+use Rattle.memory_layout.proofs.readers.account_is_blocked.Statement.{statement}
+use Rattle.memory_layout.proofs.readers.account_is_blocked.Tie as tie
+
+returns : tie.Need-returns
+returns c = c .says-yes .ensures ∙ sym (account-flag _ _ (c .before .before .pre .1))
+
+pub account-is-blocked-spec : {M : Type 1} → statement M
+account-is-blocked-spec = tie.close (tie.spec (λ c. search needs) (λ c κs. search needs) returns)

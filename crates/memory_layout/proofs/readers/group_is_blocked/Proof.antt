@@ -1,0 +1,14 @@
+-- The word says it of an account and a group on the roster (`group-flag`).
+use mathlib.Core.Path.{_∙_, sym}
+use borrow.Author.Needs.{needs}
+use Rattle.memory_layout.proofs.FieldsRead.{group-flag}
+use Rattle.memory_layout.proofs.readers.group_is_blocked.Statement.{statement}
+use Rattle.memory_layout.proofs.readers.group_is_blocked.Tie as tie
+
+returns : tie.Need-returns
+returns c =
+    let s = c .before .before in
+    c .says-yes .ensures ∙ sym (group-flag _ _ (s .pre .1) _ (s .pre .2))
+
+pub group-is-blocked-spec : {M : Type 1} → statement M
+group-is-blocked-spec = tie.close (tie.spec (λ c. search needs) (λ c. search needs) (λ c. search needs) (λ c κs. search needs) returns)

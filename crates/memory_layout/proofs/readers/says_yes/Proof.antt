@@ -1,0 +1,10 @@
+-- A word that is not 0 says yes.
+use borrow.Author.Needs.{needs}
+use Rattle.memory_layout.proofs.readers.says_yes.Statement.{statement}
+use Rattle.memory_layout.proofs.readers.says_yes.Tie as tie
+
+returns : tie.Need-returns
+returns c = rw (c .word .ensures)
+
+pub says-yes-spec : {M : Type 1} → statement M
+says-yes-spec = tie.close (tie.spec (λ c κs. search needs) returns)

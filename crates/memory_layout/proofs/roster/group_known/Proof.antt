@@ -1,0 +1,11 @@
+-- The range ends with the number of groups that was read.
+use mathlib.Core.Path.{_∙_}
+use borrow.Author.Needs.{needs}
+use Rattle.memory_layout.proofs.roster.group_known.Statement.{statement}
+use Rattle.memory_layout.proofs.roster.group_known.Tie as tie
+
+returns : tie.Need-returns
+returns c = c .between .ensures ∙ rw (c .before .groups .ensures)
+
+pub group-known-spec : {M : Type 1} → statement M
+group-known-spec = tie.close (tie.spec (λ c κs. search needs) (λ c κs. search needs) returns)

@@ -1,0 +1,19 @@
+-- The part with the roster is 608 bytes long, and its number of groups is the view's.
+use mathlib.Core.Path.{_∙_}
+use native.Mathlib.Omega.{arith}
+use borrow.Author.Needs.{needs}
+use Rattle.memory_layout.specs.Rosters.{listed}
+use Rattle.memory_layout.specs.View.{rosterOf}
+use Rattle.memory_layout.proofs.RosterRead.{roster-long}
+use Rattle.memory_layout.proofs.roster.groups.Statement.{statement}
+use Rattle.memory_layout.proofs.roster.groups.Tie as tie
+
+groups-in-requires : tie.Need-groups-in-requires
+groups-in-requires c κs = rw (c .roster .ensures) (omega (arith, roster-long (c .before .before .args .m .now) (c .before .before .pre)))
+
+returns : tie.Need-returns
+unfolding rosterOf listed
+returns c = c .groups-in .ensures ∙ rw (c .before .roster .ensures)
+
+pub groups-spec : {M : Type 1} → statement M
+groups-spec = tie.close (tie.spec (λ c κs. search needs) groups-in-requires returns)

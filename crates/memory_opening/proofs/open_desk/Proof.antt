@@ -1,0 +1,66 @@
+-- Questions 1 to 4 in turn, each return being the first that fails with the memory untouched; past them the cleared words, the kind and
+-- the roster are what an accepted opening leaves (`accepted`).
+use mathlib.Core.Path.{_∙_, sym}
+use borrow.Author.Needs.{needs}
+use borrow.Author.Tests.{not-true, not-false}
+use Rattle.limits.specs.Answers.{numberOf}
+use Rattle.memory_opening.proofs.Answers.{too-short, wrong-sizes, unknown-name, weight-out, accepted}
+use Rattle.memory_opening.proofs.open_desk.Statement.{statement}
+use Rattle.memory_opening.proofs.open_desk.Tie as tie
+
+returns : tie.Need-returns
+unfolding numberOf
+returns c = too-short _ _ (c .if1 .taken)
+
+returns-2 : tie.Need-returns-2
+unfolding numberOf
+returns-2 c =
+    wrong-sizes _ _ (c .before .before .if1 .left) (sym (c .before .lengths-fit .ensures) ∙ not-true _ (c .if2 .taken))
+
+names-fit-requires : tie.Need-names-fit-requires
+names-fit-requires c κs = sym (c .before .lengths-fit .ensures) ∙ not-false _ (c .if2 .left)
+
+returns-3 : tie.Need-returns-3
+unfolding numberOf
+returns-3 c =
+    let two = c .before .before in
+    unknown-name _ _ (two .before .before .if1 .left) (sym (two .before .lengths-fit .ensures) ∙ not-false _ (two .if2 .left))
+    (sym (c .before .names-fit .ensures) ∙ not-true _ (c .if3 .taken))
+
+weights-fit-requires : tie.Need-weights-fit-requires
+weights-fit-requires c κs =
+    let two = c .before .before in
+    sym (two .before .lengths-fit .ensures) ∙ not-false _ (two .if2 .left)
+
+returns-4 : tie.Need-returns-4
+unfolding numberOf
+returns-4 c =
+    let three = c .before .before in
+    let two = three .before .before in
+    weight-out _ _ (two .before .before .if1 .left) (sym (two .before .lengths-fit .ensures) ∙ not-false _ (two .if2 .left))
+    (sym (three .before .names-fit .ensures) ∙ not-false _ (three .if3 .left))
+    (sym (c .before .weights-fit .ensures) ∙ not-true _ (c .if4 .taken))
+
+put-roster-requires : tie.Need-put-roster-requires
+put-roster-requires c κs =
+    let two = c .before .before .before .before .before .before .before .before .before .before .before .before .before in
+    (search needs, sym (two .before .lengths-fit .ensures) ∙ not-false _ (two .if2 .left))
+
+returns-5 : tie.Need-returns-5
+unfolding numberOf
+returns-5 c =
+    let put = c .before .before in
+    let set = put .before .before .before .before in
+    let bare = set .before .before .before .before in
+    let four = bare .before .before in
+    let three = four .before .before in
+    let two = three .before .before in
+    accepted _ _ (two .before .before .if1 .left) (sym (two .before .lengths-fit .ensures) ∙ not-false _ (two .if2 .left))
+    (sym (three .before .names-fit .ensures) ∙ not-false _ (three .if3 .left))
+    (sym (four .before .weights-fit .ensures) ∙ not-false _ (four .if4 .left))
+    _ _ _ (bare .clear .ensures) (set .set-word .ensures) (put .put-roster .ensures)
+
+pub open-desk-spec : {M : Type 1} → statement M
+open-desk-spec =
+    tie.close (tie.spec returns (λ c κs. search needs) returns-2 names-fit-requires returns-3 weights-fit-requires returns-4
+    (λ c κs. search needs) (λ c κs. search needs) put-roster-requires (λ c. search needs) returns-5)

@@ -1,0 +1,39 @@
+-- Contracts' groups first, then instruments' contracts: the bytes tested are the roster's names (`names-first`, `names-second`).
+use mathlib.Core.Path.{_∙_}
+use native.Mathlib.Omega.{arith}
+use borrow.Author.Needs.{needs}
+use borrow.Author.Tests.{not-true, not-false}
+use Rattle.memory_opening.proofs.Tests.{lengths-out, lengths-long, names-first, names-second}
+use Rattle.memory_opening.proofs.questions.names_fit.Statement.{statement}
+use Rattle.memory_opening.proofs.questions.names_fit.Tie as tie
+
+bytes-within-requires : tie.Need-bytes-within-requires
+bytes-within-requires c κs =
+    let sizes = lengths-out _ (c .before .before .before .pre) in
+    omega arith
+
+returns : tie.Need-returns
+returns c =
+    let read = c .before .before in
+    names-first _ _ _ _ (read .before .u16-at .ensures) (read .u16-at2 .ensures) (c .before .bytes-within .ensures)
+    (not-true _ (c .if1 .taken))
+
+bytes-within-requires-2 : tie.Need-bytes-within-requires-2
+bytes-within-requires-2 c κs =
+    let sizes = lengths-out _ (c .before .before .before .before .before .before .pre) in
+    omega arith
+
+returns-2 : tie.Need-returns-2
+returns-2 c =
+    let first = c .before .before in
+    let read = first .before .before in
+    c .bytes-within2 .ensures
+    ∙ names-second _ _ _ _ _ (read .before .u16-at .ensures) (read .u16-at2 .ensures) (c .before .u16-at3 .ensures)
+    (first .before .bytes-within .ensures) (not-false _ (first .if1 .left))
+
+pub names-fit-spec : {M : Type 1} → statement M
+names-fit-spec =
+    tie.close (tie.spec (λ c κs. omega (arith, lengths-long _ (c .before .pre))) (λ c. search needs)
+    (λ c κs. omega (arith, lengths-long _ (c .before .before .pre))) (λ c. search needs) bytes-within-requires returns (λ c. search needs)
+    (λ c κs. omega (arith, lengths-long _ (c .before .before .before .before .before .pre))) (λ c. search needs) bytes-within-requires-2
+    returns-2)

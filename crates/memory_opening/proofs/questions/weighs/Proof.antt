@@ -1,0 +1,23 @@
+-- Below −1,000,000 the magnitude is too large (`weight-low`); from there on the upper comparison decides (`weight-high`).
+use mathlib.Core.Path.{sym}
+use mir.Syntax.{w32}
+use mir.ValLaws.{toZ-ofZ}
+use Rattle.integers.specs.Parts.{signed}
+use Rattle.memory_opening.proofs.Tests.{weight-low, weight-high}
+use Rattle.memory_opening.proofs.questions.weighs.Statement.{statement}
+use Rattle.memory_opening.proofs.questions.weighs.Tie as tie
+
+returns : tie.Need-returns
+returns c =
+    let w = c .before .args .w in
+    let e = toZ-ofZ w32 w (c .before .fits .w) in
+    sym (weight-low w (omega (signed, e)))
+
+returns-2 : tie.Need-returns-2
+returns-2 c =
+    let w = c .before .args .w in
+    let e = toZ-ofZ w32 w (c .before .fits .w) in
+    simp e (weight-high w (omega (signed, e)))
+
+pub weighs-spec : {M : Type 1} → statement M
+weighs-spec = tie.close (tie.spec returns returns-2)

@@ -1,0 +1,39 @@
+-- After k turns the first k words are 0 (`cleared-more`); k ends at 8,192, all words of a desk.
+use Prim.Native.Nat.{_-_, _≤_}
+use mathlib.Core.Path.{_≡_, refl, _∙_, sym, ap}
+use native.Mathlib.Omega.{arith}
+use borrow.Author.Needs.{needs}
+use lib.ListN.{length}
+use Rattle.words.specs.Words.{putWord}
+use Rattle.memory_opening.specs.Opening.{cleared}
+use Rattle.memory_opening.proofs.Written.{cleared-none, cleared-more}
+use Rattle.memory_opening.proofs.writing.clear.Statement.{statement}
+use Rattle.memory_opening.proofs.writing.clear.Tie as tie
+
+abbrev Inv-loop : tie.InvT-loop
+Inv-loop m₀ k₀ m k = (k ≤ 8192) × (length m ≡ length m₀) × (m ≡ cleared m₀ k)
+
+abbrev μ-loop : tie.MeasureT-loop
+μ-loop m₀ k₀ m k = 8192 - k
+
+loop-again : tie.Need-loop-again Inv-loop μ-loop
+loop-again c =
+    let at = c .before .before .before .before .before in
+    let stored = c .before .before in (
+      omega arith,
+      stored .set-word .kept .0 ∙ at .loop .inv .1,
+      stored .set-word .ensures
+          ∙ ap (λ l. putWord l (at .loop .k) 0) (at .loop .inv .2)
+          ∙ cleared-more _ (at .loop .k),
+    )
+
+returns : tie.Need-returns Inv-loop μ-loop
+returns c =
+    let at = c .before in
+    let e : at .loop .k ≡ 8192 = omega arith in
+    rw e at (at .loop .inv .2)
+
+pub clear-spec : {M : Type 1} → statement M
+clear-spec =
+    tie.close (tie.spec Inv-loop μ-loop (λ c. (omega arith, refl, sym (cleared-none _))) (λ c κs. omega arith) (λ c. omega arith)
+    (λ c. omega arith) loop-again (λ c. search needs) returns)

@@ -1,0 +1,33 @@
+-- A number that has the bits of others is at least each of them.
+use Prim.Native.Nat.{ℕ, _+_, _^_, _≤_, _<_}
+use mathlib.Core.Path.{_≡_}
+use native.Mathlib.Decide.{ℕ-discrete, decLe}
+use native.Mathlib.Omega.{arith}
+use lib.IntN.{pos, natAbs, _-ℤ_}
+use lib.Bits.{bitOr}
+use Rattle.integers.specs.Parts.{signed, difference-parts, magnitude-parts}
+use Rattle.integers.specs.TwosComplement.{signedOf, signed-small, signed-large}
+use Rattle.words.proofs.Bits.{or-left, or-right}
+use Rattle.memory_soundness.specs.Cells.{offsetWord}
+
+-- one number more: r is at least f of the j numbers from k on, x at least f of the next
+pub bits-more : (f : ℕ → ℕ) (k j r x : ℕ) → ((p : ℕ) → k ≤ p → p < k + j → f p ≤ r) → f (k + j) ≤ x → (p : ℕ) → k ≤ p → p < k + (j + 1)
+    → f p ≤ bitOr r x
+bits-more f k j r x was here p h l = by (ℕ-discrete p (k + j))
+  where
+    by : Dec (p ≡ k + j) → f p ≤ bitOr r x
+    by (yes same) = rw same (omega (arith, here, or-right r x))
+    by (no apart) = omega (arith, was p h (omega (arith, apart)), or-left r x)
+
+-- ---- a signed number of 64 bits that is small with the offset added
+pub offset-small : (n : ℕ) → n < 2 ^ 64 → offsetWord n < 1073741824 → natAbs (signedOf 64 n) ≤ 536870912
+offset-small n word h = by (decLe 9223372036854775808 n)
+  where
+    by : Dec (9223372036854775808 ≤ n) → natAbs (signedOf 64 n) ≤ 536870912
+    by (yes large) =
+        let z = pos n -ℤ pos 18446744073709551616 in
+        rw (signed-large 64 n large)
+        (omega (signed, difference-parts (pos n) (pos 18446744073709551616), magnitude-parts z))
+    by (no small) =
+        let low : n < 9223372036854775808 = omega (arith, small) in
+        rw (signed-small 64 n low) (omega arith)

@@ -1,0 +1,33 @@
+-- Account by account, the answer is `account_lines_are_sound`'s; the loop leaves at the first no.
+use Prim.Native.Nat.{_-_}
+use mathlib.Core.Path.{_≡_}
+use native.Mathlib.Omega.{arith}
+use borrow.Author.Needs.{needs}
+use Rattle.memory_layout.specs.View.{rosterOf}
+use Rattle.memory_soundness.specs.Soundness.{accountLinesSound, linesSound}
+use Rattle.memory_layout.proofs.Every.{SoFar, so-far-none, so-far-on, so-far-all, every-no}
+use Rattle.memory_soundness.proofs.lines.lines_are_sound.Statement.{statement}
+use Rattle.memory_soundness.proofs.lines.lines_are_sound.Tie as tie
+
+abbrev Inv-loop : tie.InvT-loop
+Inv-loop m n j₀ j = (n ≡ rosterOf m .accounts) × SoFar (accountLinesSound m) (rosterOf m .accounts) j
+
+abbrev μ-loop : tie.MeasureT-loop
+μ-loop m n j₀ j = n - j
+
+account-lines-are-sound-requires : tie.Need-account-lines-are-sound-requires Inv-loop μ-loop
+account-lines-are-sound-requires c κs =
+    let s = c .before .before .before .before in
+    (s .pre, (omega arith, omega arith))
+
+loop-again : tie.Need-loop-again Inv-loop μ-loop
+loop-again c =
+    let inv = c .before .before .before .loop .inv in
+    (inv .0, so-far-on _ _ (inv .1) (omega arith) (c .before .account-lines-are-sound .ensures) (c .if1 .left))
+
+pub lines-are-sound-spec : {M : Type 1} → statement M
+unfolding linesSound
+lines-are-sound-spec =
+    tie.close (tie.spec Inv-loop μ-loop (λ c κs. search needs) (λ c. (c .accounts .ensures, so-far-none _ _)) (λ c. omega arith)
+    account-lines-are-sound-requires (λ c. every-no _ _ _ _ (omega arith) (c .before .account-lines-are-sound .ensures) (c .if1 .taken))
+    (λ c. omega arith) (λ c. omega arith) loop-again (λ c. so-far-all _ (c .before .loop .inv .1) (omega arith)))

@@ -1,0 +1,20 @@
+-- A word's lower and upper half are the group line's two figures, and each is compared with 1,000,000,000.
+use mathlib.Core.Path.{ap}
+use borrow.Author.Needs.{needs}
+use Rattle.words.specs.Words.{lower}
+use Rattle.limits.specs.InBytes.{groupLineAt}
+use Rattle.memory_soundness.specs.Soundness.{groupLineInRange}
+use Rattle.memory_soundness.proofs.Asked.{over, within}
+use Rattle.memory_soundness.proofs.lines.word_in_range.Statement.{statement}
+use Rattle.memory_soundness.proofs.lines.word_in_range.Tie as tie
+
+returns : tie.Need-returns
+unfolding groupLineInRange groupLineAt
+returns c = rw (over _ _ _ (ap lower (c .before .word .ensures)) (c .if1 .taken))
+
+returns-2 : tie.Need-returns-2
+unfolding groupLineInRange groupLineAt
+returns-2 c = rw (within _ _ _ (ap lower (c .before .word .ensures)) (c .if1 .left), c .before .word .ensures)
+
+pub word-in-range-spec : {M : Type 1} → statement M
+word-in-range-spec = tie.close (tie.spec (λ c κs. search needs) returns returns-2)

@@ -1,0 +1,34 @@
+-- Instrument by instrument, the answer is that of the test of the weight read; the loop leaves at the first no.
+use Prim.Native.Nat.{_+_, _-_}
+use mathlib.Core.Path.{_≡_, _∙_}
+use native.Mathlib.Omega.{arith}
+use borrow.Author.Needs.{needs}
+use lib.Dec.{leb}
+use lib.IntN.{natAbs}
+use mir.Syntax.{w64}
+use mir.ValLaws.{toZ-ofZ}
+use Rattle.ledger.specs.Records.{rosterIn}
+use Rattle.memory_layout.proofs.Every.{SoFar, so-far-none, so-far-on, so-far-all, every-no}
+use Rattle.memory_soundness.proofs.roster.weights_fit.Statement.{statement}
+use Rattle.memory_soundness.proofs.roster.weights_fit.Tie as tie
+
+abbrev Inv-loop : tie.InvT-loop
+Inv-loop s n j₀ j = SoFar (λ i. leb (natAbs (rosterIn s .weight i)) 1000000) n j
+
+abbrev μ-loop : tie.MeasureT-loop
+μ-loop s n j₀ j = n - j
+
+-- the answer is the test's
+tested : (c : tie.After-is-weight Inv-loop μ-loop)
+    → let at = c .before .before .before in let a = at .before .before .args in
+    c .is-weight .result ≡ leb (natAbs (rosterIn (a .s .now) .weight (at .loop .j + 1))) 1000000
+tested c =
+    c .is-weight .ensures
+    ∙ rw (toZ-ofZ w64 (c .before .weight-in .result) (record { sfits = c .before .weight-in .ok }), c .before .weight-in .ensures)
+
+pub weights-fit-spec : {M : Type 1} → statement M
+weights-fit-spec =
+    tie.close (tie.spec Inv-loop μ-loop (λ c. so-far-none _ _) (λ c. omega arith) (λ c κs. omega arith)
+    (λ c κs. search needs) (λ c. every-no _ _ _ _ (omega arith) (tested (c .before)) (c .if1 .taken)) (λ c. omega arith) (λ c. omega arith)
+    (λ c. so-far-on _ _ (c .before .before .before .before .loop .inv) (omega arith) (tested (c .before)) (c .if1 .left))
+    (λ c. so-far-all _ (c .before .loop .inv) (omega arith)))

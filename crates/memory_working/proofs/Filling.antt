@@ -1,0 +1,93 @@
+-- FILL: the order found moves its account's balance, and the numbers that the code adds fit.
+use Prim.Native.Nat.{ℕ, _+_, _*_, _≤_}
+use mathlib.Core.Path.{_≡_, refl, _∙_, sym, ap}
+use mathlib.Core.List.{List}
+use native.Mathlib.Omega.{arith}
+use lib.IntN.{ℤ, pos, negℤ, natAbs, _+ℤ_}
+use lib.ListN.{length}
+use mir.Syntax.{w64}
+use mir.Val.{SFits, toZ, ofZ}
+use mir.ValLaws.{toZ-ofZ}
+use Rattle.integers.specs.Magnitude.{sized, magnitude-sum, magnitude-negation}
+use Rattle.ledger.specs.declared.order.Side.{Side}
+use Rattle.ledger.specs.declared.order.Side.the-variants.{Buy, Sell}
+use Rattle.ledger.specs.declared.order.Order.{Order}
+use Rattle.ledger.specs.Orders.{remaining}
+use Rattle.ledger.specs.Roster.{Numbered}
+use Rattle.ledger.specs.Positions.{toward, wayOf}
+use Rattle.ledger.specs.Fillings.{fillMoves}
+use Rattle.ledger.specs.Derivatives.{one}
+use Rattle.ledger.proofs.Amounts.{fill-here}
+use Rattle.book.specs.declared.OrderChange.the-variants.{Fill}
+use Rattle.book.specs.declared.Event.the-variants.{Change}
+use Rattle.book.specs.Market.{derivatives}
+use Rattle.book.specs.Sound.{OrderFits}
+use Rattle.memory_layout.specs.Layout.{memoryBytes}
+use Rattle.memory_layout.specs.View.{rosterOf, balancesOf}
+use Rattle.memory_layout.specs.FieldStores.{storeBalance}
+use Rattle.memory_layout.specs.Readable.{Readable}
+use Rattle.memory_soundness.proofs.Bounded.{sound-readable, balance-small}
+use Rattle.memory_working.specs.Working.{Ready, Stands, recordsChanged, worked}
+use Rattle.memory_working.proofs.AcceptedFacts.{ChangeFacts, laid, records}
+use Rattle.memory_working.proofs.Changing.{change-facts, changed-memory}
+
+-- the balance after a fill fits a word
+moved-fits : (s : Side) (b n z : ℤ) → natAbs b ≤ 1000000000 → natAbs n ≤ 1000000 → z ≡ b +ℤ toward (wayOf s) n → SFits w64 z
+moved-fits Buy b n z h l e = omega (sized, ap natAbs e, magnitude-sum b n)
+moved-fits Sell b n z h l e = omega (sized, ap natAbs e, magnitude-negation n, magnitude-sum b (negℤ n))
+
+-- one contract counts for 1
+pub fill-one : (o : Order) (n : ℕ) → fillMoves (derivatives .unit) (o .account) (o .instrument) o n ≡ toward (wayOf (o .side)) (pos n)
+unfolding derivatives one
+fill-one o n =
+    let e : 1 * n ≡ n = omega arith in
+    rw e at (fill-here one (o .account) (o .instrument) o n refl refl)
+
+module _ {m : List ℕ} {o : Order} {p n : ℕ} (ready : Ready m (Change (o .id) (Fill (pos n))) p o) where
+  facts : OrderFits (rosterOf m) o × ChangeFacts (Fill (pos n)) o
+  facts = change-facts ready
+
+  pub fill-most : n ≤ remaining o
+  fill-most = facts .1 .1
+
+  pub fill-quantity : n ≤ 1000000
+  fill-quantity = facts .1 .0 .1 .1
+
+  pub fill-room : (memoryBytes ≤ length m) × (o .account ≤ 16) × (o .instrument ≤ 32)
+  fill-room =
+      let bounds = laid m (ready .held) .sized in
+      let a = facts .0 .account in
+      let i = facts .0 .instrument in
+      omega (arith, ready .held .long)
+
+  pub fill-stands : Stands m p o n
+  unfolding remaining
+  fill-stands =
+      record {
+        records = records m (ready .held);
+        found = ready .named .0;
+        loaded = ready .named .1;
+        small = let rest = facts .0 .remains in omega (arith, facts .0 .total .1, facts .1 .0 .1 .1);
+      }
+
+  pub fill-readable : Readable m × Numbered (rosterOf m .accounts) (o .account) × Numbered (rosterOf m .instruments) (o .instrument)
+  fill-readable = (sound-readable m (ready .held), facts .0 .account, facts .0 .instrument)
+
+  -- s is the balance that was read
+  module _ {s : ℤ} (fits-s : SFits w64 s) (read : s ≡ balancesOf m (o .account) (o .instrument)) where
+    same-balance : toZ w64 (ofZ w64 s) ≡ balancesOf m (o .account) (o .instrument)
+    same-balance = toZ-ofZ w64 s fits-s ∙ read
+
+    pub fill-small : (natAbs (toZ w64 (ofZ w64 s)) ≤ 1000000000) × (n ≤ 1000000)
+    fill-small =
+        (rw same-balance (balance-small m (ready .held) (o .account) (o .instrument)), omega (arith, facts .1 .0 .1 .1))
+
+    pub fill-worked : {z : ℤ} {l x : List ℕ} → l ≡ recordsChanged m (o .id) (Fill (pos n)) o
+        → z ≡ toZ w64 (ofZ w64 s) +ℤ toward (wayOf (o .side)) (pos n)
+        → x ≡ storeBalance l (o .account) (o .instrument) (toZ w64 (ofZ w64 z)) → x ≡ worked m (Change (o .id) (Fill (pos n)))
+    fill-worked {z} {l} stored after put =
+        let fits-z = moved-fits (o .side) (toZ w64 (ofZ w64 s)) (pos n) z (fill-small .0) (fill-small .1) after in
+        let moved : toZ w64 (ofZ w64 z) ≡ balancesOf m (o .account) (o .instrument)
+        +ℤ fillMoves (derivatives .unit) (o .account) (o .instrument) o n =
+        toZ-ofZ w64 z fits-z ∙ after ∙ rw (same-balance, fill-one o n) refl in
+        put ∙ rw (stored, moved) (sym (changed-memory ready))

@@ -1,0 +1,111 @@
+-- The figures that an accepted event stores fit their words and halves of words.
+use Prim.Native.Nat.{ℕ, _^_, _<_}
+use mathlib.Core.Path.{_≡_, refl}
+use mathlib.Core.Logic.{⊎-elim}
+use mathlib.Core.List.{List, [], _∷_, List·Memᴰ, List·Memᴰ·head, List·Memᴰ·tail, List·Memᴰ·not-nil, List·Memᴰ·eq-of-singleton}
+use mathlib.Core.Option.{Option, none, some}
+use native.Mathlib.Omega.{arith}
+use lib.Dec.{eqb}
+use Rattle.words.specs.Bytes.{Bytes}
+use Rattle.words.specs.Fields.{u64At}
+use Rattle.words.specs.Words.{wordAt}
+use Rattle.words.proofs.Numbers.{number-below}
+use Rattle.ledger.specs.declared.order.Order.{Order}
+use Rattle.limits.specs.Lines.{Line, GroupLine}
+use Rattle.book.specs.declared.Event.{Event}
+use Rattle.book.specs.declared.Event.the-variants.{Limit, Balance, Block, New, Change, Junk}
+use Rattle.book.specs.Decoding.{kindOf, wellFormed, eventOf, decode}
+use Rattle.book.specs.OpenOrders.{change}
+use Rattle.book.specs.declared.OrderChange.{OrderChange}
+use Rattle.book.specs.Books.{newOrder, changed, bookAfter}
+use Rattle.book.specs.States.{work}
+use Rattle.book.specs.Sound.{LineFits, GroupLineFits}
+use Rattle.book.proofs.Cuts.{standing, standing-member, insert-members}
+use Rattle.book.proofs.Ids.{Became, gone, became, changed-became}
+use Rattle.book.proofs.SoundOrders.{change-each, fits-after}
+use Rattle.memory_layout.specs.Layout.{countWord}
+use Rattle.memory_layout.specs.View.{recordsOf, openOrders, bookOf, view}
+use Rattle.memory_layout.specs.Stores.{SmallOrder, SmallOrders}
+use Rattle.memory_layout.specs.Judged.{judged}
+use Rattle.memory_layout.proofs.RosterLaws.{by-test}
+use Rattle.memory_layout.proofs.OrderRecords.{small-open}
+use Rattle.memory_layout.proofs.StoreWords.{SmallLine, SmallGroupLine}
+use Rattle.memory_soundness.specs.SoundMemory.{SoundMemory}
+use Rattle.memory_soundness.proofs.OrderFacts.{each-member}
+use Rattle.memory_soundness.proofs.SoundDesk.{sound-count}
+use Rattle.memory_working.proofs.AcceptedFacts.{Found, sound, storable, passed, accepted-facts}
+
+-- ---- lines in range
+pub small-line : (x : Option Line) → ((l : Line) → x ≡ some l → LineFits 1000000000 l) → SmallLine x
+unfolding SmallLine
+small-line none fits = tt
+small-line (some l) fits = let f = fits l refl in omega arith
+
+pub small-group-line : (x : Option GroupLine) → ((l : GroupLine) → x ≡ some l → GroupLineFits 1000000000 l) → SmallGroupLine x
+unfolding SmallGroupLine
+small-group-line none fits = tt
+small-group-line (some l) fits = let f = fits l refl in omega arith
+
+-- ---- open orders
+-- the id of a NEW is a word
+abbrev pub Sized : Event → Type 0
+Sized (Limit a l) = Unit
+Sized (Balance a i z) = Unit
+Sized (Block what z) = Unit
+Sized (New s a i id n) = id < 2 ^ 64
+Sized (Change id c) = Unit
+Sized Junk = Unit
+
+-- so it is of every decoded event
+pub decoded-sized : (e : List ℕ) → Bytes e → Sized (decode e)
+unfolding decode eventOf u64At
+decoded-sized e bytes =
+    let k = kindOf e in
+    by-test (wellFormed e) _ _ Sized
+    (λ _. by-test (eqb k 1) _ _ Sized (λ _. tt)
+    (λ _. by-test (eqb k 2) _ _ Sized (λ _. tt)
+    (λ _. by-test (eqb k 3) _ _ Sized (λ _. tt)
+    (λ _. by-test (eqb k 4) _ _ Sized (λ _. number-below 8 e 8 bytes)
+    (λ _. by-test (eqb k 5) _ _ Sized (λ _. tt)
+    (λ _. by-test (eqb k 6) _ _ Sized (λ _. tt) (λ _. tt)))))))
+    (λ _. tt)
+
+members-small : (os : List Order) → ((o : Order) → List·Memᴰ o os → SmallOrder o) → SmallOrders os
+members-small [] small = tt
+members-small (o ∷ os) small =
+    (small o (List·Memᴰ·head refl), members-small os (λ x k. small x (List·Memᴰ·tail k)))
+
+became-small : (o : Order) → o .id < 2 ^ 64 → (l : List Order) → Became o l → (x : Order) → List·Memᴰ x l → x .id < 2 ^ 64
+became-small o small l gone x k = absurd (List·Memᴰ·not-nil k)
+became-small o small l (became e) x k = rw (List·Memᴰ·eq-of-singleton k, e) small
+
+module _ (m : List ℕ) (bytes : Bytes m) (held : SoundMemory m) where
+  open-ids : (o : Order) → List·Memᴰ o (openOrders m) → o .id < 2 ^ 64
+  unfolding openOrders
+  open-ids =
+      each-member (recordsOf m) (λ o. o .id < 2 ^ 64) 0 (wordAt m countWord)
+      (λ q a b. small-open m (held .first) q (omega (arith, sound-count m held)) bytes .id)
+
+  changed-ids : (id : ℕ) (c : OrderChange) → Found m id → (x : Order) → List·Memᴰ x (change id (changed c) (openOrders m))
+      → x .id < 2 ^ 64
+  changed-ids id c d =
+      let o = d .order in
+      change-each id (changed c) (openOrders m) o (d .found) (λ x. x .id < 2 ^ 64) open-ids
+      (became-small o (open-ids o (standing-member (standing id (openOrders m) o (d .found)))) (changed c o) (changed-became c o))
+
+  ids-after : (e : Event) → Sized e → judged m e ≡ 0 → (x : Order) → List·Memᴰ x (work (view m) e .book .orders) → x .id < 2 ^ 64
+  unfolding bookAfter bookOf newOrder
+  ids-after (Limit a l) sized passes = open-ids
+  ids-after (Balance a i z) sized passes = open-ids
+  ids-after (Block what z) sized passes = open-ids
+  ids-after (New s a i id n) sized passes =
+      λ x k. ⊎-elim (λ e. rw e sized) (open-ids x) (insert-members (newOrder s a i id n) (openOrders m) x .0 k)
+  ids-after (Change id c) sized passes = changed-ids id c (accepted-facts m held (Change id c) passes .0)
+  ids-after Junk sized passes = open-ids
+
+  pub small-after : (e : Event) → Sized e → judged m e ≡ 0 → SmallOrders (work (view m) e .book .orders)
+  small-after e sized passes =
+      members-small (work (view m) e .book .orders)
+      (λ x k.
+      let f = fits-after (view m) (sound m held) e (passed m e passes) x k in
+      record { id = ids-after e sized passes x k; detail = storable m held x f })

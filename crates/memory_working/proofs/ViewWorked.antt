@@ -1,0 +1,185 @@
+-- The view of a memory after an accepted event is the view before it, worked.
+use Prim.Native.Nat.{ℕ, _^_, _≤_, _<_}
+use mathlib.Core.Path.{_≡_, refl, _∙_, sym, ap, fun-ext}
+use mathlib.Core.Bool.{true, cond}
+use mathlib.Core.List.{List}
+use mathlib.Core.Option.{some}
+use lib.IntN.{ℤ, pos, natAbs, _+ℤ_, +ℤ-idr}
+use Rattle.integers.specs.Magnitude.{sized, magnitude-sum, magnitude-negation}
+use Rattle.words.specs.Bytes.{Bytes}
+use Rattle.ledger.specs.declared.order.Order.{Order}
+use Rattle.ledger.specs.declared.order.Side.{Side}
+use Rattle.ledger.specs.declared.order.Side.the-variants.{Buy, Sell}
+use Rattle.ledger.specs.Orders.{placeFrom}
+use Rattle.ledger.specs.Roster.{Numbered}
+use Rattle.ledger.specs.Fillings.{fillMoves}
+use Rattle.ledger.specs.Positions.{toward, wayOf}
+use Rattle.ledger.proofs.Amounts.{fill-apart}
+use Rattle.ledger.proofs.Ways.{by-number}
+use Rattle.book.specs.declared.LimitLine.the-variants.{Own, Default, OfGroup}
+use Rattle.book.specs.declared.Blocked.the-variants.{Account, Instrument, GroupFor}
+use Rattle.book.specs.declared.Event.{Event}
+use Rattle.book.specs.declared.OrderChange.{OrderChange}
+use Rattle.book.specs.declared.OrderChange.the-variants.{Replace, Cancel, Fill}
+use Rattle.book.specs.declared.Event.the-variants.{Limit, Balance, Block, New, Change, Junk}
+use Rattle.book.specs.Market.{derivatives}
+use Rattle.book.specs.OpenOrders.{change}
+use Rattle.book.specs.Books.{at, lineOf, groupLineOf, changed, filledBalances, changedBalances, bookAfter}
+use Rattle.book.specs.States.{State, mark, work}
+use Rattle.book.specs.Sound.{OrderFits}
+use Rattle.book.proofs.SoundLines.{line-fits, group-line-fits}
+use Rattle.memory_layout.specs.View.{rosterOf, linesOf, balancesOf, blocksOf, openOrders, bookOf, tradingOf, view}
+use Rattle.memory_layout.specs.Stores.{storeFrom, joinedFirst, rank}
+use Rattle.memory_layout.specs.Judged.{judged}
+use Rattle.memory_layout.proofs.GuardedTables.{stateOf}
+use Rattle.memory_layout.proofs.FirstRecord.{joined-small}
+use Rattle.memory_layout.proofs.ViewStores.{view-balance, view-mark}
+use Rattle.memory_layout.proofs.ViewBlocks.{view-block-account, view-block-instrument, view-block-group}
+use Rattle.memory_layout.proofs.ViewLimits.{view-own, view-default, view-of-group}
+use Rattle.memory_layout.proofs.ViewOrders.{view-orders, bounds-orders, roster-orders}
+use Rattle.memory_soundness.specs.SoundMemory.{SoundMemory}
+use Rattle.memory_soundness.proofs.Bounded.{balance-small}
+use Rattle.memory_working.specs.Working.{firstAfter, recordsChanged, orderChanged, worked}
+use Rattle.memory_working.proofs.AcceptedFacts.{ChangeFacts, laid, accepted-facts}
+use Rattle.memory_working.proofs.FirstRecord.{after-small}
+use Rattle.memory_working.proofs.Writes.{few-after}
+use Rattle.memory_working.proofs.Filling.{fill-one}
+use Rattle.memory_working.proofs.Small.{Sized, small-line, small-group-line, small-after}
+
+-- a fill moves the balance of its order's account and instrument alone
+fill-moves : (unit : Order → ℕ) (o : Order) (n : ℕ) (S : ℕ → ℕ → ℤ)
+    → at (o .account) (at (o .instrument) (S (o .account) (o .instrument) +ℤ fillMoves unit (o .account) (o .instrument) o n)
+    (S (o .account))) S ≡ (λ b k. S b k +ℤ fillMoves unit b k o n)
+fill-moves unit o n S =
+    fun-ext
+    (λ b. fun-ext (λ k. by-number b a (λ t. cond t (at i z (S a)) (S b) k ≡ S b k +ℤ fillMoves unit b k o n)
+    (λ same-a. by-number k i (λ t. cond t z (S a k) ≡ S b k +ℤ fillMoves unit b k o n)
+    (λ same-i. rw (same-a, same-i))
+    (λ other. rw same-a (still a k (λ e. other (sym (e .1))))))
+    (λ other. still b k (λ e. other (sym (e .0))))))
+  where
+    a : ℕ
+    a = o .account
+
+    i : ℕ
+    i = o .instrument
+
+    z : ℤ
+    z = S (o .account) (o .instrument) +ℤ fillMoves unit (o .account) (o .instrument) o n
+
+    still : (b k : ℕ) → ¬ ((o .account ≡ b) × (o .instrument ≡ k)) → S b k ≡ S b k +ℤ fillMoves unit b k o n
+    still b k apart = sym (ap (S b k +ℤ_) (fill-apart unit b k o n apart) ∙ +ℤ-idr (S b k))
+
+-- by what is filled
+fill-size : (o : Order) (n : ℕ) → natAbs (fillMoves (derivatives .unit) (o .account) (o .instrument) o n) ≡ n
+fill-size o n = ap natAbs (fill-one o n) ∙ by (o .side)
+  where
+    by : (s : Side) → natAbs (toward (wayOf s) (pos n)) ≡ n
+    by Buy = refl
+    by Sell = magnitude-negation (pos n)
+
+module _ (m : List ℕ) (bytes : Bytes m) (held : SoundMemory m) where
+  -- the view with these orders
+  abbrev withOrders : List Order → State
+  withOrders os = stateOf (rosterOf m) (balancesOf m) (linesOf m) (blocksOf m) os (tradingOf m)
+
+  -- the orders afterwards, stored
+  orders-shown : (f : ℕ) → f ≤ 256 → (e : Event) → Sized e → judged m e ≡ 0
+      → view (storeFrom m f (work (view m) e .book .orders)) ≡ withOrders (work (view m) e .book .orders)
+  orders-shown f inside e id-word passes =
+      view-orders m f (work (view m) e .book .orders) (laid m held) inside (few-after m held e passes)
+      (small-after m bytes held e id-word passes)
+
+  new-shown : (s : Side) (a i id : ℕ) (n : ℤ) → id < 2 ^ 64 → judged m (New s a i id n) ≡ 0
+      → view (worked m (New s a i id n)) ≡ work (view m) (New s a i id n)
+  unfolding worked bookAfter bookOf mark
+  new-shown s a i id n id-word passes =
+      let e = New s a i id n in
+      let f = joinedFirst m (rank id (openOrders m)) in
+      let inside = joined-small m (rank id (openOrders m)) (held .first) in
+      let shown = orders-shown f inside e id-word passes in
+      let l = storeFrom m f (work (view m) e .book .orders) in
+      let few = few-after m held e passes in
+      view-mark l (bounds-orders m f _ (laid m held) inside few) a
+      (rw (roster-orders m f _ (laid m held) inside few) (accepted-facts m held e passes .0))
+      ∙ ap (λ (k : State). record {
+        market = k .market;
+        roster = k .roster;
+        book = k .book;
+        beside = record { trading = at a true (k .beside .trading) };
+      }) shown
+
+  -- the records after a change of order o
+  abbrev records-first : ℕ → OrderChange → Order → ℕ
+  records-first id c o = firstAfter m (placeFrom 0 id (openOrders m)) (changed c o)
+
+  records-shown : (id : ℕ) (c : OrderChange) (o : Order) → judged m (Change id c) ≡ 0
+      → view (recordsChanged m id c o) ≡ withOrders (change id (changed c) (openOrders m))
+  unfolding bookAfter bookOf
+  records-shown id c o passes =
+      orders-shown (records-first id c o) (after-small m (held .first) (placeFrom 0 id (openOrders m)) (changed c o)) (Change id c) tt
+      passes
+
+  fill-shown : (id : ℕ) (n : ℤ) (o : Order) → OrderFits (rosterOf m) o → judged m (Change id (Fill n)) ≡ 0 → Numbered 1000000 (natAbs n)
+      → view (orderChanged m id (Fill n) (some o)) ≡ stateOf (rosterOf m) (filledBalances (derivatives .unit) (some o) (natAbs n)
+      (balancesOf m)) (linesOf m) (blocksOf m) (change id (changed (Fill n)) (openOrders m)) (tradingOf m)
+  unfolding bookAfter bookOf mark
+  fill-shown id n o fits passes quantity =
+      let e = Change id (Fill n) in
+      let a = o .account in
+      let i = o .instrument in
+      let unit = derivatives .unit in
+      let os = change id (changed (Fill n)) (openOrders m) in
+      let z = balancesOf m a i +ℤ fillMoves unit a i o (natAbs n) in
+      let f = records-first id (Fill n) o in
+      let inside = after-small m (held .first) (placeFrom 0 id (openOrders m)) (changed (Fill n) o) in
+      let few = few-after m held e passes in
+      let roster = roster-orders m f os (laid m held) inside few in
+      view-balance (recordsChanged m id (Fill n) o) (bounds-orders m f os (laid m held) inside few) a i z (rw roster (fits .account))
+      (rw roster (fits .instrument)) (omega (
+        sized,
+        balance-small m held a i,
+        fill-size o (natAbs n),
+        magnitude-sum (balancesOf m a i) (fillMoves unit a i o (natAbs n)),
+      ))
+      ∙ ap (λ (k : State). work k (Balance a i z)) (records-shown id (Fill n) o passes)
+      ∙ ap (λ s. stateOf (rosterOf m) s (linesOf m) (blocksOf m) os (tradingOf m)) (fill-moves unit o (natAbs n) (balancesOf m))
+
+  change-shown : (id : ℕ) (c : OrderChange) → judged m (Change id c) ≡ 0 → view (worked m (Change id c)) ≡ work (view m) (Change id c)
+  unfolding worked bookAfter bookOf mark changedBalances
+  change-shown id c passes =
+      let f = accepted-facts m held (Change id c) passes in
+      rw (f .0 .found) (by c passes (f .0 .order) (f .0 .fits) (f .1))
+    where
+      by : (c : OrderChange) → judged m (Change id c) ≡ 0 → (o : Order) → OrderFits (rosterOf m) o → ChangeFacts c o
+          → view (orderChanged m id c (some o)) ≡ stateOf (rosterOf m) (changedBalances (derivatives .unit) c (some o) (balancesOf m))
+          (linesOf m) (blocksOf m) (change id (changed c) (openOrders m)) (tradingOf m)
+      by (Replace n) passes o fits facts = records-shown id (Replace n) o passes
+      by Cancel passes o fits facts = records-shown id Cancel o passes
+      by (Fill n) passes o fits facts = fill-shown id n o fits passes (facts .0 .1)
+
+  pub view-worked : (e : Event) → Sized e → judged m e ≡ 0
+      → view (worked m e) ≡ work (view m) e
+  unfolding worked bookAfter bookOf mark derivatives
+  view-worked (Limit a (Own i f)) id-word passes =
+      let t = accepted-facts m held (Limit a (Own i f)) passes in
+      view-own m (laid m held) a i f (small-line (lineOf f) (line-fits derivatives f (t .2))) (t .0) (t .1)
+  view-worked (Limit a (Default c f)) id-word passes =
+      let t = accepted-facts m held (Limit a (Default c f)) passes in
+      view-default m (laid m held) a c f (small-line (lineOf f) (line-fits derivatives f (t .2))) (t .0) (t .1)
+  view-worked (Limit a (OfGroup g x y)) id-word passes =
+      let t = accepted-facts m held (Limit a (OfGroup g x y)) passes in
+      view-of-group m (laid m held) a g x y (small-group-line (groupLineOf x y) (group-line-fits derivatives x y (t .2))) (t .0) (t .1)
+  view-worked (Balance a i z) id-word passes =
+      let t = accepted-facts m held (Balance a i z) passes in
+      view-balance m (laid m held) a i z (t .0) (t .1) (omega sized)
+  view-worked (Block (Account a) z) id-word passes =
+      view-block-account m (laid m held) z a (accepted-facts m held (Block (Account a) z) passes)
+  view-worked (Block (Instrument i) z) id-word passes =
+      view-block-instrument m (laid m held) z i (accepted-facts m held (Block (Instrument i) z) passes)
+  view-worked (Block (GroupFor a g) z) id-word passes =
+      let t = accepted-facts m held (Block (GroupFor a g) z) passes in
+      view-block-group m (laid m held) z a g (t .0) (t .1)
+  view-worked (New s a i id n) id-word passes = new-shown s a i id n id-word passes
+  view-worked (Change id c) id-word passes = change-shown id c passes
+  view-worked Junk id-word passes = refl

@@ -1,0 +1,15 @@
+-- The balance and the fill are small: on a buy their sum is taken, on a sell their difference.
+use mathlib.Core.Path.{_∙_}
+use borrow.Author.Needs.{needs}
+use Rattle.memory_working.proofs.orders.balance_after.Statement.{statement}
+use Rattle.memory_working.proofs.orders.balance_after.Tie as tie
+
+returns : tie.Need-returns
+returns c = c .plus .ensures ∙ rw (c .before .enum-told .given .1)
+
+returns-2 : tie.Need-returns-2
+returns-2 c = c .less .ensures ∙ rw (c .before .enum-told2 .given .1)
+
+pub balance-after-spec : {M : Type 1} → statement M
+balance-after-spec =
+    tie.close (tie.spec (λ c. search needs) (λ c κs. search needs) (λ c. search needs) (λ c κs. search needs) returns returns-2)

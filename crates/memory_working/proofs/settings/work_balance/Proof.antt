@@ -1,0 +1,22 @@
+-- S is stored at the account and instrument, which an acceptance has put on the roster, as the 64 bits that read back as it.
+use mathlib.Core.Path.{_∙_, ap}
+use borrow.Author.Needs.{needs}
+use mir.Syntax.{w64}
+use mir.ValLaws.{toZ-ofZ}
+use Rattle.memory_layout.specs.FieldStores.{storeBalance}
+use Rattle.memory_working.specs.Working.{worked}
+use Rattle.memory_working.proofs.Rooms.{room}
+use Rattle.memory_working.proofs.settings.work_balance.Statement.{statement}
+use Rattle.memory_working.proofs.settings.work_balance.Tie as tie
+
+set-balance-requires : tie.Need-set-balance-requires
+set-balance-requires c κs = room (c .before .before .pre)
+
+returns : tie.Need-returns
+unfolding worked
+returns c =
+    let start = c .before .before .before .before .before in
+    c .before .before .set-balance .ensures ∙ ap (storeBalance _ _ _) (toZ-ofZ w64 (start .args .balance) (start .fits .balance))
+
+pub work-balance-spec : {M : Type 1} → statement M
+work-balance-spec = tie.close (tie.spec set-balance-requires (λ c. search needs) returns)

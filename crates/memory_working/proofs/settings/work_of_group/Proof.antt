@@ -1,0 +1,44 @@
+-- An LCC of −1 means both are −1 in an accepted LIMIT, and the line is unset; else both are limits, which fit 32 bits.
+use mathlib.Core.Path.{_∙_, ap}
+use borrow.Author.Needs.{needs}
+use Rattle.memory_layout.specs.FieldStores.{storeOfGroup}
+use Rattle.memory_working.proofs.Rooms.{room}
+use Rattle.memory_working.proofs.LineFigures.{group-unset, group-casts, group-set}
+use Rattle.memory_working.proofs.settings.work_of_group.Statement.{statement}
+use Rattle.memory_working.proofs.settings.work_of_group.Tie as tie
+
+unset-of-group-requires : tie.Need-unset-of-group-requires
+unset-of-group-requires c κs = room (c .before .before .before .before .pre)
+
+cast-set-of-group : tie.Need-cast-set-of-group
+cast-set-of-group c =
+    let start = c .before .before .before .before in
+    group-casts (start .pre) (start .fits .lcc) (c .before .before .is-minus-one .ensures) (c .before .if1 .left) (start .fits .lvc) .0
+
+cast-set-of-group-2 : tie.Need-cast-set-of-group-2
+cast-set-of-group-2 c =
+    let start = c .before .before .before .before in
+    group-casts (start .pre) (start .fits .lcc) (c .before .before .is-minus-one .ensures) (c .before .if1 .left) (start .fits .lvc) .1
+
+set-of-group-requires : tie.Need-set-of-group-requires
+set-of-group-requires c κs = room (c .before .before .before .before .pre)
+
+returns : tie.Need-returns
+returns c =
+    let tested = c .before .before .before .before in
+    let start = tested .before .before .before in
+    c .before .before .unset-of-group .ensures
+    ∙ ap (storeOfGroup _ _ _) (group-unset (start .pre) (start .fits .lcc) (tested .before .is-minus-one .ensures) (tested .if1 .taken))
+
+returns-2 : tie.Need-returns-2
+returns-2 c =
+    let tested = c .before .before .before .before in
+    let start = tested .before .before .before in
+    c .before .before .set-of-group .ensures
+    ∙ ap (storeOfGroup _ _ _) (group-set (start .pre) (start .fits .lcc) (tested .before .is-minus-one .ensures) (tested .if1 .left)
+    (start .fits .lvc))
+
+pub work-of-group-spec : {M : Type 1} → statement M
+work-of-group-spec =
+    tie.close (tie.spec (λ c κs. search needs) unset-of-group-requires cast-set-of-group cast-set-of-group-2 set-of-group-requires
+    (λ c. search needs) returns (λ c. search needs) returns-2)

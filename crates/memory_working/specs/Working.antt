@@ -1,0 +1,96 @@
+-- The memory after an accepted event, by an equation for each kind.
+use Prim.Native.Nat.{ℕ, _+_, _<_}
+use mathlib.Core.Path.{_≡_}
+use mathlib.Core.Bool.{Bool, not}
+use mathlib.Core.List.{List, [], _∷_}
+use mathlib.Core.Option.{Option, none, some}
+use lib.IntN.{pos, natAbs, _+ℤ_}
+use Rattle.ledger.specs.declared.order.Order.{Order}
+use Rattle.ledger.specs.declared.find.Found.{Found}
+use Rattle.ledger.specs.declared.find.Found.the-variants.{At, Nothing}
+use Rattle.ledger.specs.Orders.{placeFrom}
+use Rattle.ledger.specs.Fillings.{fillMoves}
+use Rattle.limits.specs.Asked.{isZero}
+use Rattle.book.specs.declared.LimitLine.{LimitLine}
+use Rattle.book.specs.declared.LimitLine.the-variants.{Own, Default, OfGroup}
+use Rattle.book.specs.declared.Blocked.{Blocked}
+use Rattle.book.specs.declared.Blocked.the-variants.{Account, Instrument, GroupFor}
+use Rattle.book.specs.declared.Event.{Event}
+use Rattle.book.specs.declared.OrderChange.{OrderChange}
+use Rattle.book.specs.declared.OrderChange.the-variants.{Replace, Cancel, Fill}
+use Rattle.book.specs.declared.Event.the-variants.{Limit, Balance, Block, New, Change, Junk}
+use Rattle.book.specs.Market.{derivatives}
+use Rattle.book.specs.OpenOrders.{find, insert, change}
+use Rattle.book.specs.Books.{lineOf, groupLineOf, newOrder, changed}
+use Rattle.memory_layout.specs.View.{balancesOf, firstOf, openOrders}
+use Rattle.memory_layout.specs.Judged.{judged, NamedAt}
+use Rattle.memory_layout.specs.Stores.{orderIn, storeFrom, joinedFirst, leftFirst, Records, rank}
+use Rattle.memory_layout.specs.FieldStores.{storeBalance, storeMark, blockAccount, blockInstrument, blockGroup, storeOwn, storeDefault}
+use Rattle.memory_layout.specs.FieldStores.{storeOfGroup}
+use Rattle.memory_soundness.specs.SoundMemory.{SoundMemory}
+
+-- an accepted event at a sound desk
+pub record AcceptedEvent (m : List ℕ) (e : Event) : Type 0 where
+  pub held : SoundMemory m
+  pub accepted : judged m e ≡ 0
+
+-- and the order that it names is o, which stands, or joins, at place p
+pub record Ready (m : List ℕ) (e : Event) (p : ℕ) (o : Order) : Type 0 where
+  pub held : SoundMemory m
+  pub accepted : judged m e ≡ 0
+  pub named : NamedAt m e p o
+
+-- the NEW that enters an order
+abbrev pub newOf : Order → Event
+newOf o = New (o .side) (o .account) (o .instrument) (o .id) (pos (o .total))
+
+-- the open order o is found at place p, and what is filled of it with n more fits its record
+pub record Stands (m : List ℕ) (p : ℕ) (o : Order) (n : ℕ) : Type 0 where
+  pub records : Records m
+  pub found : placeFrom 0 (o .id) (openOrders m) ≡ At p
+  pub loaded : o ≡ orderIn m p
+  pub small : o .filled + n < 134217728
+
+abbrev pub lineStored : List ℕ → ℕ → LimitLine → List ℕ
+lineStored m a (Own i f) = storeOwn m a i (lineOf f)
+lineStored m a (Default c f) = storeDefault m a c (lineOf f)
+lineStored m a (OfGroup g x y) = storeOfGroup m a g (groupLineOf x y)
+
+abbrev pub blockStored : List ℕ → Blocked → Bool → List ℕ
+blockStored m (Account a) on = blockAccount m a on
+blockStored m (Instrument i) on = blockInstrument m i on
+blockStored m (GroupFor a g) on = blockGroup m a g on
+
+-- where the first record stands when the order found at a place leaves
+abbrev pub goneFirst : List ℕ → Found → ℕ
+goneFirst m Nothing = firstOf m
+goneFirst m (At p) = leftFirst m p
+
+-- and when it becomes what a change makes of it: another place only where it leaves
+abbrev pub firstAfter : List ℕ → Found → List Order → ℕ
+firstAfter m found [] = goneFirst m found
+firstAfter m found (o ∷ os) = firstOf m
+
+-- the records after a change of the open order o
+abbrev pub recordsChanged : List ℕ → ℕ → OrderChange → Order → List ℕ
+recordsChanged m id c o =
+    storeFrom m (firstAfter m (placeFrom 0 id (openOrders m)) (changed c o)) (change id (changed c) (openOrders m))
+
+-- the memory after a change of the order found: its record changes or leaves, and a FILL moves the balance of its account and instrument
+abbrev pub orderChanged : List ℕ → ℕ → OrderChange → Option Order → List ℕ
+orderChanged m id c none = m
+orderChanged m id (Replace n) (some o) = recordsChanged m id (Replace n) o
+orderChanged m id Cancel (some o) = recordsChanged m id Cancel o
+orderChanged m id (Fill n) (some o) =
+    storeBalance (recordsChanged m id (Fill n) o) (o .account) (o .instrument)
+    (balancesOf m (o .account) (o .instrument) +ℤ fillMoves (derivatives .unit) (o .account) (o .instrument) o (natAbs n))
+
+-- the memory after the event
+unfoldable pub worked : List ℕ → Event → List ℕ
+worked m (Limit a l) = lineStored m a l
+worked m (Balance a i z) = storeBalance m a i z
+worked m (Block what z) = blockStored m what (not (isZero z))
+worked m (New s a i id n) =
+    storeMark (storeFrom m (joinedFirst m (rank id (openOrders m))) (insert (newOrder s a i id n) (openOrders m))) a
+worked m (Change id c) = orderChanged m id c (find id (openOrders m))
+worked m Junk = m

@@ -1,0 +1,44 @@
+// Working an accepted event in a desk's memory, and in B and V of all accounts beside it. It cannot refuse: the judge has accepted the
+// event.
+pub mod orders;
+pub mod settings;
+pub mod sums;
+
+ghost use mathlib.Core.Path.{_≡_};
+ghost use Rattle.memory_layout.specs.View.{openOrders};
+ghost use Rattle.memory_soundness.specs.Cells.{Sums};
+ghost use Rattle.memory_working.specs.Working.{Ready, worked};
+use crate::orders::change_order;
+use crate::orders::enter;
+use crate::settings::work_balance;
+use crate::settings::work_block;
+use crate::settings::work_limit;
+use book::Event;
+use ledger::order::Order;
+
+// Works an event of any kind. Of a NEW, `o` is the order that it enters, and `place` where it joins; of a REPLACE, CANCEL or FILL the open
+// order that it names, and where it stands.
+pub fn work(m: &mut [u8], cells: &mut [u64], e: Event, place: usize, o: Order)
+    requires { ⌜ Ready (now m) e place o × Sums (now cells) (openOrders (now m)) ⌝ }
+    ensures memory { λ r. ⌜ now (m .exit) ≡ worked (now (m .entry)) e ⌝ }
+    ensures sums { λ r. ⌜ Sums (now (cells .exit)) (openOrders (now (m .exit))) ⌝ }
+{
+    match e {
+        Event::Limit { account, line } => work_limit(m, account, line),
+        Event::Balance {
+            account,
+            instrument,
+            balance,
+        } => work_balance(m, account, instrument, balance),
+        Event::Block { what, on } => work_block(m, what, on),
+        Event::New {
+            side,
+            account,
+            instrument,
+            id,
+            quantity,
+        } => enter(m, cells, o, place),
+        Event::Change { id, change } => change_order(m, cells, o, place, change),
+        Event::Junk => {}
+    }
+}

@@ -1,0 +1,108 @@
+// Working NEW, REPLACE, CANCEL and FILL: `o` is the order that the judge hands on, which joins at place `place` of the open orders, or
+// stands there. The cells hold B and V of all accounts, before the event and after it.
+ghost use mathlib.Core.Path.{_≡_};
+ghost use Prim.Native.Nat.{_^_, _≤_, _<_};
+ghost use lib.IntN.{pos, natAbs, _+ℤ_};
+ghost use Rattle.ledger.specs.Positions.{toward, wayOf};
+ghost use Rattle.book.specs.declared.OrderChange.the-variants.{Replace, Cancel, Fill};
+ghost use Rattle.book.specs.declared.Event.the-variants.{Change};
+ghost use Rattle.memory_layout.specs.View.{openOrders};
+ghost use Rattle.memory_soundness.specs.Cells.{Sums};
+ghost use Rattle.memory_working.specs.Working.{Ready, newOf, Stands, recordsChanged, worked};
+use crate::sums::recount;
+use book::OrderChange;
+use memory_layout::orders::insert_order;
+use memory_layout::orders::remove_order;
+use memory_layout::orders::replace_order;
+use memory_layout::readers::balance;
+use memory_layout::stores::set_balance;
+use memory_layout::stores::set_mark;
+use ledger::order::Order;
+use ledger::order::Side;
+use ledger::units::Contracts;
+
+// NEW: the order joins, and its account is marked as trading.
+pub fn enter(m: &mut [u8], cells: &mut [u64], o: Order, place: usize)
+    requires { ⌜ Ready (now m) (newOf o) place o × Sums (now cells) (openOrders (now m)) × (o .id < 2 ^ 64) ⌝ }
+    ensures memory { λ r. ⌜ now (m .exit) ≡ worked (now (m .entry)) (newOf o) ⌝ }
+    ensures sums { λ r. ⌜ Sums (now (cells .exit)) (openOrders (now (m .exit))) ⌝ }
+{
+    recount(cells, o, 0, o.total);
+    insert_order(m, place, o);
+    set_mark(m, o.account as usize);
+}
+
+// REPLACE: the order gets the new total.
+fn replace(m: &mut [u8], cells: &mut [u64], o: Order, place: usize, total: u64)
+    requires { ⌜ Ready (now m) (Change (o .id) (Replace (pos total))) place o × Sums (now cells) (openOrders (now m)) ⌝ }
+    ensures memory { λ r. ⌜ now (m .exit) ≡ worked (now (m .entry)) (Change (o .id) (Replace (pos total))) ⌝ }
+    ensures sums { λ r. ⌜ Sums (now (cells .exit)) (openOrders (now (m .exit))) ⌝ }
+{
+    let next = o.replaced_total(total);
+    recount(cells, o, o.remaining(), next.remaining());
+    replace_order(m, place, next);
+}
+
+// CANCEL: the order leaves.
+fn cancel(m: &mut [u8], cells: &mut [u64], o: Order, place: usize)
+    requires { ⌜ Ready (now m) (Change (o .id) Cancel) place o × Sums (now cells) (openOrders (now m)) ⌝ }
+    ensures memory { λ r. ⌜ now (m .exit) ≡ worked (now (m .entry)) (Change (o .id) Cancel) ⌝ }
+    ensures sums { λ r. ⌜ Sums (now (cells .exit)) (openOrders (now (m .exit))) ⌝ }
+{
+    recount(cells, o, o.remaining(), 0);
+    remove_order(m, place);
+}
+
+// The balance after a fill by `n`: a buy raises S, a sell lowers it.
+fn balance_after(side: Side, balance: Contracts, n: Contracts) -> Contracts
+    requires { ⌜ (natAbs (balance .0) ≤ 1000000000) × (natAbs (n .0) ≤ 1000000) ⌝ }
+    ensures { λ r. ⌜ r .0 ≡ balance .0 +ℤ toward (wayOf side) (n .0) ⌝ }
+{
+    match side {
+        Side::Buy => balance.plus(n),
+        Side::Sell => balance.less(n),
+    }
+}
+
+// The order's record after a fill by `n`: at remaining 0 it leaves.
+fn fill_record(m: &mut [u8], place: usize, o: Order, n: u64)
+    requires { ⌜ Stands (now m) place o n ⌝ }
+    ensures { λ r. ⌜ now (m .exit) ≡ recordsChanged (now (m .entry)) (o .id) (Fill (pos n)) o ⌝ }
+{
+    let next = o.filled_by(n);
+    if next.remaining() == 0 {
+        remove_order(m, place);
+    } else {
+        replace_order(m, place, next);
+    }
+}
+
+// FILL: the order's filled rises, and S moves.
+fn fill(m: &mut [u8], cells: &mut [u64], o: Order, place: usize, n: u64)
+    requires { ⌜ Ready (now m) (Change (o .id) (Fill (pos n))) place o × Sums (now cells) (openOrders (now m)) ⌝ }
+    ensures memory { λ r. ⌜ now (m .exit) ≡ worked (now (m .entry)) (Change (o .id) (Fill (pos n))) ⌝ }
+    ensures sums { λ r. ⌜ Sums (now (cells .exit)) (openOrders (now (m .exit))) ⌝ }
+{
+    let left = o.remaining();
+    recount(cells, o, left, left - n);
+    let account = o.account as usize;
+    let instrument = o.instrument as usize;
+    let side = o.side;
+    let before = Contracts(balance(m, account, instrument));
+    fill_record(m, place, o, n);
+    let next = balance_after(side, before, Contracts::of(n));
+    set_balance(m, account, instrument, next.0);
+}
+
+// The open order becomes what the change makes of it.
+pub fn change_order(m: &mut [u8], cells: &mut [u64], o: Order, place: usize, change: OrderChange)
+    requires { ⌜ Ready (now m) (Change (o .id) change) place o × Sums (now cells) (openOrders (now m)) ⌝ }
+    ensures memory { λ r. ⌜ now (m .exit) ≡ worked (now (m .entry)) (Change (o .id) change) ⌝ }
+    ensures sums { λ r. ⌜ Sums (now (cells .exit)) (openOrders (now (m .exit))) ⌝ }
+{
+    match change {
+        OrderChange::Replace { total } => replace(m, cells, o, place, total as u64),
+        OrderChange::Cancel => cancel(m, cells, o, place),
+        OrderChange::Fill { quantity } => fill(m, cells, o, place, quantity as u64),
+    }
+}
