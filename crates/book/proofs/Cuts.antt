@@ -12,6 +12,7 @@ use lib.ListN.{length, length-append}
 use borrow.Author.Tests.{eqb-true, eqb-false, ltb-true, ltb-false}
 use Rattle.ledger.specs.declared.order.Order.{Order}
 use Rattle.ledger.proofs.Sums.{Joined, Changed, joined-between, changed-between}
+use Rattle.ledger.proofs.Ways.{by-test}
 use Rattle.book.specs.OpenOrders.{find, insert, change}
 use Rattle.book.specs.Sound.{Ascending, nothing, next}
 
@@ -43,12 +44,10 @@ pub record Joins (o : Order) (os : List Order) : Type 0 where
 pub joins : (o : Order) (os : List Order) → Joins o os
 unfolding insert
 joins o [] = record { front = []; back = []; whole = refl; joined = refl }
-joins o (x ∷ os) = by (ltb (o .id) (x .id)) refl (joins o os)
-  where
-    by : (t : Bool) → ltb (o .id) (x .id) ≡ t → Joins o os → Joins o (x ∷ os)
-    by true e j = record { front = []; back = x ∷ os; whole = refl; joined = rw e }
-    by false e j =
-        record { front = x ∷ j .front; back = j .back; whole = ap (λ xs. x ∷ xs) (j .whole); joined = rw e (ap (λ xs. x ∷ xs) (j .joined)) }
+joins o (x ∷ os) =
+    let j = joins o os in
+    by-test (ltb (o .id) (x .id)) (λ e. record { front = []; back = x ∷ os; whole = refl; joined = rw e })
+    (λ e. record { front = x ∷ j .front; back = j .back; whole = rw (← j .whole); joined = rw (e, j .joined) })
 
 module _ {o : Order} {os : List Order} (j : Joins o os) where
   joined-sums : Joined o os (insert o os)
@@ -95,23 +94,22 @@ pub record Standing (id : ℕ) (os : List Order) (o : Order) : Type 0 where
 pub standing : (id : ℕ) (os : List Order) (o : Order) → find id os ≡ some o → Standing id os o
 unfolding find change
 standing id [] o e = absurd (let z : _≡_ {A = ℕ} 0 1 = cc in omega arith)
-standing id (x ∷ os) o e = by (eqb (x .id) id) refl e (standing id os o)
-  where
-    by : (t : Bool) → eqb (x .id) id ≡ t → cond t (some x) (find id os) ≡ some o → (find id os ≡ some o → Standing id os o)
-        → Standing id (x ∷ os) o
-    by true d e rest =
-        let same : x ≡ o = cc in
-        record { front = []; back = os; whole = rw same; named = rw (← same) (eqb-true (x .id) id d); changed = λ f. rw (d, same) }
-    by false d e rest =
-        let s = rest e in
-        record {
-          front = x ∷ s .front;
-          back = s .back;
-          whole = ap (λ xs. x ∷ xs) (s .whole);
-          named = s .named;
-          changed =
-              λ f. rw d (ap (λ xs. x ∷ xs) (s .changed f));
-        }
+standing id (x ∷ os) o e =
+    by-test (eqb (x .id) id)
+    (λ d.
+    let there = rw d at e in
+    let same : x ≡ o = cc in
+    record { front = []; back = os; whole = rw same; named = rw (← same) (eqb-true (x .id) id d); changed = λ f. rw (d, same) })
+    (λ d.
+    let s = standing id os o (rw d at e) in
+    record {
+      front = x ∷ s .front;
+      back = s .back;
+      whole = ap (λ xs. x ∷ xs) (s .whole);
+      named = s .named;
+      changed =
+          λ f. rw d (ap (λ xs. x ∷ xs) (s .changed f));
+    })
 
 module _ {id : ℕ} {os : List Order} {o : Order} (s : Standing id os o) where
   pub standing-member : List·Memᴰ o os

@@ -13,7 +13,7 @@ use lib.IntN.{natAbs}
 use borrow.Author.Tests.{eqb-true, eqb-false, eq-eqb, ne-eqb}
 use Rattle.ledger.specs.declared.order.Order.{Order}
 use Rattle.ledger.specs.Orders.{filledBy, replacedTotal, closes}
-use Rattle.ledger.proofs.Ways.{by-number}
+use Rattle.ledger.proofs.Ways.{by-number, by-test}
 use Rattle.book.specs.declared.OrderChange.{OrderChange}
 use Rattle.book.specs.declared.OrderChange.the-variants.{Replace, Cancel, Fill}
 use Rattle.book.specs.OpenOrders.{find, change, kept}
@@ -27,11 +27,7 @@ pub data Became (o : Order) : List Order → Type 0 where
 
 kept-became : (o o′ : Order) → o′ .id ≡ o .id → Became o (kept o′)
 unfolding kept
-kept-became o o′ e = by (closes o′)
-  where
-    by : (t : Bool) → Became o (cond t [] (o′ ∷ []))
-    by true = gone
-    by false = became e
+kept-became o o′ e = by-test (closes o′) (λ t. rw t gone) (λ t. rw t (became e))
 
 pub changed-became : (c : OrderChange) (o : Order) → Became o (changed c o)
 unfolding changed replacedTotal filledBy

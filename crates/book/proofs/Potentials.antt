@@ -14,6 +14,7 @@ use Rattle.ledger.specs.Orders.{remaining}
 use Rattle.ledger.specs.Positions.{Way, Scope, instrument, opposite, wayOf, ofInstrument, potential, position}
 use Rattle.ledger.specs.Moves.{Moves}
 use Rattle.ledger.proofs.Changes.{shift-down, shift-unmoved, shift-of-another, shift-own, fill-lowers, fill-kept, fill-opposite, idle}
+use Rattle.ledger.proofs.Changes.{shift-by}
 use Rattle.book.specs.declared.LimitLine.{LimitLine}
 use Rattle.book.specs.declared.Blocked.{Blocked}
 use Rattle.book.specs.declared.OrderChange.{OrderChange}
@@ -86,28 +87,18 @@ module _ (k : State) (a : ℕ) (p : Scope) (w : Way) where
         fill-lowers (change-shift k id o found (Fill n)) (natAbs n) (omega arith) a (k .book .balanceOf a)
         (work k (Change id (Fill n)) .book .balanceOf a) (change-balances k id o found (Fill n) a) (k .roster) p w
 
-new-remaining : (s : Side) (a i id : ℕ) (n : ℤ) → remaining (newOrder s a i id n) ≡ natAbs n
-unfolding newOrder remaining
-new-remaining s a i id n = omega arith
-
 -- ---- by how much: the order's own instrument, on the side to which its fills move it
 module _ (k : State) where
+  -- a new order counts for nothing before, and for its quantity after
+  pub new-counts : (s : Side) (a i id : ℕ) (n : ℤ) → let o = newOrder s a i id n in
+      pos (k .market .unit o * 0) +ℤ pos (k .market .unit o * natAbs n) ≡ pos (k .market .unit o * remaining o)
+  unfolding newOrder remaining
+  new-counts s a i id n = let e : natAbs n - 0 ≡ natAbs n = omega arith in rw e (ap pos (omega arith))
+
   pub new-own : (s : Side) (a i id : ℕ) (n : ℤ) → potentialOf (work k (New s a i id n)) a (instrument i) (wayOf s)
       ≡ potentialOf k a (instrument i) (wayOf s) +ℤ pos (k .market .unit (newOrder s a i id n) * natAbs n)
   unfolding bookAfter potential newOrder
-  new-own s a i id n =
-      let unit = k .market .unit in
-      let o = newOrder s a i id n in
-      let x = ofInstrument unit (k .book .orders) a (k .book .balanceOf a) i (wayOf s) in
-      let y = ofInstrument unit (work k (New s a i id n) .book .orders) a (k .book .balanceOf a) i (wayOf s) in
-      omega (
-        signed,
-        shift-own (new-shift k s a i id n) a (k .book .balanceOf a) refl (wayOf s) refl,
-        ap (λ m. pos (unit o * m)) (new-remaining s a i id n),
-        sum-parts y (pos (unit o * 0)),
-        sum-parts x (pos (unit o * remaining o)),
-        sum-parts x (pos (unit o * natAbs n)),
-      )
+  new-own s a i id n = shift-by (new-shift k s a i id n) a (k .book .balanceOf a) refl _ (new-counts s a i id n) (wayOf s) refl
 
   module _ (id : ℕ) (o : Order) (found : find id (k .book .orders) ≡ some o) where
     -- the position of the order's account and instrument on side w, and what m contracts of the order count for

@@ -3,11 +3,12 @@ use Prim.Native.Nat.{ℕ}
 use mathlib.Core.Path.{_≡_, refl, sym, _∙_, ap}
 use mathlib.Core.Logic.{_↔_, Iff·trans, _⊎_, inl, inr, ⊎-elim}
 use mathlib.Core.Bool.{true, false}
-use mathlib.Core.Option.{Option, none, some}
+use mathlib.Core.Option.{some}
 use native.Mathlib.Omega.{arith}
 use lib.IntN.{ℤ}
 use Rattle.ledger.specs.Positions.{instrument, group}
 use Rattle.limits.specs.Lines.{isSet}
+use Rattle.limits.proofs.LineLaws.{none-some}
 use Rattle.book.specs.declared.Figures.{Figures}
 use Rattle.book.specs.declared.LimitLine.{LimitLine}
 use Rattle.book.specs.declared.LimitLine.the-variants.{Own, Default, OfGroup}
@@ -27,16 +28,13 @@ set-by-that-limit e n = (there e, λ h. rw (h .2, h .3) (sets-its-line (h .0) (h
     sets-its-line : (a : ℕ) (l : LimitLine) → lineSet (Limit a l) ≡ some (nameOf a l)
     sets-its-line a l = refl
 
-    nothing : {P : Type 0} → _≡_ {A = Option LineName} none (some n) → P
-    nothing h = absurd (let z : _≡_ {A = ℕ} 0 1 = cc in omega arith)
-
     there : (e : Event) → lineSet e ≡ some n → (a : ℕ) × (l : LimitLine) × (e ≡ Limit a l) × (n ≡ nameOf a l)
     there (Limit a l) h = (a, l, refl, cc)
-    there (Balance a i z) h = nothing h
-    there (Block what z) h = nothing h
-    there (New s a i id q) h = nothing h
-    there (Change id c) h = nothing h
-    there Junk h = nothing h
+    there (Balance a i z) h = none-some n h
+    there (Block what z) h = none-some n h
+    there (New s a i id q) h = none-some n h
+    there (Change id c) h = none-some n h
+    there Junk h = none-some n h
 
 -- an instrument's own line, a contract's default line, a group's line: each by a LIMIT of the account on it
 pub own-line-set : (e : Event) (a i : ℕ) → (lineSet e ≡ some (ownLine a i)) ↔ ((f : Figures) × (e ≡ Limit a (Own i f)))

@@ -1,13 +1,14 @@
 -- "The plain book is kept from the roster, the events and their answers": what is kept after a list, event by event.
 use Prim.Native.Nat.{ℕ, _<_}
 use mathlib.Core.Path.{_≡_, refl, _∙_}
-use mathlib.Core.Bool.{Bool, true, false, cond}
+use mathlib.Core.Bool.{false}
 use mathlib.Core.List.{List, [], _∷_, _++_}
 use mathlib.Core.Option.{none}
 use lib.Dec.{eqb}
 use lib.IntN.{pos}
 use lib.ListN.{getD}
 use Rattle.ledger.specs.Roster.{Roster}
+use Rattle.ledger.proofs.Ways.{by-test}
 use Rattle.book.specs.declared.Event.{Event}
 use Rattle.book.specs.Market.{Market}
 use Rattle.book.specs.Books.{emptyBook}
@@ -44,11 +45,7 @@ state-at-an-acceptance k e = refl
 kept-alike : {A : Type 0} (part : State → A) → ((k : State) (e : Event) → part (work k e) ≡ part k)
     → (k : State) (e : Event) (n : ℕ) → part (keep k e n) ≡ part k
 unfolding keep
-kept-alike part same k e n = by (eqb n 0)
-  where
-    by : (t : Bool) → part (cond t (work k e) k) ≡ part k
-    by true = same k e
-    by false = refl
+kept-alike part same k e n = by-test (eqb n 0) (λ t. rw t (same k e)) (λ t. rw t)
 
 -- market and roster stay
 pub market-kept : (k : State) (e : Event) (n : ℕ) → keep k e n .market ≡ k .market

@@ -1,9 +1,9 @@
 -- Laws of lines in lent bytes: a side's figure, the part that holds the line in force, and which lines are set.
 use Prim.Native.Nat.{ℕ, _+_, _*_, _^_, _≤_, _<_}
-use mathlib.Core.Path.{_≡_, refl, _∙_}
+use mathlib.Core.Path.{_≡_, _∙_}
 use mathlib.Core.Bool.{Bool, true, false, cond, false≢true}
 use mathlib.Core.List.{List}
-use mathlib.Core.Option.{Option, none, some}
+use mathlib.Core.Option.{none, some}
 use native.Mathlib.Nat.{add-zero}
 use native.Mathlib.Omega.{arith}
 use lib.ListN.{length}
@@ -17,6 +17,7 @@ use Rattle.ledger.specs.declared.order.Side.{Side}
 use Rattle.ledger.specs.declared.order.Side.the-variants.{Buy, Sell}
 use Rattle.ledger.specs.Roster.{Roster}
 use Rattle.ledger.specs.Positions.{wayOf}
+use Rattle.ledger.proofs.Ways.{by-test}
 use Rattle.limits.specs.Lines.{Line, Lines, largestOrder, largestPosition, largestOfGroup, orElse, lineInForce, isSet}
 use Rattle.limits.specs.InBytes.{lineAt, groupLineAt, sideByte, saysSet, whereSet, linesIn, linePart}
 
@@ -72,28 +73,18 @@ module _ (own default : List ℕ) (set i c : ℕ) where
   module _ (own-long : i * 16 + 16 ≤ length own) (default-long : c * 16 + 16 ≤ length default) where
     pub length-in-force : length (linePart own default set i c) ≡ 16
     unfolding linePart
-    length-in-force = by (saysSet set)
-      where
-        by : (t : Bool) → length (cond t (partOf own (i * 2) 2) (partOf default (c * 2) 2)) ≡ 16
-        by true = length-part own (i * 2) 2 (omega arith)
-        by false = length-part default (c * 2) 2 (omega arith)
+    length-in-force =
+        by-test (saysSet set) (λ t. rw t (length-part own (i * 2) 2 (omega arith)))
+        (λ t. rw t (length-part default (c * 2) 2 (omega arith)))
 
 -- ---- which lines are set
 pub set-by-word : {A : Type 0} (w : ℕ) (l : A) → isSet (whereSet w l) ≡ saysSet w
 unfolding whereSet
-set-by-word {A} w l = by (saysSet w)
-  where
-    by : (t : Bool) → isSet (cond t (some l) none) ≡ t
-    by true = refl
-    by false = refl
+set-by-word w l = by-test (saysSet w) (λ t. rw t) (λ t. rw t)
 
 where-set : {A : Type 0} (w : ℕ) (l : A) → isSet (whereSet w l) ≡ true → whereSet w l ≡ some l
 unfolding whereSet
-where-set {A} w l = by (saysSet w)
-  where
-    by : (t : Bool) → isSet (cond {A = Option A} t (some l) none) ≡ true → cond {A = Option A} t (some l) none ≡ some l
-    by true e = refl
-    by false e = absurd (false≢true e)
+where-set w l e = by-test (saysSet w) (λ t. rw t) (λ t. absurd (false≢true (rw t at e)))
 
 -- the own line where it is set, else the default line
 whole : (t u : Bool) (l d : Line) (x y : List ℕ) → lineAt x 0 ≡ l → lineAt y 0 ≡ d
