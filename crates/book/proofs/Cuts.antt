@@ -1,8 +1,7 @@
 -- Where an order joins the open orders, where it stands in them, and what changing it changes: the list cut in two.
 use Prim.Native.Nat.{ℕ, suc, _+_, _<_}
-use mathlib.Core.Path.{_≡_, refl, ap}
+use mathlib.Core.Path.{_≡_, refl, ap, sym}
 use mathlib.Core.Logic.{_↔_, _⊎_, inl, inr, ⊎-elim}
-use mathlib.Core.Bool.{Bool, true, false, cond}
 use mathlib.Core.List.{List, [], _∷_, _++_, List·Memᴰ, List·Memᴰ·head, List·Memᴰ·tail, List·Memᴰ·cases-cons, List·Memᴰ·append-cases}
 use mathlib.Core.List.{Memᴰ·append-left, Memᴰ·append-right}
 use mathlib.Core.Option.{none, some}
@@ -13,6 +12,7 @@ use borrow.Author.Tests.{eqb-true, eqb-false, ltb-true, ltb-false}
 use Rattle.ledger.specs.declared.order.Order.{Order}
 use Rattle.ledger.proofs.Sums.{Joined, Changed, joined-between, changed-between}
 use Rattle.ledger.proofs.Ways.{by-test}
+use Rattle.limits.proofs.LineLaws.{none-some}
 use Rattle.book.specs.OpenOrders.{find, insert, change}
 use Rattle.book.specs.Sound.{Ascending, nothing, next}
 
@@ -22,18 +22,13 @@ pub insert-ascending : {least : ℕ} {os : List Order} → Ascending least os �
     → Ascending least (insert o os)
 unfolding insert find
 insert-ascending nothing o l e = next l nothing
-insert-ascending (next {least} {o = x} {os} h a) o l e =
-    by (ltb (o .id) (x .id)) refl (eqb (x .id) (o .id)) refl e (insert-ascending a o)
-  where
-    by : (t : Bool) → ltb (o .id) (x .id) ≡ t → (u : Bool) → eqb (x .id) (o .id) ≡ u → cond u (some x) (find (o .id) os) ≡ none
-        → (x .id < o .id → find (o .id) os ≡ none → Ascending (x .id) (insert o os))
-        → Ascending least (cond t (o ∷ (x ∷ os)) (x ∷ insert o os))
-    by t d true f e rest = absurd (let z : _≡_ {A = ℕ} 0 1 = cc in omega arith)
-    by true d false f e rest = next l (next (ltb-true (o .id) (x .id) d) a)
-    by false d false f e rest =
-        let le = ltb-false (o .id) (x .id) d in
-        let apart = eqb-false (x .id) (o .id) f in
-        next h (rest (omega arith) e)
+insert-ascending (next {o = x} h a) o l e =
+    by-test (ltb (o .id) (x .id)) (λ d. rw d (next l (next (ltb-true (o .id) (x .id) d) a)))
+    (λ d. by-test (eqb (x .id) (o .id)) (λ f. none-some x (sym (rw f at e)))
+    (λ f.
+    let le = ltb-false (o .id) (x .id) d in
+    let apart = eqb-false (x .id) (o .id) f in
+    rw d (next h (insert-ascending a o (omega arith) (rw f at e)))))
 
 pub record Joins (o : Order) (os : List Order) : Type 0 where
   pub front : List Order

@@ -60,16 +60,15 @@ module _ (D : Desk) where
   unfolding memoryAfter
   memory-of-none m = refl
 
-  pub memory-of-more : (m : D .Memory) (es : List RawEvent) (e : RawEvent)
-      → memoryAfter D m (es ++ (e ∷ [])) ≡ D .next (memoryAfter D m es) e
-  unfolding memoryAfter
-  memory-of-more m [] e = refl
-  memory-of-more m (x ∷ es) e = memory-of-more (D .next m x) es e
-
   pub memory-joined : (m : D .Memory) (xs ys : List RawEvent) → memoryAfter D m (xs ++ ys) ≡ memoryAfter D (memoryAfter D m xs) ys
   unfolding memoryAfter
   memory-joined m [] ys = refl
   memory-joined m (x ∷ xs) ys = memory-joined (D .next m x) xs ys
+
+  pub memory-of-more : (m : D .Memory) (es : List RawEvent) (e : RawEvent)
+      → memoryAfter D m (es ++ (e ∷ [])) ≡ D .next (memoryAfter D m es) e
+  unfolding memoryAfter
+  memory-of-more m es e = memory-joined m es (e ∷ [])
 
   -- a list cut at one of its events
   pub memory-past : (m : D .Memory) (xs : List RawEvent) (n : RawEvent) (ys : List RawEvent)
@@ -81,18 +80,17 @@ module _ (D : Desk) where
   unfolding stateAfter
   state-of-none m k = refl
 
-  -- the book is kept by the answer that the event gets there
-  pub state-of-more : (m : D .Memory) (k : State) (es : List RawEvent) (e : RawEvent)
-      → stateAfter D m k (es ++ (e ∷ [])) ≡ keep (stateAfter D m k es) (asEvent e) (D .answerTo (memoryAfter D m es) e)
-  unfolding stateAfter memoryAfter
-  state-of-more m k [] e = refl
-  state-of-more m k (x ∷ es) e = state-of-more (D .next m x) (keep k (asEvent x) (D .answerTo m x)) es e
-
   pub state-joined : (m : D .Memory) (k : State) (xs ys : List RawEvent)
       → stateAfter D m k (xs ++ ys) ≡ stateAfter D (memoryAfter D m xs) (stateAfter D m k xs) ys
   unfolding stateAfter memoryAfter
   state-joined m k [] ys = refl
   state-joined m k (x ∷ xs) ys = state-joined (D .next m x) (keep k (asEvent x) (D .answerTo m x)) xs ys
+
+  -- the book is kept by the answer that the event gets there
+  pub state-of-more : (m : D .Memory) (k : State) (es : List RawEvent) (e : RawEvent)
+      → stateAfter D m k (es ++ (e ∷ [])) ≡ keep (stateAfter D m k es) (asEvent e) (D .answerTo (memoryAfter D m es) e)
+  unfolding stateAfter
+  state-of-more m k es e = state-joined m k es (e ∷ [])
 
   pub state-past : (m : D .Memory) (k : State) (xs : List RawEvent) (n : RawEvent) (ys : List RawEvent)
       → stateAfter D m k (xs ++ (n ∷ ys)) ≡ stateAfter D (D .next (memoryAfter D m xs) n)

@@ -3,7 +3,7 @@
 use Prim.Native.Nat.{ℕ, _+_, _≤_, _<_}
 use mathlib.Core.Path.{_≡_, refl}
 use mathlib.Core.Logic.{_≢_, by-cases}
-use mathlib.Core.Bool.{Bool, true, false}
+use mathlib.Core.Bool.{Bool, true}
 use mathlib.Core.Option.{Option, none, some}
 use native.Mathlib.Decide.{ℕ-discrete}
 use native.Mathlib.Omega.{arith}
@@ -18,6 +18,7 @@ use Rattle.ledger.specs.Roster.{Roster}
 use Rattle.ledger.specs.Positions.{Way, Scope, instrument, group}
 use Rattle.ledger.specs.Moves.{Moves}
 use Rattle.ledger.proofs.Movement.{moves?}
+use Rattle.ledger.proofs.Ways.{by-test}
 use Rattle.limits.specs.Lines.{isSet}
 use Rattle.limits.proofs.LineLaws.{set-some}
 use Rattle.book.specs.declared.Event.{Event}
@@ -121,14 +122,10 @@ module _ (k : State) (a : ℕ) (p : Scope) (w : Way) (bound : ℤ) where
   unfolding remaining
   changed-within id (Replace n) acc le h =
       let x = named-order k id (Replace n) (acc .passed) in
-      by (x .order) (x .found) (ltb (x .order .total) (natAbs n)) refl
-    where
-      by : (o : Order) → find id (k .book .orders) ≡ some o → (t : Bool) → ltb (o .total) (natAbs n) ≡ t
-          → potentialOf (work k (Change id (Replace n))) a p w ≤ℤ bound
-      by o found true up = raised-within id n acc o found (ltb-true (o .total) (natAbs n) up) le h
-      by o found false up =
-          let down = ltb-false (o .total) (natAbs n) up in
-          lowered-within id (Replace n) o found (omega arith) h
+      let o = x .order in
+      by-test (ltb (o .total) (natAbs n))
+      (λ up. raised-within id n acc o (x .found) (ltb-true (o .total) (natAbs n) up) le h)
+      (λ up. let down = ltb-false (o .total) (natAbs n) up in lowered-within id (Replace n) o (x .found) (omega arith) h)
   changed-within id Cancel acc le h =
       let x = named-order k id Cancel (acc .passed) in
       lowered-within id Cancel (x .order) (x .found) (omega arith) h

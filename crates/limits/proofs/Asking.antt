@@ -19,11 +19,9 @@ sameWay-true long short e = cc
 sameWay-true short long e = cc
 sameWay-true short short e = refl
 
-true-sameWay : (v w : Way) → v ≡ w → sameWay v w ≡ true
-true-sameWay long long e = refl
-true-sameWay long short e = cc
-true-sameWay short long e = cc
-true-sameWay short short e = refl
+same-itself : (w : Way) → sameWay w w ≡ true
+same-itself long = refl
+same-itself short = refl
 
 pub isZero-false : (z : ℤ) → z ≢ pos 0 → isZero z ≡ false
 isZero-false (pos n) h = ne-eqb n 0 (λ e. h (rw e))
@@ -40,7 +38,7 @@ module _ (r : Roster) (o : Order) (w : Way) where
   pub moves-instrument : (movesInstrument o w ≡ true) ↔ Moves r o (instrument (o .instrument)) w
   unfolding movesInstrument
   moves-instrument =
-      (λ e. (refl, sameWay-true (wayOf (o .side)) w e), λ m. true-sameWay (wayOf (o .side)) w (m .1))
+      (λ e. (refl, sameWay-true (wayOf (o .side)) w e), λ m. rw (m .1) (same-itself w))
 
   pub moves-group : (movesGroup r o w ≡ true) ↔ Moves r o (group (groupOfInstrument r (o .instrument))) w
   unfolding movesGroup
@@ -50,5 +48,5 @@ module _ (r : Roster) (o : Order) (w : Way) where
         λ e.
             let h = both-true (not (isZero k)) (sameWay v w) e in
             (refl, nonzero k (not-true (isZero k) (h .0)), sameWay-true v w (h .1)),
-        λ m. and-true (not (isZero k)) (sameWay v w) (rw (isZero-false k (m .1))) (true-sameWay v w (m .2)),
+        λ m. and-true (not (isZero k)) (sameWay v w) (rw (isZero-false k (m .1))) (rw (m .2) (same-itself w)),
       )
