@@ -49,19 +49,15 @@ module _ {o : Order} {os : List Order} (j : Joins o os) where
   joined-sums = rw (j .joined, j .whole) (joined-between o (j .front) (j .back))
 
   joined-members : (x : Order) → List·Memᴰ x (insert o os) ↔ ((x ≡ o) ⊎ List·Memᴰ x os)
-  joined-members x = rw (j .joined, j .whole) (there, back)
-    where
-      there : List·Memᴰ x (j .front ++ (o ∷ j .back)) → (x ≡ o) ⊎ List·Memᴰ x (j .front ++ j .back)
-      there m =
-          ⊎-elim (λ k. inr (Memᴰ·append-left (j .back) k))
-          (λ k. ⊎-elim (λ e. inl e) (λ h. inr (Memᴰ·append-right (j .front) h)) (List·Memᴰ·cases-cons k))
-          (List·Memᴰ·append-cases (j .front) m)
-
-      back : (x ≡ o) ⊎ List·Memᴰ x (j .front ++ j .back) → List·Memᴰ x (j .front ++ (o ∷ j .back))
-      back =
-          ⊎-elim (λ e. Memᴰ·append-right (j .front) (List·Memᴰ·head e))
-          (λ m. ⊎-elim (λ k. Memᴰ·append-left (o ∷ j .back) k) (λ k. Memᴰ·append-right (j .front) (List·Memᴰ·tail k))
-          (List·Memᴰ·append-cases (j .front) m))
+  joined-members x =
+      rw (j .joined, j .whole) (
+        λ m. ⊎-elim (λ k. inr (Memᴰ·append-left (j .back) k))
+            (λ k. ⊎-elim (λ e. inl e) (λ h. inr (Memᴰ·append-right (j .front) h)) (List·Memᴰ·cases-cons k))
+            (List·Memᴰ·append-cases (j .front) m),
+        ⊎-elim (λ e. Memᴰ·append-right (j .front) (List·Memᴰ·head e))
+            (λ m. ⊎-elim (λ k. Memᴰ·append-left (o ∷ j .back) k) (λ k. Memᴰ·append-right (j .front) (List·Memᴰ·tail k))
+            (List·Memᴰ·append-cases (j .front) m)),
+      )
 
   joined-length : length (insert o os) ≡ suc (length os)
   joined-length =

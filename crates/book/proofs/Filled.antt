@@ -18,7 +18,6 @@ use Rattle.ledger.specs.Fillings.{Filling, none, fill, fillMoves, balanceAfter}
 use Rattle.ledger.proofs.Ways.{by-test, toward-sum}
 use Rattle.book.specs.declared.OrderChange.the-variants.{Fill}
 use Rattle.book.specs.declared.Event.{Event}
-use Rattle.book.specs.Market.{Market}
 use Rattle.book.specs.OpenOrders.{find, change, kept}
 use Rattle.book.specs.Books.{changed, bookAfter}
 use Rattle.book.specs.States.{State, work}
@@ -163,18 +162,16 @@ fill-filling k sound id n zero =
       orders = sym (h .2);
     }
 
-joined-to : (mk : Market) {os : List Order} (f : Filling os) (rest : List Order) → leaves f ≡ rest → (g : Filling rest)
-    → Joins (mk .unit) f g
-joined-to mk f rest e = subst (λ l. (g : Filling l) → Joins (mk .unit) f g) e (joined (mk .unit) (mk .unit-filled) f)
-
 then-filled : (k : State) (e : Event) (k′ : State) → FilledTo k (work k e) → FilledTo (work k e) k′ → FilledTo k k′
 then-filled k e k′ first second =
-    let h = joined-to (k .market) (first .filling) (work k e .book .orders) (sym (first .orders)) (second .filling) in
+    let unit = k .market .unit in
+    let join = joined unit (k .market .unit-filled) (first .filling) in
+    let h = subst (λ l. (g : Filling l) → Joins unit (first .filling) g) (sym (first .orders)) join (second .filling) in
     record {
       filling = h .0;
       balances = λ a i.
           second .balances a i
-          ∙ ap (λ S. balanceAfter (k .market .unit) a S (second .filling) i) (fun-ext (first .balances a))
+          ∙ ap (λ S. balanceAfter unit a S (second .filling) i) (fun-ext (first .balances a))
           ∙ sym (h .1 a (k .book .balanceOf a) i);
       orders = second .orders ∙ sym (h .2);
     }

@@ -24,17 +24,11 @@ use Rattle.book.specs.Positions.{potentialOf}
 use Rattle.book.proofs.Shifts.{change-shift, change-balances, new-shift}
 use Rattle.book.proofs.Potentials.{fill-own, fill-other-side, new-counts}
 
-times-0 : (k : ℕ) → pos k *ℤ pos 0 ≡ pos 0
-times-0 k = omega (signed, scaled-parts k (pos 0))
-
 -- a group's side that a weight turns an order away from is the opposite of the order's own
 against-way : (K : ℤ) (w v : Way) → wayBy K v ≡ opposite w → v ≡ opposite (wayBy K w)
 against-way (pos k) w v e = e
-against-way (negsuc k) w v e = sym (opposite-twice v) ∙ ap opposite e
-  where
-    opposite-twice : (v : Way) → opposite (opposite v) ≡ v
-    opposite-twice long = refl
-    opposite-twice short = refl
+against-way (negsuc k) w long e = ap opposite e
+against-way (negsuc k) w short e = ap opposite e
 
 -- ---- NEW, REPLACE, CANCEL and FILL, at the group of the order's instrument
 module _ (k : State) where
@@ -118,7 +112,7 @@ module _ (k : State) where
         let K = r .weight (o .instrument) in
         let way : wayBy K w ≡ wayOf (o .side) = ap (wayBy K) (sym (moves .2)) ∙ weight-way K (wayOf (o .side)) in
         group-filled numbered w (pos 0) (rw way (fill-own k id o found n most ∙ sym (+ℤ-idr _)))
-        ∙ ap (λ z. ofAccount k own w +ℤ z) (times-0 (natAbs K))
+        ∙ ap (λ z. ofAccount k own w +ℤ z) (omega (signed, scaled-parts (natAbs K) (pos 0)))
         ∙ +ℤ-idr _
 
     pub fill-group-other-side : (w : Way) → Numbered (r .instruments) (o .instrument) → Moves r o own (opposite w)

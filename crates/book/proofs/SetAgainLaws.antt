@@ -23,11 +23,8 @@ use Rattle.book.proofs.LimitsStay.{under-own, under-default, group-set-
 -- ---- "by an accepted LIMIT": no other event sets a line, and a LIMIT sets the one that it names
 pub set-by-that-limit : (e : Event) (n : LineName) → (lineSet e ≡ some n) ↔ ((a : ℕ) × (l : LimitLine) × (e ≡ Limit a l) × (n ≡ nameOf a l))
 unfolding lineSet
-set-by-that-limit e n = (there e, λ h. rw (h .2, h .3) (sets-its-line (h .0) (h .1)))
+set-by-that-limit e n = (there e, λ h. rw (h .2, h .3))
   where
-    sets-its-line : (a : ℕ) (l : LimitLine) → lineSet (Limit a l) ≡ some (nameOf a l)
-    sets-its-line a l = refl
-
     there : (e : Event) → lineSet e ≡ some n → (a : ℕ) × (l : LimitLine) × (e ≡ Limit a l) × (n ≡ nameOf a l)
     there (Limit a l) h = (a, l, refl, cc)
     there (Balance a i z) h = none-some n h

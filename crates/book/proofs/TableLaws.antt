@@ -56,7 +56,20 @@ Raises b e o =
 
 pub entered-iff : (b : Book) (e : Event) (o : Order) → (entered b e ≡ some o) ↔ (IsNew e o ⊎ Raises b e o)
 unfolding entered newOrder replacedTotal
-entered-iff b e o = (there e, ⊎-elim by-new by-replace)
+entered-iff b e o = (
+  there e,
+  ⊎-elim (λ h. rw (h .1)
+      (λ i. some (record {
+        id = o .id;
+        account = o .account;
+        instrument = o .instrument;
+        side = o .side;
+        total = sym (h .2) i;
+        filled =
+            sym (h .3) i;
+      })))
+      (λ h. rw (h .3, h .4, lt-ltb (h .2 .total) (natAbs (h .1)) (h .5), h .6)),
+)
   where
     there : (e : Event) → entered b e ≡ some o → IsNew e o ⊎ Raises b e o
     there (Limit a l) h = none-some o h
@@ -67,19 +80,3 @@ entered-iff b e o = (there e, ⊎-elim by-new by-replace)
         let found = raised-found c (find id (b .orders)) o h in
         inr (id, found .0, found .1, ap (Change id) (found .2), found .3, found .4, found .5)
     there Junk h = none-some o h
-
-    by-new : IsNew e o → entered b e ≡ some o
-    by-new h =
-        rw (h .1)
-        (λ i. some (record {
-          id = o .id;
-          account = o .account;
-          instrument = o .instrument;
-          side = o .side;
-          total = sym (h .2) i;
-          filled =
-              sym (h .3) i;
-        }))
-
-    by-replace : Raises b e o → entered b e ≡ some o
-    by-replace h = rw (h .3, h .4, lt-ltb (h .2 .total) (natAbs (h .1)) (h .5), h .6)

@@ -3,8 +3,8 @@
 use Prim.Native.Nat.{ℕ, _+_, _≤_, _<_}
 use mathlib.Core.Path.{_≡_, refl}
 use mathlib.Core.Logic.{_≢_, by-cases}
-use mathlib.Core.Bool.{Bool, true}
-use mathlib.Core.Option.{Option, none, some}
+use mathlib.Core.Bool.{true}
+use mathlib.Core.Option.{none, some}
 use native.Mathlib.Decide.{ℕ-discrete}
 use native.Mathlib.Omega.{arith}
 use lib.Dec.{ltb}
@@ -28,7 +28,7 @@ use Rattle.book.specs.declared.Event.the-variants.{Limit, Balance, Block
 use Rattle.book.specs.OpenOrders.{find}
 use Rattle.book.specs.Books.{Book, newOrder, bookAfter}
 use Rattle.book.specs.States.{State, work}
-use Rattle.book.specs.Table.{figuresFit, changeInRange, idOpen, fitsOrder, quantityFits, whereSome, entered}
+use Rattle.book.specs.Table.{figuresFit, changeInRange, idOpen, fitsOrder, quantityFits, entered}
 use Rattle.book.specs.Positions.{potentialOf}
 use Rattle.book.specs.Demand3.{limitOf}
 use Rattle.book.proofs.Accepted.{Passed, Accepted}
@@ -49,10 +49,6 @@ SetsNoBalance a Junk = Unit
 pub found-order : (id : ℕ) (b : Book) → isSet (find id (b .orders)) ≡ true → (o : Order) × (find id (b .orders) ≡ some o)
 found-order id b e = set-some (find id (b .orders)) e
 
--- a test of the order found
-pub test-found : (test : Order → Bool) (x : Option Order) (o : Order) → x ≡ some o → whereSome test x ≡ true → test o ≡ true
-test-found test x o e h = rw e at h
-
 -- the order that an accepted change names, and that the change fits it
 pub record Named (k : State) (id : ℕ) (c : OrderChange) : Type 0 where
   pub order : Order
@@ -67,7 +63,7 @@ named-order k id c ok =
     record {
       order = f .0;
       found = f .1;
-      fits = test-found (fitsOrder c) (find id (k .book .orders)) (f .0) (f .1) (ok .quantity);
+      fits = rw (f .1) at (ok .quantity);
       figures = ok .figures;
     }
 

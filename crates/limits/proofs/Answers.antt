@@ -31,18 +31,6 @@ abbrev pub Counted : List Question → Type 0
 Counted [] = Unit
 Counted (q ∷ qs) = (1 ≤ q .number) × Counted qs
 
--- every question is answered yes, by place
-abbrev pub Yes : List Question → Type 0
-Yes [] = Unit
-Yes (q ∷ qs) = (q .passes ≡ true) × Yes qs
-
-pub pass-each : (qs : List Question) → allPass qs ≡ true → Yes qs
-unfolding allPass
-pass-each [] e = tt
-pass-each (q ∷ qs) e =
-    let h = both-true (q .passes) (allPass qs) e in
-    (h .0, pass-each qs (h .1))
-
 -- a passed question is found by its number: the answer to question n, yes where no question has that number
 abbrev pub passesAt : ℕ → List Question → Bool
 passesAt n [] = true

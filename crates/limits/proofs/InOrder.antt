@@ -97,13 +97,6 @@ module _ (r : Roster) (ls : Lines) (before after : List Order) (S : ℕ → ℤ)
   unfolding within potential limit
   of-instrument = rw (found, most, instrument-raised n o before after raised S, in-force)
 
-  in-group : Numbered (r .instruments) (o .instrument) → (v : Way) → v ≡ wayBy (r .weight (o .instrument)) (wayOf (o .side)) → (y q : ℤ)
-      → y ≡ potential one r before (o .account) S (group (groupOfInstrument r (o .instrument))) v +ℤ pos
-      (natAbs (r .weight (o .instrument))) *ℤ pos n → q ≡ pos 10000 *ℤ pos (largestOfGroup v (groupLineAt groupLine 0))
-      → within one r ls after S o (group (groupOfInstrument r (o .instrument))) v ≡ leZ y q
-  unfolding within limit
-  in-group numbered v way y q e f = rw (e, f, group-raised n o before after raised S r numbered v way, of-group)
-
   by-tests : (t u : Bool) (v : Way) → v ≡ wayBy (r .weight (o .instrument)) (wayOf (o .side)) → leZ x m ≡ t
       → within one r ls after S o (group (groupOfInstrument r (o .instrument))) v ≡ u
       → firstNo (positionQuestions one r ls after S o) ≡ cond t (cond (isZero (r .weight (o .instrument)) || u) 0 (groupNumber v))
@@ -125,5 +118,7 @@ module _ (r : Roster) (ls : Lines) (before after : List Order) (S : ℕ → ℤ)
       → y ≡ potential one r before (o .account) S (group (groupOfInstrument r (o .instrument))) v +ℤ pos
       (natAbs (r .weight (o .instrument))) *ℤ pos n → q ≡ pos 10000 *ℤ pos (largestOfGroup v (groupLineAt groupLine 0)) → (t : Bool)
       → leZ y q ≡ t → firstNo (positionQuestions one r ls after S o) ≡ cond t 0 (groupNumber v)
+  unfolding within limit
   by-group e numbered weight v way y q d f t h =
-      by-tests true t v way e (in-group numbered v way y q d f ∙ h) ∙ simp (isZero-false (r .weight (o .instrument)) weight)
+      by-tests true t v way e (rw (group-raised n o before after raised S r numbered v way, of-group, ← d, ← f) h)
+      ∙ simp (isZero-false (r .weight (o .instrument)) weight)
