@@ -25,15 +25,11 @@ pub data Became (o : Order) : List Order → Type 0 where
   gone : Became o []
   became : {o′ : Order} → o′ .id ≡ o .id → Became o (o′ ∷ [])
 
-kept-became : (o o′ : Order) → o′ .id ≡ o .id → Became o (kept o′)
-unfolding kept
-kept-became o o′ e = by-test (closes o′) (λ t. rw t gone) (λ t. rw t (became e))
-
 pub changed-became : (c : OrderChange) (o : Order) → Became o (changed c o)
-unfolding changed replacedTotal filledBy
+unfolding changed replacedTotal filledBy kept
 changed-became (Replace n) o = became refl
 changed-became Cancel o = gone
-changed-became (Fill n) o = kept-became o (filledBy o (natAbs n)) refl
+changed-became (Fill n) o = by-test (closes (filledBy o (natAbs n))) (λ t. rw t gone) (λ t. rw t (became refl))
 
 -- ---- ascending
 pub ascending-from : {m n : ℕ} {os : List Order} → m ≤ n → Ascending n os → Ascending m os

@@ -1,7 +1,7 @@
 -- "Set again", by lines; and a limit stays as it is unless it is set again.
 use Prim.Native.Nat.{ℕ}
 use mathlib.Core.Path.{_≡_, refl, sym, _∙_, ap}
-use mathlib.Core.Logic.{_↔_, ⊎-elim, _≢_, inl, inr, by-cases}
+use mathlib.Core.Logic.{_↔_, ⊎-elim, inl, inr, by-cases}
 use mathlib.Core.Bool.{true, false}
 use mathlib.Core.Option.{some}
 use native.Mathlib.Decide.{ℕ-discrete}
@@ -47,10 +47,6 @@ module _ (k : State) (a : ℕ) where
   pub lines-own : (l : LimitLine) → work k (Limit a l) .book .linesOf a ≡ setLine l (k .book .linesOf a)
   unfolding bookAfter
   lines-own l = at-here a (setLine l (k .book .linesOf a)) (k .book .linesOf) a refl
-
-  pub lines-other : (c : ℕ) (l : LimitLine) → a ≢ c → work k (Limit c l) .book .linesOf a ≡ k .book .linesOf a
-  unfolding bookAfter
-  lines-other c l other = at-elsewhere c (setLine l (k .book .linesOf c)) (k .book .linesOf) a other
 
 -- ---- a limit stays unless it is set again
 module _ (k : State) (a : ℕ) (w : Way) where
@@ -104,7 +100,7 @@ module _ (k : State) (a : ℕ) (w : Way) where
   unfolding bookAfter
   limit-stays (Limit c l) p out =
       by-cases (ℕ-discrete c a) (λ e. rw e (ap (λ (x : Lines). limit r x p w) (lines-own k a l) ∙ own-stays l p (rw e at out)))
-      (λ other. ap (λ (x : Lines). limit r x p w) (lines-other k a c l (λ e. other (sym e))))
+      (λ other. rw (at-elsewhere c (setLine l (k .book .linesOf c)) (k .book .linesOf) a (λ e. other (sym e))))
   limit-stays (Balance c i z) p out = refl
   limit-stays (Block what z) p out = refl
   limit-stays (New s c i id n) p out = refl

@@ -3,7 +3,7 @@
 use Prim.Native.Nat.{ℕ}
 use mathlib.Core.Path.{_≡_, sym, _∙_}
 use mathlib.Core.Logic.{_≢_, by-cases}
-use mathlib.Core.Bool.{false, true≢false}
+use mathlib.Core.Bool.{true≢false}
 use mathlib.Core.List.{[], List·Memᴰ, List·Memᴰ·not-nil}
 use native.Mathlib.Decide.{ℕ-discrete}
 use native.Mathlib.Omega.{arith}
@@ -71,17 +71,14 @@ module _ (k : State) (sound : Sound k) where
   lines-after (Change id c) ok a = sound .lines a
   lines-after Junk ok a = sound .lines a
 
-  -- an account that is not marked has no open order
-  pub unmarked-idle : (a : ℕ) → k .beside .trading a ≡ false → (o : Order) → List·Memᴰ o (k .book .orders) → o .account ≢ a
-  unmarked-idle a unmarked o m own = true≢false (sym (sound .marked o m) ∙ (rw (← own) at unmarked))
-
-  -- so where a BALANCE is accepted, the positions that it leaves are in range
+  -- where a BALANCE is accepted, the account is not marked and has no open order, so the positions that it leaves are in range
   balance-bounded : (a i : ℕ) (z : ℤ) → Passed k (Balance a i z) → (j : ℕ) (w : Way)
       → potentialOf (work k (Balance a i z)) a (instrument j) w ≤ℤ pos (k .market .largest)
   unfolding figuresFit notYetTrading position potential
   balance-bounded a i z ok j w =
       let largest = k .market .largest in
-      let free = unmarked-idle a (not-true (k .beside .trading a) (ok .idle)) in
+      let free : (o : Order) → List·Memᴰ o (k .book .orders) → o .account ≢ a =
+      (λ o m own. true≢false (sym (sound .marked o m) ∙ (rw (← own) at (not-true (k .beside .trading a) (ok .idle))))) in
       rw (balance-own k a (instrument j) w i z free)
       (at-each i z (k .book .balanceOf a) (λ x. toward w x ≤ℤ pos (k .market .largest)) j
       (λ _. let h = betweenℤ-both (negℤ (pos largest)) (pos largest) z (ok .figures) in

@@ -19,6 +19,7 @@ use Rattle.ledger.specs.Positions.{Way, Scope, instrument, group}
 use Rattle.ledger.specs.Moves.{Moves}
 use Rattle.ledger.proofs.Movement.{moves?}
 use Rattle.ledger.proofs.Ways.{by-test}
+use Rattle.ledger.proofs.Changes.{shift-unmoved, shift-of-another}
 use Rattle.limits.specs.Lines.{isSet}
 use Rattle.limits.proofs.LineLaws.{set-some}
 use Rattle.book.specs.declared.Event.{Event}
@@ -26,14 +27,14 @@ use Rattle.book.specs.declared.OrderChange.{OrderChange}
 use Rattle.book.specs.declared.OrderChange.the-variants.{Replace, Cancel, Fill}
 use Rattle.book.specs.declared.Event.the-variants.{Limit, Balance, Block, New, Change, Junk}
 use Rattle.book.specs.OpenOrders.{find}
-use Rattle.book.specs.Books.{Book, newOrder, bookAfter}
+use Rattle.book.specs.Books.{Book, newOrder, bookAfter, changedBalances}
 use Rattle.book.specs.States.{State, work}
 use Rattle.book.specs.Table.{figuresFit, changeInRange, idOpen, fitsOrder, quantityFits, entered}
 use Rattle.book.specs.Positions.{potentialOf}
 use Rattle.book.specs.Demand3.{limitOf}
 use Rattle.book.proofs.Accepted.{Passed, Accepted}
-use Rattle.book.proofs.Shifts.{remainsAfter, filledIn}
-use Rattle.book.proofs.Potentials.{limit-level, block-level, balance-other, new-unmoved, new-other, replace-unmoved, replace-other}
+use Rattle.book.proofs.Shifts.{remainsAfter, filledIn, change-shift}
+use Rattle.book.proofs.Potentials.{balance-other, new-unmoved, new-other}
 use Rattle.book.proofs.Potentials.{change-lowers}
 
 -- the event sets no balance of account a
@@ -104,14 +105,15 @@ module _ (k : State) (a : ℕ) (p : Scope) (w : Way) (bound : ℤ) where
   raised-within : (id : ℕ) (n : ℤ) → Accepted k (Change id (Replace n)) → (o : Order) → find id (k .book .orders) ≡ some o
       → o .total < natAbs n → limitOf k a p w ≤ℤ bound → potentialOf k a p w ≤ℤ bound
       → potentialOf (work k (Change id (Replace n))) a p w ≤ℤ bound
-  unfolding bookAfter replacedTotal
+  unfolding bookAfter changedBalances replacedTotal
   raised-within id n acc o found up le h =
+      let shift = change-shift k id o found (Replace n) in
       by-cases (ℕ-discrete (o .account) a)
       (λ own. by-cases (moves? (k .roster) o p w)
       (λ m. entered-within (Change id (Replace n)) acc (replacedTotal o (natAbs n)) (enters-raised (k .book) id n o found up) refl le own
       (replaced-moves (k .roster) o (natAbs n) w p m))
-      (λ m. let same = replace-unmoved k a p w id o found n m in omega signed))
-      (λ other. let same = replace-other k a p w id o found n other in omega signed)
+      (λ m. rw (shift-unmoved shift a (k .book .balanceOf a) (k .roster) p w m) h))
+      (λ other. rw (shift-of-another shift a (k .book .balanceOf a) (k .roster) p w other) h)
 
   changed-within : (id : ℕ) (c : OrderChange) → Accepted k (Change id c) → limitOf k a p w ≤ℤ bound → potentialOf k a p w ≤ℤ bound
       → potentialOf (work k (Change id c)) a p w ≤ℤ bound
@@ -133,9 +135,9 @@ module _ (k : State) (a : ℕ) (p : Scope) (w : Way) (bound : ℤ) where
   pub kept-within : (e : Event) → Accepted k e → SetsNoBalance a e → limitOf k a p w ≤ℤ bound → potentialOf k a p w ≤ℤ bound
       → potentialOf (work k e) a p w ≤ℤ bound
   unfolding entered newOrder bookAfter
-  kept-within (Limit c l) acc out le h = let same = limit-level k a p w c l in omega signed
+  kept-within (Limit c l) acc out le h = h
   kept-within (Balance c i z) acc out le h = let same = balance-other k a p w c i z out in omega signed
-  kept-within (Block what z) acc out le h = let same = block-level k a p w what z in omega signed
+  kept-within (Block what z) acc out le h = h
   kept-within (New s c i id n) acc out le h =
       let o = newOrder s c i id n in
       by-cases (ℕ-discrete c a)

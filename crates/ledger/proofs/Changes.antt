@@ -16,10 +16,11 @@ use Rattle.ledger.specs.Positions.{Way, Scope, opposite, toward, wayOf, 
 use Rattle.ledger.specs.Positions.{group, wayBy}
 use Rattle.ledger.specs.Fillings.{fillMoves}
 use Rattle.ledger.specs.Moves.{Moves}
-use Rattle.ledger.proofs.Ways.{side-back, other-side}
+use Rattle.ledger.proofs.Ways.{side-back}
 use Rattle.ledger.proofs.Amounts.{amount, Stands, Alike, amount-alike, amount-here, amount-apart, amount-none, amount-nonneg}
 use Rattle.ledger.proofs.Amounts.{amount-sum, amount-≤}
-use Rattle.ledger.proofs.Sums.{Joined, Changed, Permuted, open-joined, open-changed, open-permuted, open-nowhere}
+use Rattle.ledger.proofs.Sums.{Joined, Changed, Permuted, open-joined, open-changed, open-nowhere}
+use Rattle.ledger.proofs.Sums.{open-sum, sum-permuted, adds}
 use Rattle.ledger.proofs.Scopes.{wayTo, potential-≤, potential-same, potential-weighted, position-weighted, weighted-same}
 use Rattle.ledger.proofs.Scopes.{weight-way, group-moved}
 use Rattle.ledger.proofs.Movement.{fill-moves, unmoved-amount}
@@ -202,9 +203,6 @@ module _ {unit : Order → ℕ} {o : Order} {m m′ : ℕ} {orders orders′ : L
       let y = amount unit (sideTo (opposite v)) a i o n in
       omega (signed, fill-instrument i v, amount-apart unit (sideTo (opposite v)) a i o n out, difference-parts x y)
 
-  pub fill-kept : (i : ℕ) (v : Way) → wayOf (o .side) ≡ v → ofInstrument unit orders′ a S′ i v ≡ ofInstrument unit orders a S i v
-  fill-kept i v along = fill-level i v (λ h. other-side v (cc (side-back (o .side), h .0)))
-
   pub fill-opposite : o .account ≡ a → (v : Way) → wayOf (o .side) ≡ opposite v
       → ofInstrument unit orders′ a S′ (o .instrument) v ≡ ofInstrument unit orders a S (o .instrument) v -ℤ pos (unit o * n)
   fill-opposite own v against =
@@ -234,7 +232,7 @@ module _ (unit : Order → ℕ) (r : Roster) (a : ℕ) (orders : List Order) (S 
       → potential unit r orders′ a S p w ≡ potential unit r orders a S p w
   unfolding ofInstrument
   potential-permuted {orders′} permuted =
-      level orders′ S (λ i v. ap (λ x. toward v (S i) +ℤ x) (open-permuted unit (sideTo v) a i permuted))
+      level orders′ S (λ i v. ap (λ x. toward v (S i) +ℤ x) (simp open-sum (sum-permuted (adds unit (sideTo v) a i) permuted)))
 
   -- with no open order of the account the potential position is the position
   pub idle : ((o : Order) → List·Memᴰ o orders → o .account ≢ a) → potential unit r orders a S p w ≡ position r S p w

@@ -47,10 +47,6 @@ sumTo-strict f g n j b mono grows =
 abbrev pub groupTerm : Roster → ℕ → (ℕ → ℤ) → ℕ → ℤ
 groupTerm r g f j = cond (eqb (groupOfInstrument r (suc j)) g) (f (suc j)) (pos 0)
 
-pub group-sum : (r : Roster) (g : ℕ) (f : ℕ → ℤ) → sumGroup r g f ≡ sumTo (groupTerm r g f) (r .instruments)
-unfolding sumGroup
-group-sum r g f = refl
-
 module _ (r : Roster) (g : ℕ) where
   -- instrument i is of the group
   abbrev pub Of : ℕ → Type 0

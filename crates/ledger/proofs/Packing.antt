@@ -67,10 +67,6 @@ module _ (o : Order) (fits : Storable o) where
   above : ℕ
   above = o .filled + remaining o * 134217728
 
-  parted : detail o ≡ low + above * 1024
-  unfolding detail above
-  parted = omega arith
-
   low-below : low < 1024
   low-below = packed-below (o .account) (o .instrument) (fits .packable) (o .side)
 
@@ -83,8 +79,9 @@ module _ (o : Order) (fits : Storable o) where
   numbers-back = omega (arith, low-below, fits .filled, fits .part)
 
   pub detail-back : orderOf (o .id) (detail o) ≡ o
-  unfolding orderOf
+  unfolding orderOf detail above
   detail-back =
+      let parted : detail o ≡ low + above * 1024 = omega arith in
       let a = o .account in
       let i = o .instrument in
       rw (

@@ -56,10 +56,6 @@ module _ (m : List ℕ) (k : ℕ) where
   unfolding lineAt
   line-in-part = rw (first-in-part 2 (omega arith), word-part m k 2 1 (omega arith))
 
-  pub group-line-in-part : groupLineAt (partOf m k 1) 0 ≡ groupLineAt m k
-  unfolding groupLineAt
-  group-line-in-part = rw (first-in-part 1 (omega arith))
-
 -- ---- the part of the line in force
 module _ (own default : List ℕ) (set i c : ℕ) where
   pub own-part : saysSet set ≡ true → partOf own (i * 2) 2 ≡ linePart own default set i c
@@ -81,10 +77,6 @@ module _ (own default : List ℕ) (set i c : ℕ) where
 pub set-by-word : {A : Type 0} (w : ℕ) (l : A) → isSet (whereSet w l) ≡ saysSet w
 unfolding whereSet
 set-by-word w l = by-test (saysSet w) (λ t. rw t) (λ t. rw t)
-
-where-set : {A : Type 0} (w : ℕ) (l : A) → isSet (whereSet w l) ≡ true → whereSet w l ≡ some l
-unfolding whereSet
-where-set w l e = by-test (saysSet w) (λ t. rw t) (λ t. absurd (false≢true (rw t at e)))
 
 -- the own line where it is set, else the default line
 whole : (t u : Bool) (l d : Line) (x y : List ℕ) → lineAt x 0 ≡ l → lineAt y 0 ≡ d
@@ -108,5 +100,7 @@ module _ (own ownSet default defaultSet ofGroup groupSet : List ℕ) where
 
   -- the group's line, where it is set, stands in its part
   pub of-group : (g : ℕ) → isSet (lines .lineOfGroup g) ≡ true → lines .lineOfGroup g ≡ some (groupLineAt (partOf ofGroup g 1) 0)
-  unfolding linesIn
-  of-group g e = rw (group-line-in-part ofGroup g) (where-set (wordAt groupSet g) (groupLineAt ofGroup g) e)
+  unfolding linesIn groupLineAt whereSet
+  of-group g e =
+      by-test (saysSet (wordAt groupSet g)) (λ t. rw (t, first-in-part ofGroup g 1 (omega arith)))
+      (λ t. absurd (false≢true (rw t at e)))

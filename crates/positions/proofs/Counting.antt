@@ -53,10 +53,6 @@ module _ (m : List ℕ) (n : ℕ) (s : Side) (a i : ℕ) where
   unfolding left
   left-all = let e : n - 0 ≡ n = omega arith in rw e
 
-  pub left-end : (p : ℕ) → n ≤ p → left p ≡ pos 0
-  unfolding left ordersFrom
-  left-end p h = let e : n - p ≡ 0 = omega arith in rw e (open-none one s a i)
-
   pub left-turn : (p : ℕ) → p < n → left p ≡ pos (counted (orderAt m p) s a i) +ℤ left (p + 1)
   unfolding left ordersFrom
   left-turn p h =
@@ -71,7 +67,11 @@ module _ (m : List ℕ) (n : ℕ) (s : Side) (a i : ℕ) where
       omega (signed, sum-parts (pos x) (left p), sum-parts (pos r) (left (p + 1)), sum-parts (pos (x + r)) (left (p + 1)))
 
   pub counted-all : (x p : ℕ) → n ≤ p → pos x +ℤ left p ≡ left 0 → pos x ≡ openOn one (ordersFrom m 0 n) s a i
-  counted-all x p h whole = omega (signed, left-end p h, left-all, sum-parts (pos x) (left p))
+  unfolding left ordersFrom
+  counted-all x p h whole =
+      let none : n - p ≡ 0 = omega arith in
+      let end : left p ≡ pos 0 = rw none (open-none one s a i) in
+      omega (signed, left-all, sum-parts (pos x) (left p))
 
   -- and is no more than the whole
   pub counted-small : (x p most : ℕ) → pos x +ℤ left p ≡ left 0 → natAbs (openOn one (ordersFrom m 0 n) s a i) ≤ most → x ≤ most

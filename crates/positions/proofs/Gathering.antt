@@ -73,10 +73,6 @@ pub record Rows (of : ℕ → Type 0) (first : ℕ → ℕ) : Type 1 where
 abbrev pub ownCell : (ℕ → ℕ) → Order → ℕ
 ownCell first o = first (o .account) + cell (o .side) (o .instrument)
 
--- the cells of one account alone
-pub one-row : (a : ℕ) → Rows (λ b. b ≡ a) (λ b. 0)
-one-row a = record { apart = λ b c j k h l u v e. h ∙ sym l }
-
 module _ (of : ℕ → Type 0) (first : ℕ → ℕ) (rows : Rows of first) where
   pub same-cell : (s t : Side) (a i b k : ℕ) → of a → Numbered 32 i → of b → Numbered 32 k → first a + cell s i ≡ first b + cell t k →
       (s ≡ t) × (a ≡ b) × (i ≡ k)
@@ -178,7 +174,8 @@ module _ (m : List ℕ) (n a : ℕ) (cells : List ℕ) (p : ℕ) (size : length 
     passed-own cells′ e =
         let inside : ownCell (λ b. 0) o < length cells = omega (arith, own-cell, passed-fits .0) in (
           rw (e, added-length cells j r) size,
-          passed-more (λ b. b ≡ a) (λ b. 0) m n cells p past o here h (one-row a) own passed-numbered inside cells′
+          passed-more (λ b. b ≡ a) (λ b. 0) m n cells p past o here h (record { apart = λ b c j k u v w x e. u ∙ sym v }) own
+              passed-numbered inside cells′
               (e ∙ rw (own-cell, rest)),
         )
 

@@ -21,7 +21,7 @@ use ghost.Atoms.{Atoms, sem}
 use contract.Monad.{Fun, fact}
 use contract.Running.{givenOf, tables, tablesOf}
 use sound.WpLaws.{fmOf, WpFn-mono}
-use types.Kit.{Given, Item, ‵, raw, _⊛_, some, later, ⋆, Sq, runs, anyQ, atRet, _$_, _∵_, !, qed, by, move, keep, drop}
+use types.Kit.{Given, Item, ‵, raw, _⊛_, some, later, ⋆, Sq, runs, atRet, _$_, _∵_, !, qed, by, move, keep, drop}
 use types.Kit.{use0, use1, split, join, pick, rewrite, fsplit, fjoin, suffices, frame, await, done}
 use types.Run.{look, look-raw, store, init, forget, stop, hop, fld, from, load, lit, of-opd, bin, and-then, no-more}
 use types.Run.{assigns, assigns-last, land, stays, leaves-loop, exec, again, returns}
@@ -43,7 +43,7 @@ use denote.Triple.Statement.{Contract, Triple}
 use denote.Triple.Spec.{Meets, tripleOf}
 use denote.Triple.Clauses.{ensured, lasts}
 use denote.Triple.Table.{entered, cited}
-use denote.Triple.Walked.{says, needs, Stays, stay-none-slice, stay-none, walkOf, Walks, ends-at, walked, goes-none-slice, goes-none}
+use denote.Triple.Walked.{says, needs, Stays, stay-none-slice, stay-none, walkOf, ends-at, walked, goes-none-slice, goes-none}
 use denote.Triple.Walked.{walk-meets}
 use Rattle.ledger.specs.declared.order.Order.{Order}
 use Rattle.ledger.specs.declared.order.Side.{Side}
@@ -286,36 +286,23 @@ module _ {M : Type 1} (𝓤 : URA M) (H : Heap 𝓤) (A : Atoms 𝓤) (W : Given
 
 module _ {M : Type 1} (𝓤 : URA M) (H : Heap 𝓤) (A : Atoms 𝓤) (W : Given 𝓤 H A) (mem : Memory → SProp 𝓤) (run : Routine → Fun 𝓤)
     (𝓣 : Tables 𝓤 H) (known : Triple 𝓤 (𝓣 .C #positions·counted) (Counted 𝓤 H A mem run)) where
-  abbrev runs-it : Fun 𝓤
-  runs-it = WpFn 𝓤 H (𝓣 .C) (𝓣 .Λ) code.function
-
-  counted-to-walks : Walks 𝓤 H A counted-to.ended stayed runs-it (counted-to.clauses 𝓤 H A mem run)
-  counted-to-walks =
-      walked 𝓤 H A counted-to.ended stayed (counted-to.clauses 𝓤 H A mem run) runs-it
+  counted-to-meets : Meets 𝓤 H A counted-to.signature (WpFn 𝓤 H (𝓣 .C) (𝓣 .Λ) code.function) (counted-to.spec 𝓤 H A mem run)
+  counted-to-meets =
+      let runs-it = WpFn 𝓤 H (𝓣 .C) (𝓣 .Λ) code.function in
+      let count = goes-none 𝓤 H A W 1 (λ _. usize) yes (λ κs x f. refl) in
+      let side = goes-none 𝓤 H A W 1 (λ _. SideR) yes (λ κs x f. refl) in
+      let number = goes-none 𝓤 H A W 1 (λ _. u64) yes (λ κs x f. refl) in
+      walk-meets 𝓤 H A counted-to.ended stayed W
+      (goes-none-slice 𝓤 H A W 1 (0 ∷ []) tt (plain (λ _. OrderR)) yes, (count, (side, (number, (number, tt)))))
+      (counted-to.clauses 𝓤 H A mem run) runs-it (WpFn-mono 𝓤 H (W .laws) 𝓣 code.function)
+      (walked 𝓤 H A counted-to.ended stayed (counted-to.clauses 𝓤 H A mem run) runs-it
       (λ κs. (slice-vals, (uint-vals w64, ((λ z. side-val z ∷ []), (uint-vals w64, (uint-vals w64, tt))))))
       (λ κs. (shr-slice-tells (named 0) (κs .0) OrderR, (uint-tells w64, (side-tells, (uint-tells w64, (uint-tells w64, tt))))))
       (λ κs qs bounds a g are. needs 𝓤 ((a .1 .0 ≤ length (now (a .0)))
       × (countedTo (now (a .0)) (a .1 .0) (a .1 .1 .0) (a .1 .1 .1 .0) (a .1 .1 .1 .1 .0) ≤ 9000000000000000000)) _ (λ pre.
       walk 𝓤 H A W mem run (κs .0) (qs .0) (a .0 .ptr .0) (a .0 .ptr .1) (a .0 .name) (a .0 .now)
       (a .1 .0) (a .1 .1 .0) (a .1 .1 .1 .0) (a .1 .1 .1 .1 .0)
-      (are .0 .0 .1) (are .1 .0 .1) (are .1 .1 .0) (are .1 .1 .1 .0 .1) (are .1 .1 .1 .1 .0 .1) (pre .0) (pre .1) 𝓣 known))
-
-  counted-to-meets : Meets 𝓤 H A counted-to.signature runs-it (counted-to.spec 𝓤 H A mem run)
-  counted-to-meets =
-      walk-meets 𝓤 H A counted-to.ended stayed W (
-        goes-none-slice 𝓤 H A W 1 (0 ∷ []) tt (plain (λ _. OrderR)) yes,
-        (
-          goes-none 𝓤 H A W 1 (λ _. usize) yes (λ κs x f. refl),
-          (
-            goes-none 𝓤 H A W 1 (λ _. SideR) yes (λ κs x f. refl),
-            (
-              goes-none 𝓤 H A W 1 (λ _. u64) yes (λ κs x f. refl),
-              (goes-none 𝓤 H A W 1 (λ _. u64) yes (λ κs x f. refl), tt),
-            ),
-          ),
-        ),
-      )
-      (counted-to.clauses 𝓤 H A mem run) runs-it (WpFn-mono 𝓤 H (W .laws) 𝓣 code.function) counted-to-walks
+      (are .0 .0 .1) (are .1 .0 .1) (are .1 .1 .0) (are .1 .1 .1 .0 .1) (are .1 .1 .1 .1 .0 .1) (pre .0) (pre .1) 𝓣 known)))
 
 pub counted-to-spec : {M : Type 1} → stated.statement M
 unfolding code.routine tablesOf

@@ -22,7 +22,7 @@ use contract.Monad.{Fun, fact}
 use contract.Running.{givenOf, tables, tablesOf}
 use contract.Lifetimes.{AllOutlive}
 use sound.WpLaws.{fmOf, WpFn-mono}
-use types.Kit.{Given, Item, ‵, raw, _⊛_, some, later, ⋆, Sq, runs, anyQ, atRet, _$_, _∵_, !, qed, by, move, keep, drop}
+use types.Kit.{Given, Item, ‵, raw, _⊛_, some, later, ⋆, Sq, runs, atRet, _$_, _∵_, !, qed, by, move, keep, drop}
 use types.Kit.{use1, use2, split, split3, join, pick, rewrite, fsplit, fsplit3, fjoin, fjoin3, feqI, suffices, frame, await, done}
 use types.Run.{look, store, store-raw, init, forget, stop, hop, fld, from, load, lit, unit-lit, of-opd, bin, and-then, no-more}
 use types.Run.{assigns, assigns-last, land, stays, leaves-loop, exec, again, returns}
@@ -45,7 +45,7 @@ use denote.Triple.Statement.{Contract, Triple}
 use denote.Triple.Spec.{Meets, tripleOf}
 use denote.Triple.Clauses.{ensured, lasts}
 use denote.Triple.Table.{entered, cited}
-use denote.Triple.Walked.{says, needs, Stays, stay-slice, stay-none-slice, stay-none, walkOf, Walks, ends-at, walked}
+use denote.Triple.Walked.{says, needs, Stays, stay-slice, stay-none-slice, stay-none, walkOf, ends-at, walked}
 use denote.Triple.Walked.{goes-slice, goes-none-slice, goes-none, walk-meets}
 use Rattle.ledger.specs.declared.order.Order.{Order}
 use Rattle.ledger.specs.Records.{orderAt}
@@ -275,20 +275,9 @@ module _ {M : Type 1} (𝓤 : URA M) (H : Heap 𝓤) (A : Atoms 𝓤) (W : Given
 
 module _ {M : Type 1} (𝓤 : URA M) (H : Heap 𝓤) (A : Atoms 𝓤) (W : Given 𝓤 H A) (mem : Memory → SProp 𝓤) (run : Routine → Fun 𝓤)
     (𝓣 : Tables 𝓤 H) (known : Triple 𝓤 (𝓣 .C #ledger·load) (Load 𝓤 H A mem run)) where
-  abbrev runs-it : Fun 𝓤
-  runs-it = WpFn 𝓤 H (𝓣 .C) (𝓣 .Λ) code.function
-
-  load-into-walks : Walks 𝓤 H A load-into.ended stayed runs-it (load-into.clauses 𝓤 H A mem run)
-  load-into-walks =
-      walked 𝓤 H A load-into.ended stayed (load-into.clauses 𝓤 H A mem run) runs-it (λ κs. (slice-vals, (slice-vals, (uint-vals w64, tt))))
-      (λ κs. (mut-slice-tells (named 0) (κs .0) OrderR, (shr-slice-tells (named 1) (κs .1 .0) u8, (uint-tells w64, tt))))
-      (λ κs qs bounds a g are. needs 𝓤 ((a .1 .1 .0 ≤ length (now (a .0))) × (a .1 .1 .0 * 16 ≤ length (now (a .1 .0)))) _ (λ pre.
-      walk 𝓤 H A W mem run (κs .0) (κs .1 .0) bounds (qs .0) (qs .1 .0) (a .0 .ptr .0) (a .0 .ptr .1) (a .0 .name) (a .0 .now)
-      (a .1 .0 .ptr .0) (a .1 .0 .ptr .1) (a .1 .0 .name) (a .1 .0 .now) (a .1 .1 .0)
-      (are .0 .0 .1) (are .1 .0 .0 .1 .0) (are .1 .1 .0 .1) (pre .0) (pre .1) 𝓣 known))
-
-  load-into-meets : Meets 𝓤 H A load-into.signature runs-it (load-into.spec 𝓤 H A mem run)
+  load-into-meets : Meets 𝓤 H A load-into.signature (WpFn 𝓤 H (𝓣 .C) (𝓣 .Λ) code.function) (load-into.spec 𝓤 H A mem run)
   load-into-meets =
+      let runs-it = WpFn 𝓤 H (𝓣 .C) (𝓣 .Λ) code.function in
       walk-meets 𝓤 H A load-into.ended stayed W (
         goes-slice 𝓤 H A W 2 0 tt (plain (λ _. OrderR)),
         (
@@ -296,7 +285,13 @@ module _ {M : Type 1} (𝓤 : URA M) (H : Heap 𝓤) (A : Atoms 𝓤) (W : Given
           (goes-none 𝓤 H A W 2 (λ _. usize) yes (λ κs x f. refl), tt),
         ),
       )
-      (load-into.clauses 𝓤 H A mem run) runs-it (WpFn-mono 𝓤 H (W .laws) 𝓣 code.function) load-into-walks
+      (load-into.clauses 𝓤 H A mem run) runs-it (WpFn-mono 𝓤 H (W .laws) 𝓣 code.function)
+      (walked 𝓤 H A load-into.ended stayed (load-into.clauses 𝓤 H A mem run) runs-it (λ κs. (slice-vals, (slice-vals, (uint-vals w64, tt))))
+      (λ κs. (mut-slice-tells (named 0) (κs .0) OrderR, (shr-slice-tells (named 1) (κs .1 .0) u8, (uint-tells w64, tt))))
+      (λ κs qs bounds a g are. needs 𝓤 ((a .1 .1 .0 ≤ length (now (a .0))) × (a .1 .1 .0 * 16 ≤ length (now (a .1 .0)))) _ (λ pre.
+      walk 𝓤 H A W mem run (κs .0) (κs .1 .0) bounds (qs .0) (qs .1 .0) (a .0 .ptr .0) (a .0 .ptr .1) (a .0 .name) (a .0 .now)
+      (a .1 .0 .ptr .0) (a .1 .0 .ptr .1) (a .1 .0 .name) (a .1 .0 .now) (a .1 .1 .0)
+      (are .0 .0 .1) (are .1 .0 .0 .1 .0) (are .1 .1 .0 .1) (pre .0) (pre .1) 𝓣 known)))
 
 pub load-into-spec : {M : Type 1} → stated.statement M
 unfolding code.routine tablesOf

@@ -44,7 +44,7 @@ use denote.Triple.Statement.{Contract, Triple}
 use denote.Triple.Spec.{Meets, tripleOf}
 use denote.Triple.Clauses.{ensured, lasts}
 use denote.Triple.Table.{entered, cited}
-use denote.Triple.Walked.{says, needs, Stays, stay-none-slice, stay-none, walkOf, Walks, ends-at, walked, goes-none-slice, goes-none}
+use denote.Triple.Walked.{says, needs, Stays, stay-none-slice, stay-none, walkOf, ends-at, walked, goes-none-slice, goes-none}
 use denote.Triple.Walked.{walk-meets}
 use Rattle.ledger.specs.declared.order.Order.{Order}
 use Rattle.ledger.specs.declared.order.Side.{Side}
@@ -54,10 +54,10 @@ use Rattle.ledger.specs.Records.{ordersFrom}
 use Rattle.ledger.specs.Derivatives.{one}
 use Rattle.order_list.specs.OrderList.{noOrder, loadedTo, countedTo}
 use Rattle.order_list.specs.declared.Open.{Open}
-use Rattle.order_list.proofs.Orders.{OrderR, order-ty, order-name, order-val, order-lawful, free-is, room-256}
-use Rattle.order_list.proofs.Orders.{SideR, side-ty, side-val, side-is, side-lawful, Asked, asked-rows, asked-vals, asked-made}
+use Rattle.order_list.proofs.Orders.{OrderR, order-ty, order-name, order-lawful, free-is, room-256}
+use Rattle.order_list.proofs.Orders.{side-ty, side-is, side-lawful, Asked, asked-rows, asked-vals, asked-made}
 use Rattle.order_list.proofs.Orders.{OpenR, open-ty, open-val, open-is, open-makes, open-lawful}
-use Rattle.order_list.proofs.Local.{ListR, list-ty, list-val, list-makes, list-lawful, lends, comes, lends-shared, comes-shared}
+use Rattle.order_list.proofs.Local.{ListR, list-ty, list-val, list-makes, lends, comes, lends-shared, comes-shared}
 use Rattle.order_list.proofs.Local.{all-free, free-val, free-list-is}
 use Rattle.order_list.proofs.Loading.{listed, loaded-free, listed-open, listed-small}
 use Rattle.order_list.proofs.load_into as load-into
@@ -380,12 +380,15 @@ module _ {M : Type 1} (𝓤 : URA M) (H : Heap 𝓤) (A : Atoms 𝓤) (W : Given
     (𝓣 : Tables 𝓤 H)
     (known-load : Triple 𝓤 (𝓣 .C #order-list·load-into) (LoadInto 𝓤 H A mem run))
     (known-count : Triple 𝓤 (𝓣 .C #order-list·counted-to) (CountedTo 𝓤 H A mem run)) where
-  abbrev runs-it : Fun 𝓤
-  runs-it = WpFn 𝓤 H (𝓣 .C) (𝓣 .Λ) code.function
-
-  open-in-walks : Walks 𝓤 H A open-in.ended stayed runs-it (open-in.clauses 𝓤 H A mem run)
-  open-in-walks =
-      walked 𝓤 H A open-in.ended stayed (open-in.clauses 𝓤 H A mem run) runs-it
+  open-in-meets : Meets 𝓤 H A open-in.signature (WpFn 𝓤 H (𝓣 .C) (𝓣 .Λ) code.function) (open-in.spec 𝓤 H A mem run)
+  open-in-meets =
+      let runs-it = WpFn 𝓤 H (𝓣 .C) (𝓣 .Λ) code.function in
+      let count = goes-none 𝓤 H A W 1 (λ _. usize) yes (λ κs x f. refl) in
+      let number = goes-none 𝓤 H A W 1 (λ _. u64) yes (λ κs x f. refl) in
+      walk-meets 𝓤 H A open-in.ended stayed W
+      (goes-none-slice 𝓤 H A W 1 (0 ∷ []) tt (plain (λ _. u8)) yes, (count, (number, (number, tt))))
+      (open-in.clauses 𝓤 H A mem run) runs-it (WpFn-mono 𝓤 H (W .laws) 𝓣 code.function)
+      (walked 𝓤 H A open-in.ended stayed (open-in.clauses 𝓤 H A mem run) runs-it
       (λ κs. (slice-vals, (uint-vals w64, (uint-vals w64, (uint-vals w64, tt)))))
       (λ κs. (shr-slice-tells (named 0) (κs .0) u8, (uint-tells w64, (uint-tells w64, (uint-tells w64, tt)))))
       (λ κs qs bounds arg g are. needs 𝓤 ((arg .1 .0 ≤ 256) × (arg .1 .0 * 16 ≤ length (now (arg .0)))
@@ -394,18 +397,7 @@ module _ {M : Type 1} (𝓤 : URA M) (H : Heap 𝓤) (A : Atoms 𝓤) (W : Given
       (λ pre.
       walk 𝓤 H A W mem run (κs .0) (qs .0) (arg .0 .ptr .0) (arg .0 .ptr .1) (arg .0 .name) (arg .0 .now) (arg .1 .0) (arg .1 .1 .0)
       (arg .1 .1 .1 .0)
-      (are .0 .0 .1 .0) (are .1 .0 .1) (are .1 .1 .0 .1) (are .1 .1 .1 .0 .1) (pre .0) (pre .1) (pre .2) 𝓣 known-load known-count))
-
-  open-in-meets : Meets 𝓤 H A open-in.signature runs-it (open-in.spec 𝓤 H A mem run)
-  open-in-meets =
-      walk-meets 𝓤 H A open-in.ended stayed W (
-        goes-none-slice 𝓤 H A W 1 (0 ∷ []) tt (plain (λ _. u8)) yes,
-        (
-          goes-none 𝓤 H A W 1 (λ _. usize) yes (λ κs x f. refl),
-          (goes-none 𝓤 H A W 1 (λ _. u64) yes (λ κs x f. refl), (goes-none 𝓤 H A W 1 (λ _. u64) yes (λ κs x f. refl), tt)),
-        ),
-      )
-      (open-in.clauses 𝓤 H A mem run) runs-it (WpFn-mono 𝓤 H (W .laws) 𝓣 code.function) open-in-walks
+      (are .0 .0 .1 .0) (are .1 .0 .1) (are .1 .1 .0 .1) (are .1 .1 .1 .0 .1) (pre .0) (pre .1) (pre .2) 𝓣 known-load known-count)))
 
 pub open-in-spec : {M : Type 1} → stated.statement M
 unfolding code.routine tablesOf
