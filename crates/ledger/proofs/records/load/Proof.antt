@@ -4,11 +4,8 @@ use Rattle.ledger.specs.Records.{orderOf, orderAt}
 use Rattle.ledger.proofs.records.load.Statement.{statement}
 use Rattle.ledger.proofs.records.load.Tie as tie
 
-returns : tie.Need-returns
-unfolding orderAt orderOf
-returns c = cc
-
 pub load-spec : {M : Type 1} → statement M
+unfolding orderAt orderOf
 load-spec =
     tie.close (tie.spec (λ c κs. search needs) (λ c κs. search needs) (λ c κs. search needs) (λ c κs. search needs) (λ c κs. search needs)
-    (λ c κs. search needs) (λ c κs. search needs) (λ c. search needs) returns)
+    (λ c κs. search needs) (λ c κs. search needs) (λ c. search needs) (λ c. cc))
