@@ -29,23 +29,17 @@ use Rattle.desk.specs.Run.{Whole, answered}
 use Rattle.desk.specs.Demands.{OneOf, FirstFailed, Answers, gate, keptAfter}
 use Rattle.desk.proofs.Demands.{demand-1 as desk-demand-1, demand-2 as desk-demand-2, demand-3 as desk-demand-3}
 use Rattle.desk.proofs.RunList.{run-is-the-list, unsound-run}
-use Rattle.claim.specs.Claim.{FirstNo, Demand1, Demand2, Demand3, Run}
+use Rattle.claim.specs.Claim.{askedFirst, askedLast, FirstNo, Demand1, Demand2, Demand3, Run}
 use Rattle.claim.proofs.Held.{held-kept, held-after, held-from-opening, named, by-name, none-on-the-line}
 
--- ---- the numbers of an event's questions: 5 to 20, and 21 to 24 where an order is entered or raised
-abbrev first-asked : List ℕ
-first-asked = 5 ∷ 6 ∷ 7 ∷ 8 ∷ 9 ∷ 10 ∷ 11 ∷ 12 ∷ 13 ∷ 14 ∷ 15 ∷ 16 ∷ 17 ∷ 18 ∷ 19 ∷ 20 ∷ []
-
-abbrev last-asked : List ℕ
-last-asked = 21 ∷ 22 ∷ 23 ∷ 24 ∷ []
-
-event-numbers : (m e : List ℕ) → numbersOf (eventQuestions m e) ≡ first-asked ++ cond (isSet (entered (bookOf m) (decode e))) last-asked []
+-- ---- the numbers of an event's questions
+event-numbers : (m e : List ℕ) → numbersOf (eventQuestions m e) ≡ askedFirst ++ cond (isSet (entered (bookOf m) (decode e))) askedLast []
 unfolding eventQuestions
 event-numbers m e =
     rw (← at-the-end (entered (bookOf m) (decode e)))
     (numbers-in-order (soundDesk m) (view m) (decode e))
   where
-    at-the-end : (x : Option Order) → positionNumbers x ≡ cond (isSet x) last-asked []
+    at-the-end : (x : Option Order) → positionNumbers x ≡ cond (isSet x) askedLast []
     at-the-end none = refl
     at-the-end (some o) = refl
 
@@ -61,9 +55,9 @@ with-the-last n xs ys true k = k
 with-the-last n xs ys false k =
     ⊎-elim (λ j. Memᴰ·append-left ys j) (λ j. absurd (List·Memᴰ·not-nil j)) (List·Memᴰ·append-cases xs k)
 
-event-listed : (m e : List ℕ) → List·Memᴰ (answerTo m e) (0 ∷ (first-asked ++ last-asked))
+event-listed : (m e : List ℕ) → List·Memᴰ (answerTo m e) (0 ∷ (askedFirst ++ askedLast))
 event-listed m e =
-    with-the-last (answerTo m e) (0 ∷ first-asked) last-asked (isSet (entered (bookOf m) (decode e)))
+    with-the-last (answerTo m e) (0 ∷ askedFirst) askedLast (isSet (entered (bookOf m) (decode e)))
     (rw (event-numbers m e) at (listed (answerTo m e) (0 ∷ numbersOf (eventQuestions m e)) (desk-demand-1 .event m e)))
 
 pub demand-1 : Demand1
@@ -100,11 +94,11 @@ first-failed qs answer n a other =
     let same = failed-first qs n in
     (λ e. same .0 (a .refused n other .0 e), λ x. a .refused n other .1 (same .1 x))
 
-opening-numbers : (m s : List ℕ) → map (λ x. x .number) (openingQuestions m s) ≡ 1 ∷ 2 ∷ 3 ∷ 4 ∷ []
+opening-numbers : (m s : List ℕ) → numbersOf (openingQuestions m s) ≡ 1 ∷ 2 ∷ 3 ∷ 4 ∷ []
 unfolding openingQuestions
 opening-numbers m s = refl
 
-reading-numbers : (m : List ℕ) (items a n : ℕ) → map (λ x. x .number) (readingQuestions m items a n) ≡ 5 ∷ 7 ∷ 8 ∷ []
+reading-numbers : (m : List ℕ) (items a n : ℕ) → numbersOf (readingQuestions m items a n) ≡ 5 ∷ 7 ∷ 8 ∷ []
 unfolding readingQuestions
 reading-numbers m items a n = refl
 

@@ -3,13 +3,13 @@ use Prim.Native.Nat.{ℕ, _≤_, _<_}
 use mathlib.Core.Path.{_≡_, refl, sym, ap, _∙_}
 use mathlib.Core.Logic.{_⊎_, inl, inr, ⊎-elim, _↔_, _≢_}
 use mathlib.Core.Bool.{Bool, true, false, not, _&&_, _||_, cond}
-use mathlib.Core.List.{List, [], _∷_, _++_, map, List·Memᴰ, List·Memᴰ·head, List·Memᴰ·tail}
+use mathlib.Core.List.{List, [], _∷_, _++_, List·Memᴰ, List·Memᴰ·head, List·Memᴰ·tail}
 use native.Mathlib.Omega.{arith}
 use lib.Dec.{eqb, leb}
 use lib.ListN.{length, getD}
 use borrow.Author.Tests.{eqb-true, eqb-false, leb-true, lt-leb, not-true}
 use Rattle.limits.specs.Lines.{isSet}
-use Rattle.limits.specs.Questions.{Question, firstNo, allPass}
+use Rattle.limits.specs.Questions.{Question, firstNo, allPass, numbersOf}
 use Rattle.limits.proofs.Answers.{both-true, pass-zero}
 use Rattle.book.specs.declared.Event.the-variants.{Junk}
 use Rattle.book.specs.Decoding.{between, decode}
@@ -24,7 +24,7 @@ use Rattle.memory_opening.specs.Opening.{afterOpening}
 use Rattle.memory_reading.specs.Reading.{readingQuestions, instrumentAnswer, groupAnswer}
 use Rattle.desk.specs.Step.{eventQuestions, answerTo, afterEvent}
 use Rattle.desk.specs.Demands.{gate}
-use Rattle.claim.specs.Claim.{FirstNo}
+use Rattle.claim.specs.Claim.{askedFirst, askedLast, FirstNo}
 use Rattle.claim.specs.Uses.{NumbersAndBytes, Determined, Refusals, Acceptances, Examples, StaysSound}
 use Rattle.claim.proofs.Demands.{demand-1, demand-2, demand-3, run}
 
@@ -89,13 +89,13 @@ split (x ∷ qs) = by (x .passes) refl (split qs)
 
 -- the numbers of a table, none of them 0
 abbrev Numbers : List Question → Type 0
-Numbers qs = allOf (λ n. not (eqb n 0)) (map (λ x. x .number) qs) ≡ true
+Numbers qs = allOf (λ n. not (eqb n 0)) (numbersOf qs) ≡ true
 
 asked-there : (before : List Question) (x : Question) (behind : List Question) → List·Memᴰ x (before ++ (x ∷ behind))
 asked-there [] x behind = List·Memᴰ·head refl
 asked-there (y ∷ before) x behind = List·Memᴰ·tail (asked-there before x behind)
 
-number-there : (x : Question) (qs : List Question) → List·Memᴰ x qs → List·Memᴰ (x .number) (map (λ y. y .number) qs)
+number-there : (x : Question) (qs : List Question) → List·Memᴰ x qs → List·Memᴰ (x .number) (numbersOf qs)
 number-there x (y ∷ qs) (List·Memᴰ·head e) = List·Memᴰ·head (ap (λ z. z .number) e)
 number-there x (y ∷ qs) (List·Memᴰ·tail m) = List·Memᴰ·tail (number-there x qs m)
 
@@ -109,8 +109,8 @@ module _ (qs : List Question) (answer : ℕ) (by : AnsweredBy qs answer) where
       failed : Failed qs → answer ≡ firstNo qs
       failed (n, first, answered) =
           let asked : List·Memᴰ (q n false) qs = rw (first .2) (asked-there (first .0) (q n false) (first .1)) in
-          let there : List·Memᴰ n (map (λ x. x .number) qs) = number-there (q n false) qs asked in
-          let passes = listed-passes (λ k. not (eqb k 0)) n (map (λ x. x .number) qs) there numbers in
+          let there : List·Memᴰ n (numbersOf qs) = number-there (q n false) qs asked in
+          let passes = listed-passes (λ k. not (eqb k 0)) n (numbersOf qs) there numbers in
           by .0 n (eqb-false n 0 (not-true (eqb n 0) passes)) .1 first ∙ sym answered
 
   answered-no : answer ≢ 0 → List·Memᴰ (q answer false) qs
@@ -138,8 +138,7 @@ group-by m a g = (demand-2 .group-refused m a g, demand-2 .group-accepted m a g)
 event-numbers : (m e : List ℕ) → Numbers (eventQuestions m e)
 event-numbers m e = rw (demand-2 .event-numbers m e) (none-0 (isSet (entered (bookOf m) (decode e))))
   where
-    none-0 : (t : Bool) → allOf (λ n. not (eqb n 0))
-        (5 ∷ 6 ∷ 7 ∷ 8 ∷ 9 ∷ 10 ∷ 11 ∷ 12 ∷ 13 ∷ 14 ∷ 15 ∷ 16 ∷ 17 ∷ 18 ∷ 19 ∷ 20 ∷ cond t (21 ∷ 22 ∷ 23 ∷ 24 ∷ []) []) ≡ true
+    none-0 : (t : Bool) → allOf (λ n. not (eqb n 0)) (askedFirst ++ cond t askedLast []) ≡ true
     none-0 true = refl
     none-0 false = refl
 

@@ -19,7 +19,7 @@ use Rattle.ledger.specs.Positions.{Way, long, short, Scope, openOn, ofInstrumen
 use Rattle.ledger.specs.Fillings.{Filling, balanceAfter}
 use Rattle.ledger.specs.Moves.{Moves}
 use Rattle.limits.specs.Lines.{isSet, limit}
-use Rattle.limits.specs.Questions.{Question, allPass}
+use Rattle.limits.specs.Questions.{Question, allPass, numbersOf}
 use Rattle.book.specs.declared.LimitLine.{LimitLine}
 use Rattle.book.specs.declared.Event.the-variants.{Limit}
 use Rattle.book.specs.Market.{derivatives}
@@ -40,14 +40,19 @@ use Rattle.desk.specs.Days.{answersOver, memoryOver}
 use Rattle.desk.specs.Run.{eventsFor, answered, concatenated}
 use Rattle.desk.specs.Demands.{gate}
 
+-- the numbers of an event's questions, in document 01's order: what every event is asked, and what is asked of an order that is entered, or
+-- raised
+abbrev pub askedFirst : List ℕ
+askedFirst = 5 ∷ 6 ∷ 7 ∷ 8 ∷ 9 ∷ 10 ∷ 11 ∷ 12 ∷ 13 ∷ 14 ∷ 15 ∷ 16 ∷ 17 ∷ 18 ∷ 19 ∷ 20 ∷ []
+
+abbrev pub askedLast : List ℕ
+askedLast = 21 ∷ 22 ∷ 23 ∷ 24 ∷ []
+
 -- ---- 1. "The answer to every roster and every event, sound or junk, is an acceptance or one numbered refusal, it always comes, and a
 -- refusal leaves every byte of the desk's memory unchanged." That it always comes is the checker's: every proved function ends.
 pub record Demand1 : Type 0 where
   pub roster : (m s : List ℕ) → List·Memᴰ (openingAnswer m s) (0 ∷ 1 ∷ 2 ∷ 3 ∷ 4 ∷ [])
-  pub event :
-      (m e : List ℕ)
-      → List·Memᴰ (answerTo m e)
-      (0 ∷ 5 ∷ 6 ∷ 7 ∷ 8 ∷ 9 ∷ 10 ∷ 11 ∷ 12 ∷ 13 ∷ 14 ∷ 15 ∷ 16 ∷ 17 ∷ 18 ∷ 19 ∷ 20 ∷ 21 ∷ 22 ∷ 23 ∷ 24 ∷ [])
+  pub event : (m e : List ℕ) → List·Memᴰ (answerTo m e) (0 ∷ (askedFirst ++ askedLast))
   pub roster-refused : (m s : List ℕ) → openingAnswer m s ≢ 0 → afterOpening m s ≡ m
   pub event-refused : (m e : List ℕ) → answerTo m e ≢ 0 → afterEvent m e ≡ m
   -- document 01: "later bytes are never touched", accepted or not
@@ -69,15 +74,13 @@ pub record Demand2 : Type 0 where
   -- a roster is answered n, not 0, exactly where question n is answered no and each before it yes, and 0 exactly where each is answered yes
   pub roster-refused : (m s : List ℕ) (n : ℕ) → n ≢ 0 → (openingAnswer m s ≡ n) ↔ FirstNo (openingQuestions m s) n
   pub roster-accepted : (m s : List ℕ) → (openingAnswer m s ≡ 0) ↔ (allPass (openingQuestions m s) ≡ true)
-  pub roster-numbers : (m s : List ℕ) → map (λ x. x .number) (openingQuestions m s) ≡ 1 ∷ 2 ∷ 3 ∷ 4 ∷ []
-  -- an event likewise; 21 to 24 are asked of an order that is entered, or raised
+  pub roster-numbers : (m s : List ℕ) → numbersOf (openingQuestions m s) ≡ 1 ∷ 2 ∷ 3 ∷ 4 ∷ []
+  -- an event likewise
   pub event-refused : (m e : List ℕ) (n : ℕ) → n ≢ 0 → (answerTo m e ≡ n) ↔ FirstNo (eventQuestions m e) n
   pub event-accepted : (m e : List ℕ) → (answerTo m e ≡ 0) ↔ (allPass (eventQuestions m e) ≡ true)
   pub event-numbers :
       (m e : List ℕ)
-      → map (λ x. x .number) (eventQuestions m e)
-      ≡ 5 ∷ 6 ∷ 7 ∷ 8 ∷ 9 ∷ 10 ∷ 11 ∷ 12 ∷ 13 ∷ 14 ∷ 15 ∷ 16 ∷ 17 ∷ 18 ∷ 19 ∷ 20
-      ∷ cond (isSet (entered (bookOf m) (decode e))) (21 ∷ 22 ∷ 23 ∷ 24 ∷ []) []
+      → numbersOf (eventQuestions m e) ≡ askedFirst ++ cond (isSet (entered (bookOf m) (decode e))) askedLast []
   -- a reading of an instrument's or a group's position likewise
   pub instrument-refused :
       (m : List ℕ) (a i n : ℕ) → n ≢ 0 → (instrumentAnswer m a i ≡ n) ↔ FirstNo (readingQuestions m (rosterOf m .instruments) a i) n
@@ -89,7 +92,7 @@ pub record Demand2 : Type 0 where
   pub group-accepted :
       (m : List ℕ) (a g : ℕ)
       → (groupAnswer m a g ≡ 0) ↔ (allPass (readingQuestions m (rosterOf m .groups) a g) ≡ true)
-  pub reading-numbers : (m : List ℕ) (items a n : ℕ) → map (λ x. x .number) (readingQuestions m items a n) ≡ 5 ∷ 7 ∷ 8 ∷ []
+  pub reading-numbers : (m : List ℕ) (items a n : ℕ) → numbersOf (readingQuestions m items a n) ≡ 5 ∷ 7 ∷ 8 ∷ []
   -- what is reported: S, PCI = S + B and PVI = −S + V; PCC and PVC. `before` is what the output held, and a refusal leaves it
   pub instrument-reported :
       (m : List ℕ) (a i : ℕ) (before : List ℤ)
