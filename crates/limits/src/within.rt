@@ -10,7 +10,7 @@ ghost use Rattle.ledger.specs.Positions.{wayOf, wayBy};
 ghost use Rattle.ledger.specs.Records.{balancesIn, rosterIn};
 ghost use Rattle.ledger.specs.Derivatives.{one};
 ghost use Rattle.positions.specs.Gathered.{onWay, Gathered, byCells, sumByCells};
-ghost use Rattle.positions.specs.Bounds.{CellBounds};
+ghost use Rattle.positions.specs.Bounds.{CellBounds, WeighBounds};
 ghost use Rattle.limits.specs.Lines.{Lines};
 ghost use Rattle.limits.specs.Questions.{firstNo};
 ghost use Rattle.limits.specs.Asked.{positionQuestions};
@@ -23,7 +23,6 @@ use crate::lines::largest_of_group;
 use crate::lines::largest_position;
 use ledger::order::Order;
 use ledger::order::Side;
-use ledger::roster::instrument_group_in;
 use ledger::roster::weight_in;
 use ledger::units::Contracts;
 use ledger::units::Weighted;
@@ -95,33 +94,36 @@ fn instrument_with(cells: &[u64], balances: &[u8], o: Order, added: Contracts) -
     potential(side, balance, before.plus(added))
 }
 
-// PCC for `to` Buy, PVC for Sell, of the order's account and group, with `added` more contracts of weight K on that side.
+// PCC for `to` Buy, PVC for Sell, of an account and group, with `added` more contracts of weight K on that side.
 fn group_with(
     cells: &[u64],
     balances: &[u8],
     roster: &[u8],
-    o: Order,
+    group: u64,
     added: Contracts,
     weight: i64,
     to: Side,
 ) -> Weighted
-    requires { ⌜ EventBounds (now cells) (now balances) (now roster) o (added .0) × (natAbs weight ≤ 1000000) ⌝ }
+    requires { ⌜
+        WeighBounds (now cells) (now balances) (now roster)
+        × (natAbs (added .0) ≤ 1000000000)
+        × (natAbs weight ≤ 1000000)
+        ⌝ }
     ensures { λ r. ⌜
         (let desk = rosterIn (now (roster .entry)) in
         r .0
-        ≡ sumByCells (now (cells .entry)) (balancesIn (now (balances .entry))) desk (groupOfInstrument desk (o .instrument))
-        (desk .instruments) (wayOf to)
+        ≡ sumByCells (now (cells .entry)) (balancesIn (now (balances .entry))) desk group (desk .instruments) (wayOf to)
         +ℤ pos (natAbs weight) *ℤ added .0)
         ⌝ }
 {
-    let group = instrument_group_in(roster, o.instrument as usize);
     let before = weigh(cells, balances, roster, group);
     let rise = added.times(magnitude(weight));
     on_side(to, before).plus(rise)
 }
 
 // 21 to 24, of the order as the event enters it or raises it to: with `added` more contracts of it open, is PCI or PVI at most
-// the line in force's limit, and PCC or PVC at most the group line's times 10,000? The cells hold B and V of its account.
+// the line in force's limit, and PCC or PVC at most the group line's times 10,000? The cells hold B and V of its account, and `number`
+// is that of its group.
 pub fn positions_within(
     cells: &[u64],
     balances: &[u8],
@@ -130,8 +132,14 @@ pub fn positions_within(
     group: &[u8],
     o: Order,
     added: Contracts,
+    number: u64,
 ) -> Answer
-    requires { ⌜ EventBounds (now cells) (now balances) (now roster) o (added .0) × (16 ≤ length (now line)) × (8 ≤ length (now group)) ⌝ }
+    requires { ⌜
+        EventBounds (now cells) (now balances) (now roster) o (added .0)
+        × (16 ≤ length (now line))
+        × (8 ≤ length (now group))
+        × (number ≡ groupOfInstrument (rosterIn (now roster)) (o .instrument))
+        ⌝ }
     ensures { λ a. ⌜
         (let r = rosterIn (now (roster .entry)) in
         (ls : Lines) (n : ℕ) (before after : List Order) →
@@ -154,7 +162,7 @@ pub fn positions_within(
     }
     let to = group_side(side, weight);
     let most_of_group = largest_of_group(group, to).times(10000);
-    if group_with(cells, balances, roster, o, added, weight, to).at_most(most_of_group) {
+    if group_with(cells, balances, roster, number, added, weight, to).at_most(most_of_group) {
         Answer::Accepted
     } else {
         group_refusal(to)

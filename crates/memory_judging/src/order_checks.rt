@@ -120,7 +120,16 @@ fn positions_of(
     let own = cells_of(cells, account);
     let of_account = balances(m, account);
     let of_group = group_line(m, account, under.group);
-    positions_within(own, of_account, roster(m), line, of_group, o, added)
+    positions_within(
+        own,
+        of_account,
+        roster(m),
+        line,
+        of_group,
+        o,
+        added,
+        under.group as u64,
+    )
 }
 
 // 19 to 24, of the order as the event enters it or raises it to, `added` contracts more of it then being open. The cells hold B and V of

@@ -87,8 +87,11 @@ times-requires c κs =
 group-with-requires : tie.Need-group-with-requires
 group-with-requires c κs =
     let at = c .before .before .before .before in
-    let s = at .before .before .before .before .before .before .before .before .before .before in
-    (s .pre .0, rw (weight at) (s .pre .0 .positions .roster-small .weight (s .args .o .instrument) (s .pre .0 .instrument)))
+    let s = at .before .before .before .before .before .before .before .before .before .before in (
+      s .pre .0 .positions,
+      s .pre .0 .small,
+      rw (weight at) (s .pre .0 .positions .roster-small .weight (s .args .o .instrument) (s .pre .0 .instrument)),
+    )
 
 -- the answer by the group's test, in both its cases
 judged : (c : tie.After-at-most2) (ls : Lines) (n : ℕ) (before after : List Order) →
@@ -117,7 +120,7 @@ judged c ls n before after more gathered in-force of-group raised t test =
     (of-group′ (s .args .cells .now) (s .args .balances .now) (s .args .roster .now) before (s .args .o) (s .args .added .0) (s .pre .0)
     gathered (wayOf (to .group-side .result))
     (pos (natAbs (rosterIn (s .args .roster .now) .weight (s .args .o .instrument))) *ℤ pos n)
-    _ _ (c .before .group-with .ensures ∙ rw (more, weight K)))
+    _ _ (c .before .group-with .ensures ∙ rw (more, weight K, s .pre .3)))
     (c .before .before .times .ensures ∙ rw (c .before .before .before .largest-of-group .ensures))
     t
     (sym (c .at-most2 .ensures) ∙ test)

@@ -1,9 +1,11 @@
 -- Cells, balances, roster and group line are parts of the memory that say what its view says (`by-parts`), so the answer by the parts is
 -- that of questions 21 to 24; a sound desk keeps all within the bounds that are asked for.
+use mathlib.Core.Path.{_∙_}
 use borrow.Author.Needs.{needs}
 use Rattle.ledger.specs.Roster.{groupOfInstrument}
 use Rattle.memory_layout.specs.View.{rosterOf, linesOf}
 use Rattle.memory_layout.specs.Readable.{HoldsGroupLine}
+use Rattle.memory_soundness.proofs.Agreement.{group-same}
 use Rattle.memory_judging.proofs.OrderAnswers.{event-bounds, by-parts}
 use Rattle.memory_judging.proofs.order_checks.positions_of.Statement.{statement}
 use Rattle.memory_judging.proofs.order_checks.positions_of.Tie as tie
@@ -23,6 +25,7 @@ positions-within-requires c κs =
           (event-bounds _ _ _ _ _ (s .pre .0) (s .pre .1) (s .pre .2)),
       s .pre .4 .long,
       of-group .group-line .ensures .long,
+      rw (c .roster .ensures) (s .pre .3 .group ∙ group-same _ (s .pre .0 .on .held) _ (s .pre .0 .on .instrument)),
     )
 
 returns : tie.Need-returns
