@@ -17,7 +17,7 @@ use Rattle.ledger.specs.Records.{detailPacked, detailRemaining, Within, orderOf
 use Rattle.ledger.proofs.Packing.{word-storable}
 use Rattle.ledger.proofs.Details.{remaining-of, order-of, id-at}
 use Rattle.positions.specs.Gathered.{cell, added}
-use Rattle.positions.proofs.Gathering.{Rows, ownCell, cell-inside, empty-at, added-length, added-small}
+use Rattle.positions.proofs.Gathering.{Rows, ownCell, adds-own, cell-inside, empty-at, added-length, added-small}
 use Rattle.positions.proofs.Gathering.{Passed as PassedRows, passed-none as rows-none, passed-all as rows-all, passed-more as rows-more}
 use Rattle.memory_layout.specs.Layout.{countWord}
 use Rattle.memory_layout.specs.View.{recordsOf, openOrders}
@@ -118,8 +118,8 @@ module _ (s : List ℕ) (n : ℕ) (cells : List ℕ) where
                       (omega (arith, own)) (past .small) few j,
                 ));
             gathered =
-                rows-more (Numbered 16) row s n cells p (past .gathered) o here h rows account instrument inside cells′
-                (e ∙ rw (own, remaining-of id w));
+                rows-more (Numbered 16) row s n cells p (past .gathered) o here h (ownCell row o) (remaining o)
+                (adds-own (Numbered 16) row rows o account instrument) inside cells′ (e ∙ rw (own, remaining-of id w));
           }
 
 -- ---- a memory: s is its part with the records, n its count
