@@ -7,8 +7,8 @@ ghost use Rattle.memory_soundness.specs.Cells.{Sums};
 ghost use Rattle.memory_soundness.specs.SoundMemory.{SoundMemory};
 ghost use Rattle.desk.specs.Step.{stepped};
 use book::Event;
-use memory_judging::judge;
 use limits::answer::Answer;
+use memory_judging::judge;
 use memory_working::work;
 
 // The cells hold B and V of all accounts, before the event and after it.

@@ -13,17 +13,17 @@ ghost use Rattle.memory_soundness.specs.Cells.{Sums};
 ghost use Rattle.memory_soundness.specs.SoundMemory.{SoundMemory};
 ghost use Rattle.memory_judging.specs.QuestionsLeft.{raisedFrom14, replaceFrom12, Replaceable, changeFrom12, Changeable};
 use crate::Verdict;
-use crate::plain;
-use crate::ranges::change_in_range;
-use book::OrderChange;
-use memory_layout::orders::load_order;
-use memory_layout::search::find_order;
-use ledger::find::Found;
-use ledger::order::Order;
-use limits::answer::Answer;
 use crate::order_checks::admitted;
 use crate::order_checks::underlying_of;
 use crate::order_checks::within_limits;
+use crate::plain;
+use crate::ranges::change_in_range;
+use book::OrderChange;
+use ledger::find::Found;
+use ledger::order::Order;
+use limits::answer::Answer;
+use memory_layout::orders::load_order;
+use memory_layout::search::find_order;
 
 // 14 to 24 of a REPLACE that raises order `o` to `total`.
 fn raised(m: &[u8], cells: &[u64], o: Order, total: u64) -> Answer

@@ -14,20 +14,20 @@ ghost use Rattle.memory_judging.specs.OrderFields.{Under};
 ghost use Rattle.memory_judging.specs.OrderQuestions.{Sizable};
 ghost use Rattle.memory_judging.specs.QuestionsLeft.{newFrom18, newFrom13, Fresh};
 use crate::Verdict;
+use crate::order_checks::Underlying;
+use crate::order_checks::admitted;
+use crate::order_checks::underlying_of;
+use crate::order_checks::within_limits;
 use crate::plain;
 use crate::ranges::is_quantity;
+use ledger::order::Order;
+use ledger::order::Side;
+use limits::answer::Answer;
 use memory_layout::orders::count;
 use memory_layout::roster::account_known;
 use memory_layout::roster::instrument_known;
 use memory_layout::search::id_at;
 use memory_layout::search::place;
-use ledger::order::Order;
-use ledger::order::Side;
-use limits::answer::Answer;
-use crate::order_checks::Underlying;
-use crate::order_checks::admitted;
-use crate::order_checks::underlying_of;
-use crate::order_checks::within_limits;
 
 // Whether an order with that id is open, `p` being the place of the first larger id. Ids ascend, so that it stands just before `p`: one
 // comparison, and no search.

@@ -11,10 +11,10 @@ use crate::ranges::in_range;
 use crate::ranges::limit_fits;
 use book::Blocked;
 use book::LimitLine;
+use limits::answer::Answer;
 use memory_layout::readers::is_trading;
 use memory_layout::roster::account_known;
 use memory_layout::roster::instrument_known;
-use limits::answer::Answer;
 
 // LIMIT: questions 7 to 9.
 pub fn judge_limit(m: &[u8], account: u64, line: LimitLine) -> Answer

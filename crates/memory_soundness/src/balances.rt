@@ -9,11 +9,11 @@ ghost use Rattle.memory_soundness.specs.Soundness.{ascend, ordersSound, 
 ghost use Rattle.memory_soundness.specs.Cells.{Empty, SmallSums};
 use crate::bits::all_small;
 use crate::orders::orders_are_sound;
+use ledger::units::Contracts;
 use memory_layout::readers::balance;
 use memory_layout::readers::balances;
 use memory_layout::roster::accounts;
 use memory_layout::roster::instruments;
-use ledger::units::Contracts;
 
 // Of account `a` and instrument `i`. No sum with the balance, which may be any word, is computed.
 fn instrument_is_sound(m: &[u8], cells: &[u64; 1089], a: usize, i: usize) -> bool

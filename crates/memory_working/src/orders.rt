@@ -11,15 +11,15 @@ ghost use Rattle.memory_soundness.specs.Cells.{Sums};
 ghost use Rattle.memory_working.specs.Working.{Ready, newOf, Stands, recordsChanged, worked};
 use crate::sums::recount;
 use book::OrderChange;
+use ledger::order::Order;
+use ledger::order::Side;
+use ledger::units::Contracts;
 use memory_layout::orders::insert_order;
 use memory_layout::orders::remove_order;
 use memory_layout::orders::replace_order;
 use memory_layout::readers::balance;
 use memory_layout::stores::set_balance;
 use memory_layout::stores::set_mark;
-use ledger::order::Order;
-use ledger::order::Side;
-use ledger::units::Contracts;
 
 // NEW: the order joins, and its account is marked as trading.
 pub fn enter(m: &mut [u8], cells: &mut [u64], o: Order, place: usize)
