@@ -70,7 +70,7 @@ module _ (k : State) (sound : Sound k) where
   unfolding bookAfter figuresFit
   lines-after (Limit c l) ok a =
       at-each c (setLine l (k .book .linesOf c)) (k .book .linesOf) (LinesFit (k .market .largest)) a
-      (λ _. set-fits (k .market) l (k .book .linesOf c) (ok .figures) (sound .lines c)) (λ _. sound .lines a)
+      (λ _. set-fits (k .market .largest) l (k .book .linesOf c) (ok .figures) (sound .lines c)) (λ _. sound .lines a)
   lines-after (Balance c i z) ok a = sound .lines a
   lines-after (Block what z) ok a = sound .lines a
   lines-after (New s c i id n) ok a = sound .lines a
