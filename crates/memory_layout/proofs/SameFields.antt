@@ -14,11 +14,10 @@ use Rattle.ledger.specs.Roster.{Numbered}
 use Rattle.limits.specs.Lines.{Line, GroupLine, Lines}
 use Rattle.limits.specs.InBytes.{lineAt, groupLineAt}
 use Rattle.book.specs.Books.{Blocks}
-use Rattle.book.specs.Market.{marketOfKind}
-use Rattle.memory_layout.specs.Layout.{kindWord, countWord, firstWord, markWord, accountBlockWord, instrumentBlockWord, groupBlockRow}
+use Rattle.memory_layout.specs.Layout.{countWord, firstWord, markWord, accountBlockWord, instrumentBlockWord, groupBlockRow}
 use Rattle.memory_layout.specs.Layout.{balanceRow}
 use Rattle.memory_layout.specs.Layout.{ownSetRow, defaultSetRow, groupSetRow, ownRow, defaultRow, groupRow}
-use Rattle.memory_layout.specs.View.{marketOf, rosterOf, flag, linesOf, balancesOf, blocksOf, firstOf, openOrders, tradingOf}
+use Rattle.memory_layout.specs.View.{rosterOf, flag, linesOf, balancesOf, blocksOf, firstOf, openOrders, tradingOf}
 use Rattle.memory_layout.specs.Stores.{ordersIn, recordsIn}
 use Rattle.memory_layout.proofs.RosterLaws.{Sized}
 use Rattle.memory_layout.proofs.GuardedTables.{tableOf, table-same, rowOf, row-same, same-blocks}
@@ -75,9 +74,6 @@ unfolding groupLineAt
 same-of-group l m s k e same = rw (same-flag l m s e, same)
 
 -- ---- the fields
-pub market-same : (l m : List ℕ) → wordAt l kindWord ≡ wordAt m kindWord → marketOf l ≡ marketOf m
-market-same l m same = ap marketOfKind same
-
 module _ (l m : List ℕ) (held : InBounds m) (roster : rosterOf l ≡ rosterOf m) where
   pub balances-same : Same 256 768 l m → balancesOf l ≡ balancesOf m
   unfolding balancesOf signedAt

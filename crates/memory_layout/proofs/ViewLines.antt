@@ -15,8 +15,9 @@ use Rattle.book.proofs.Tables.{at-here, at-elsewhere}
 use Rattle.memory_layout.specs.Layout.{kindWord, countWord, firstWord}
 use Rattle.memory_layout.specs.View.{rosterOf, linesOf, bookOf, view}
 use Rattle.memory_layout.proofs.RosterLaws.{roster-same}
+use Rattle.memory_layout.proofs.MarketRead.{market-same}
 use Rattle.memory_layout.proofs.GuardedTables.{tableOf, same-lines, same-view}
-use Rattle.memory_layout.proofs.SameFields.{Same, InBounds, market-same, ownAt, defaultAt, ofGroupAt, linesBy}
+use Rattle.memory_layout.proofs.SameFields.{Same, InBounds, ownAt, defaultAt, ofGroupAt, linesBy}
 use Rattle.memory_layout.proofs.SameFields.{balances-same, blocks-same, marks-same, orders-same, lines-are}
 
 -- ---- a memory that differs in words of the lines only

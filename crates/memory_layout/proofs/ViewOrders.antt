@@ -13,8 +13,9 @@ use Rattle.memory_layout.specs.Layout.{kindWord, countWord}
 use Rattle.memory_layout.specs.View.{marketOf, balancesOf, linesOf, blocksOf, rosterOf, openOrders, bookOf, tradingOf, view}
 use Rattle.memory_layout.specs.Stores.{orderIn, recordWord, storeFrom, SmallOrders, without}
 use Rattle.memory_layout.proofs.RosterLaws.{roster-same}
+use Rattle.memory_layout.proofs.MarketRead.{market-same}
 use Rattle.memory_layout.proofs.GuardedTables.{same-view, stateOf}
-use Rattle.memory_layout.proofs.SameFields.{Same, InBounds, market-same, balances-same, lines-same, blocks-same, marks-same}
+use Rattle.memory_layout.proofs.SameFields.{Same, InBounds, balances-same, lines-same, blocks-same, marks-same}
 use Rattle.memory_layout.proofs.Stored.{length-store, word-store, count-store, first-store, orders-store}
 use Rattle.memory_layout.proofs.BookLists.{leaving, becoming}
 

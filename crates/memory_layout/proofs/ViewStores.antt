@@ -16,9 +16,10 @@ use Rattle.memory_layout.specs.Layout.{kindWord, countWord, firstWord, m
 use Rattle.memory_layout.specs.View.{marketOf, rosterOf, flag, linesOf, balancesOf, blocksOf, openOrders, bookOf, tradingOf, view}
 use Rattle.memory_layout.specs.FieldStores.{storeBalance, storeMark}
 use Rattle.memory_layout.proofs.RosterLaws.{roster-same}
+use Rattle.memory_layout.proofs.MarketRead.{market-same}
 use Rattle.memory_layout.proofs.GuardedTables.{tableOf, table-at, row-at, same-view, stateOf}
 use Rattle.memory_layout.proofs.SameFields.{InBounds, balanceAt, same-flag, balances-same, lines-same, blocks-same, marks-same}
-use Rattle.memory_layout.proofs.SameFields.{market-same, orders-same, marks-are}
+use Rattle.memory_layout.proofs.SameFields.{orders-same, marks-are}
 use Rattle.memory_layout.proofs.StoreWords.{Except, except-put, except-signed, except-same, flag-bit}
 
 -- ---- a memory that differs in one word, at 128 or later and before the lines

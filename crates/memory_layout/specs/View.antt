@@ -15,7 +15,8 @@ use Rattle.book.specs.Decoding.{between}
 use Rattle.book.specs.Books.{Blocks, Book}
 use Rattle.book.specs.Market.{Market, marketOfKind}
 use Rattle.book.specs.States.{State}
-use Rattle.memory_layout.specs.Layout.{kindWord, rosterWord, countWord, firstWord, ordersWord, markWord, accountBlockWord, instrumentBlockWord}
+use Rattle.memory_layout.specs.Layout.{kindWord, rosterWord, countWord, firstWord, ordersWord, markWord, accountBlockWord}
+use Rattle.memory_layout.specs.Layout.{instrumentBlockWord}
 use Rattle.memory_layout.specs.Layout.{groupBlockRow, balanceRow, ownSetRow, defaultSetRow, groupSetRow, ownRow, defaultRow, groupRow}
 use Rattle.memory_layout.specs.Rosters.{listed}
 

@@ -19,10 +19,10 @@ use Rattle.limits.proofs.Answers.{both-true, zero-pass, passed}
 use Rattle.book.specs.Decoding.{between}
 use Rattle.book.specs.Market.{derivatives}
 use Rattle.book.specs.States.{begun}
-use Rattle.book.proofs.MarketLaws.{market-of-one}
 use Rattle.book.proofs.Tables.{between-numbered}
 use Rattle.memory_layout.specs.Layout.{memoryWords, kindWord}
 use Rattle.memory_layout.specs.Rosters.{listed, every, longEnough}
+use Rattle.memory_layout.proofs.MarketRead.{market-derivatives}
 use Rattle.memory_layout.specs.View.{marketOf, rosterOf, view}
 use Rattle.memory_layout.proofs.RosterLaws.{Sized, by-test, roster-of-words}
 use Rattle.memory_layout.proofs.Blank.{view-blank}
@@ -121,7 +121,7 @@ module _ (m s : List ℕ) where
 
     -- the market of an opened memory is the derivatives market
     pub market-opened : marketOf (opened m s) ≡ derivatives
-    market-opened = market-of-one (wordAt (opened m s) kindWord) kind-opened
+    market-opened = market-derivatives (opened m s) kind-opened
 
     pub view-opened : view (opened m s) ≡ begun derivatives (rosterFrom s)
     view-opened =

@@ -17,8 +17,8 @@ use Rattle.positions.specs.Bounds.{InstrumentBounds, GatherBounds, BalanceBound
 use Rattle.ledger.specs.Derivatives.{one}
 use Rattle.positions.proofs.Counting.{small-orders}
 use Rattle.ledger.proofs.Sums.{open-nonneg}
-use Rattle.book.proofs.MarketLaws.{largest-most}
-use Rattle.memory_layout.specs.Layout.{kindWord, countWord}
+use Rattle.memory_layout.proofs.MarketRead.{market-most}
+use Rattle.memory_layout.specs.Layout.{countWord}
 use Rattle.memory_layout.specs.View.{marketOf, rosterPart, rosterOf, balancesPart, balancesOf, recordsOf, openOrders, bookOf, tradingOf}
 use Rattle.memory_layout.specs.Readable.{Readable}
 use Rattle.memory_layout.proofs.OrderRecords.{records-long}
@@ -81,7 +81,7 @@ module _ (m : List ℕ) (h : SoundMemory m) where
       let sold = openOn unit (openOrders m) Sell a i in
       omega (
         signed,
-        largest-most (wordAt m kindWord),
+        market-most m,
         h .book .bounded a i long,
         h .book .bounded a i short,
         open-nonneg unit Buy a i (openOrders m),

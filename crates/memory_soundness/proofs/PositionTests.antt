@@ -15,9 +15,7 @@ use Rattle.ledger.specs.Positions.{Way, long, short, toward, sideTo, openOn, of
 use Rattle.ledger.specs.Derivatives.{one}
 use Rattle.positions.specs.Gathered.{cell}
 use Rattle.limits.proofs.Answers.{and-true}
-use Rattle.book.proofs.MarketLaws.{unit-one}
-use Rattle.words.specs.Words.{wordAt}
-use Rattle.memory_layout.specs.Layout.{kindWord}
+use Rattle.memory_layout.proofs.MarketRead.{market-unit}
 use Rattle.memory_layout.specs.Rosters.{every}
 use Rattle.memory_layout.specs.View.{marketOf, rosterOf, balancesOf, openOrders}
 use Rattle.memory_soundness.specs.Soundness.{positionSound, instrumentSound}
@@ -81,7 +79,7 @@ module _ (m cells : List ℕ) (a i : ℕ) (readable : Readable m) (gathered : Sm
   unfolding positionSound ofInstrument
   position-cell w =
       rw (
-        unit-one (wordAt m kindWord),
+        market-unit m,
         gathered .sums .accounts a (h .0, omega (arith, readable .accounts)) .sums (sideTo w) i
             (l .0, omega (arith, readable .instruments)),
       )

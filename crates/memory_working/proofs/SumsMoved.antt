@@ -18,11 +18,11 @@ use Rattle.book.specs.declared.OrderChange.{OrderChange}
 use Rattle.book.specs.declared.OrderChange.the-variants.{Replace, Cancel, Fill}
 use Rattle.book.specs.declared.Event.{Event}
 use Rattle.book.specs.declared.Event.the-variants.{Limit, Balance, Block, New, Change, Junk}
-use Rattle.book.specs.Market.{derivatives}
+use Rattle.book.specs.Market.{marketOfKind}
 use Rattle.book.specs.Books.{newOrder, bookAfter}
 use Rattle.book.specs.States.{State, work}
 use Rattle.book.proofs.Shifts.{remainsAfter, new-shift, change-shift}
-use Rattle.memory_layout.specs.View.{rosterOf, openOrders, bookOf, view}
+use Rattle.memory_layout.specs.View.{marketOf, rosterOf, openOrders, bookOf, view}
 use Rattle.memory_layout.specs.Judged.{judged}
 use Rattle.memory_soundness.specs.Cells.{Sums}
 use Rattle.memory_soundness.specs.SoundMemory.{SoundMemory}
@@ -52,9 +52,9 @@ after-event m bytes held e sized accepted = ap (λ v. v .book .orders) (view-wor
 module _ {m : List ℕ} (bytes : Bytes m) (held : SoundMemory m) (e : Event) (sized : Sized e) (accepted : judged m e ≡ 0) (o : Order)
     (on-a : Numbered (rosterOf m .accounts) (o .account)) (on-i : Numbered (rosterOf m .instruments) (o .instrument)) where
   -- the book's change of what counts, told of the memory
-  told : (x y : ℕ) → y ≤ 1000000 → CountChanged (derivatives .unit) o x y (openOrders m) (work (view m) e .book .orders)
+  told : (x y : ℕ) → y ≤ 1000000 → CountChanged (marketOf m .unit) o x y (openOrders m) (work (view m) e .book .orders)
       → SumsChanged o x y (openOrders m) (openOrders (worked m e))
-  unfolding derivatives
+  unfolding marketOfKind
   told x y small shift =
       let bounds = sound-readable m held in
       record {
@@ -77,12 +77,12 @@ new-sums {m} {o} bytes word ready =
     let e = newOf o in
     let t = accepted-facts m (ready .held) e (ready .accepted) in
     let made : Order = newOrder (o .side) (o .account) (o .instrument) (o .id) (pos (o .total)) in
-    let shift : CountChanged (derivatives .unit) made 0 (remaining made) (openOrders m) (work (view m) (newOf o) .book .orders) =
+    let shift : CountChanged (marketOf m .unit) made 0 (remaining made) (openOrders m) (work (view m) (newOf o) .book .orders) =
     new-shift (view m) (o .side) (o .account) (o .instrument) (o .id) (pos (o .total)) in
     let whole = new-whole o (ready .named .1) in
     let most : remaining o ≤ 1000000 = omega (arith, whole, t .2 .1 .1) in
-    let own : CountChanged (derivatives .unit) o 0 (remaining o) (openOrders m) (work (view m) (newOf o) .book .orders) =
-    subst (λ (x : Order). CountChanged (derivatives .unit) x 0 (remaining x) (openOrders m) (work (view m) (newOf o) .book .orders))
+    let own : CountChanged (marketOf m .unit) o 0 (remaining o) (openOrders m) (work (view m) (newOf o) .book .orders) =
+    subst (λ (x : Order). CountChanged (marketOf m .unit) x 0 (remaining x) (openOrders m) (work (view m) (newOf o) .book .orders))
     (sym (ready .named .1)) shift in
     subst (λ (n : ℕ). SumsChanged o 0 n (openOrders m) (openOrders (worked m (newOf o)))) whole
     (told bytes (ready .held) e word (ready .accepted) o (t .0) (t .1) 0 (remaining o) most own)

@@ -8,11 +8,9 @@ use lib.IntN.{ℤ, pos, negℤ, natAbs, _+ℤ_}
 use lib.Signed.{leZ}
 use mir.Syntax.{w64}
 use mir.ValLaws.{toZ-ofZ}
-use Rattle.words.specs.Words.{wordAt}
 use Rattle.ledger.specs.declared.order.Side.the-variants.{Buy, Sell}
 use Rattle.ledger.proofs.Fits.{again}
-use Rattle.book.proofs.MarketLaws.{largest-most}
-use Rattle.memory_layout.specs.Layout.{kindWord}
+use Rattle.memory_layout.proofs.MarketRead.{market-most}
 use Rattle.memory_layout.specs.View.{marketOf}
 use Rattle.memory_soundness.specs.Soundness.{instrumentSound}
 use Rattle.memory_soundness.proofs.PositionTests.{cell-small, instrument-tested}
@@ -32,7 +30,7 @@ of-requires-2 c κs =
 of-requires-3 : tie.Need-of-requires-3
 of-requires-3 c κs =
     let s = c .before .before .before .before .before .before in
-    omega (arith, s .pre .4, largest-most (wordAt (s .args .m .now) kindWord))
+    omega (arith, s .pre .4, market-most (s .args .m .now))
 
 -- the largest figure as the code has it is the market's
 most : (c : tie.After-of3) → let s = c .before .before .before .before .before .before .before in
@@ -46,7 +44,7 @@ less-requires c κs =
     omega (
       arith,
       ap natAbs (most c),
-      largest-most (wordAt (s .args .m .now) kindWord),
+      market-most (s .args .m .now),
       ap natAbs (b .of .ensures),
       cell-small _ _ _ _ (s .pre .0) (s .pre .1) (s .pre .2) (s .pre .3) Buy,
     )
@@ -58,7 +56,7 @@ less-requires-2 c κs =
     omega (
       arith,
       ap natAbs (most (c .before .before .before)),
-      largest-most (wordAt (s .args .m .now) kindWord),
+      market-most (s .args .m .now),
       ap natAbs (v .of2 .ensures),
       cell-small _ _ _ _ (s .pre .0) (s .pre .1) (s .pre .2) (s .pre .3) Sell,
     )
