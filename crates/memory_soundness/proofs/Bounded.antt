@@ -102,7 +102,7 @@ module _ (m : List ℕ) (h : SoundMemory m) where
           small = λ s. omega (arith, open-small s a i, ap natAbs (balance-in m a on sound-readable i l), balance-small a i);
         }
 
-    gather-bounds : GatherBounds (recordsOf m) (wordAt m countWord) a
+    pub gather-bounds : GatherBounds (recordsOf m) (wordAt m countWord) a
     gather-bounds =
         record {
           long = records-there;

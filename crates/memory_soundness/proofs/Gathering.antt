@@ -14,7 +14,7 @@ use Rattle.ledger.proofs.Details.{remaining-of, order-of}
 use Rattle.positions.specs.Gathered.{cell, added}
 use Rattle.positions.proofs.Gathering.{Rows, ownCell, adds-own, cell-inside, empty-at, added-length, added-small}
 use Rattle.positions.proofs.Gathering.{Passed as PassedRows, passed-none as rows-none, passed-all as rows-all, passed-more as rows-more}
-use Rattle.memory_soundness.specs.Cells.{row, Empty, Sums}
+use Rattle.memory_soundness.specs.Cells.{row, Empty, AllSums}
 use Rattle.memory_soundness.proofs.Details.{cell-detail}
 
 -- the rows of two accounts do not meet
@@ -46,7 +46,7 @@ module _ (s : List ℕ) (n : ℕ) (cells : List ℕ) where
       }
 
   module _ (p : ℕ) (past : Summed s n cells p) where
-    pub summed-all : n ≤ p → Sums cells (ordersFrom s 0 n)
+    pub summed-all : n ≤ p → AllSums cells (ordersFrom s 0 n)
     summed-all h = record { size = past .size; accounts = rows-all (Numbered 16) row s n cells p (past .gathered) h }
 
     -- the next record, by its detail

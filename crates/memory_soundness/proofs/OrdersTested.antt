@@ -16,7 +16,7 @@ use Rattle.limits.proofs.Answers.{both-true, and-true}
 use Rattle.memory_layout.specs.Layout.{countWord}
 use Rattle.memory_layout.specs.View.{rosterOf, tradingOf, recordsOf, openOrders}
 use Rattle.memory_soundness.specs.Soundness.{ascend, ordersSound}
-use Rattle.memory_soundness.specs.Cells.{Sums, SmallSums}
+use Rattle.memory_soundness.specs.Cells.{AllSums, SmallSums}
 use Rattle.memory_soundness.specs.Each.{Tells, Each, Remains, TotalFits, Marked}
 use Rattle.memory_soundness.proofs.Records.{Fit, remaining-small}
 use Rattle.memory_soundness.proofs.OrderFacts.{records-out, records-in}
@@ -82,7 +82,7 @@ module _ (m : List ℕ) where
             (records-out (recordsOf m) (rosterOf m) (tradingOf m) 0 (wordAt m countWord) e p (omega arith) (omega arith))) s a i,
       )
 
-  pub gathered-small : (cells : List ℕ) → wordAt m countWord ≤ 256 → ordersSound m ≡ true → Sums cells (openOrders m) →
+  pub gathered-small : (cells : List ℕ) → wordAt m countWord ≤ 256 → ordersSound m ≡ true → AllSums cells (openOrders m) →
       SmallSums cells (openOrders m)
   gathered-small cells few e sums =
       record {

@@ -64,7 +64,7 @@ row-small m a readable few h small =
     within : (i : ℕ) → Numbered (rosterOf m .instruments) i → (w : Way) → positionSound m a i w ≡ true
     within i l w =
         let balance = rw (balance-in m a h readable i l) at (small .small i (omega arith) (omega (arith, readable .instruments))) in
-        rw (unit-one (wordAt m kindWord))
+        rw (market-unit m)
         (small-within (marketOf m .largest) w (balancesOf m a i) (openOn one (openOrders m) (sideTo w) a i) (small .wide) balance
         (few (sideTo w) i (l .0, omega (arith, readable .instruments))))
 

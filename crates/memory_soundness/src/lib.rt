@@ -9,6 +9,7 @@ pub mod sums;
 
 ghost use mathlib.Core.Path.{_≡_};
 ghost use mathlib.Core.Bool.{true};
+ghost use lib.ListN.{length};
 ghost use Rattle.memory_layout.specs.View.{openOrders};
 ghost use Rattle.memory_soundness.specs.Soundness.{soundDesk};
 ghost use Rattle.memory_soundness.specs.Cells.{Empty, SmallSums};
@@ -51,7 +52,10 @@ pub fn is_sound(m: &[u8]) -> bool
 pub fn is_sound_with_sums(m: &[u8], cells: &mut [u64; 1089]) -> bool
     requires { ⌜ Empty (now cells) ⌝ }
     ensures sound { λ r. ⌜ r ≡ soundDesk (now (m .entry)) ⌝ }
-    ensures cells { λ r. ⌜ (r ≡ true → SmallSums (now (cells .exit)) (openOrders (now (m .entry)))) ⌝ }
+    ensures cells { λ r. ⌜
+        (length (now (cells .exit)) ≡ 1089)
+        × (r ≡ true → SmallSums (now (cells .exit)) (openOrders (now (m .entry))))
+        ⌝ }
 {
     if !is_sound(m) {
         return false;

@@ -9,7 +9,10 @@ use Rattle.memory_soundness.proofs.is_sound_with_sums.Statement.{statem
 use Rattle.memory_soundness.proofs.is_sound_with_sums.Tie as tie
 
 returns : tie.Need-returns
-returns c = (sym (answered-no _ _ (c .before .is-sound .ensures) (c .if1 .taken)), λ e. absurd (false≢true e))
+returns c = (
+  sym (answered-no _ _ (c .before .is-sound .ensures) (c .if1 .taken)),
+  (c .before .before .before .pre .size, λ e. absurd (false≢true e)),
+)
 
 gather-sums-requires : tie.Need-gather-sums-requires
 gather-sums-requires c κs =
@@ -20,7 +23,8 @@ gather-sums-requires c κs =
 returns-2 : tie.Need-returns-2
 returns-2 c =
     let asked = c .before .before in
-    (sym (answered-yes _ _ (asked .before .is-sound .ensures) (asked .if1 .left)), λ e. c .gather-sums .ensures)
+    let sums = c .gather-sums .ensures in
+    (sym (answered-yes _ _ (asked .before .is-sound .ensures) (asked .if1 .left)), (sums .sums .size, λ e. sums))
 
 pub is-sound-with-sums-spec : {M : Type 1} → statement M
 is-sound-with-sums-spec = tie.close (tie.spec (λ c κs. search needs) returns gather-sums-requires returns-2)
