@@ -13,7 +13,7 @@ use limits::answer::number_of;
 use memory_opening::open_desk;
 use memory_reading::read_group;
 use memory_reading::read_instrument;
-use memory_soundness::is_sound_with_sums;
+use memory_soundness::is_sound;
 
 // Opens a desk in `m` from the roster's bytes.
 #[no_mangle]
@@ -30,9 +30,9 @@ pub extern "C" fn desk_event(m: &mut [u8], event: &[u8]) -> u8
     ensures answer { λ r. ⌜ r ≡ answerTo (now (m .entry)) (now (event .entry)) ⌝ }
     ensures memory { λ r. ⌜ now (m .exit) ≡ afterEvent (now (m .entry)) (now (event .entry)) ⌝ }
 {
-    let mut cells = [0u64; 1089];
-    let sound = is_sound_with_sums(m, &mut cells);
-    answer_next(m, &mut cells, event, sound)
+    let mut none = [0u64; 0];
+    let sound = is_sound(m);
+    answer_next(m, &mut none, event, sound)
 }
 
 // Reads S, PCI and PVI of an account and instrument.

@@ -27,8 +27,8 @@ fn event_at<'a>(events: &'a [u8], at: usize) -> &'a [u8]
 }
 
 // Answers an event at a desk that is sound or not, and works it where it is accepted. Where it is sound, the cells hold B and V of all
-// accounts. Both ways in call it, so that decoding and step are called at one place alone and compile into it.
-pub fn answer_next(m: &mut [u8], cells: &mut [u64; 1089], event: &[u8], sound: bool) -> u8
+// accounts, or there are none. Both ways in call it, so that decoding and step are called at one place alone and compile into it.
+pub fn answer_next(m: &mut [u8], cells: &mut [u64], event: &[u8], sound: bool) -> u8
     requires { ⌜ (sound ≡ soundDesk (now m)) × (sound ≡ true → Sums (now cells) (openOrders (now m))) ⌝ }
     ensures answer { λ r. ⌜ r ≡ answerTo (now (m .entry)) (now (event .entry)) ⌝ }
     ensures memory { λ r. ⌜ now (m .exit) ≡ afterEvent (now (m .entry)) (now (event .entry)) ⌝ }

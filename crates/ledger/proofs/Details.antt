@@ -1,13 +1,18 @@
 -- What the order of an id and a detail says, and details joined bit by bit: each figure is at most that of the whole.
-use Prim.Native.Nat.{ℕ, _+_, _/_, _%_, _≤_, _<_, _^_}
+use Prim.Native.Nat.{ℕ, _+_, _*_, _-_, _/_, _%_, _≤_, _<_, _^_}
 use mathlib.Core.Path.{_≡_, refl, ap, _∙_}
+use mathlib.Core.Bool.{Bool, true, false, cond}
 use mathlib.Core.List.{List}
+use native.Mathlib.Decide.{ℕ-discrete}
 use native.Mathlib.Omega.{arith}
+use borrow.Author.Tests.{eq-eqb, ne-eqb}
+use lib.Dec.{eqb}
 use lib.Bits.{bitOr, or-comm, or-shr, or-mod}
 use Rattle.words.proofs.Bits.{or-left}
 use Rattle.ledger.specs.declared.order.Order.{Order}
 use Rattle.ledger.specs.Orders.{remaining}
-use Rattle.ledger.specs.Records.{packed, Packable, detailPacked, detailFilled, detailRemaining}
+use Rattle.ledger.specs.Roster.{Numbered}
+use Rattle.ledger.specs.Records.{packed, packedAccount, packedInstrument, Packable, detailPacked, detailFilled, detailRemaining}
 use Rattle.ledger.specs.Records.{Within, orderOf, idAt, detailAt, orderAt}
 use Rattle.ledger.proofs.Packing.{packed-again}
 
@@ -32,6 +37,29 @@ module _ (id w : ℕ) where
 
 pub remaining-below : (w : ℕ) → w < 2 ^ 64 → detailRemaining w < 134217728
 remaining-below w h = omega arith
+
+-- ---- what remains where the account is a, else 0, by a product with 1 or 0
+module _ (w a : ℕ) (on : Numbered 16 a) (r : ℕ) where
+  abbrev part : ℕ
+  part = r * ((16 - (w / 64 + (17 - a)) % 16) / 16)
+
+  pub part-is : part ≡ cond (eqb (packedAccount w) a) r 0
+  part-is = by (ℕ-discrete (packedAccount w) a)
+    where
+      by : Dec (packedAccount w ≡ a) → part ≡ cond (eqb (packedAccount w) a) r 0
+      by (yes own) =
+          let once : (16 - (w / 64 + (17 - a)) % 16) / 16 ≡ 1 = omega arith in
+          rw (eq-eqb (packedAccount w) a own, once) (omega arith)
+      by (no other) =
+          let none : (16 - (w / 64 + (17 - a)) % 16) / 16 ≡ 0 = omega (arith, other) in
+          rw (ne-eqb (packedAccount w) a other, none) (omega arith)
+
+  pub part-small : part ≤ r
+  part-small = rw part-is (by (eqb (packedAccount w) a))
+    where
+      by : (t : Bool) → cond t r 0 ≤ r
+      by true = omega arith
+      by false = omega arith
 
 -- ---- a record
 module _ (s : List ℕ) (p : ℕ) where

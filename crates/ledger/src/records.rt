@@ -1,7 +1,10 @@
 // Orders in flat records: record p is words 2 p and 2 p + 1 of the lent bytes.
 ghost use mathlib.Core.Path.{_≡_};
+ghost use mathlib.Core.Bool.{cond};
 ghost use Prim.Native.Nat.{ℕ, _+_, _*_, _≤_};
+ghost use lib.Dec.{eqb};
 ghost use lib.ListN.{length};
+ghost use Rattle.ledger.specs.Roster.{Numbered};
 ghost use Rattle.ledger.specs.Records.{sideOf, packed, Packable, packedSide, packedAccount, packedInstrument, detail, detailPacked};
 ghost use Rattle.ledger.specs.Records.{detailFilled, detailRemaining, Storable, Within, orderOf, idAt, detailAt, orderAt};
 use crate::order::Order;
@@ -75,6 +78,15 @@ pub fn remaining_of(w: u64) -> u64
     ensures { λ r. ⌜ r ≡ detailRemaining w ⌝ }
 {
     w / 137438953472
+}
+
+// What remains where the detail's account is the given one, else 0; with no branch, so that none is mispredicted.
+pub fn remaining_for(w: u64, account: u64) -> u64
+    requires { ⌜ Numbered 16 account ⌝ }
+    ensures { λ r. ⌜ r ≡ cond (eqb (packedAccount w) account) (detailRemaining w) 0 ⌝ }
+{
+    let far = (w / 64 + (17 - account)) % 16;
+    remaining_of(w) * ((16 - far) / 16)
 }
 
 // A detail with the bits of `all` and of `w`: each figure is at least that of either.

@@ -13,7 +13,7 @@ use Rattle.ledger.specs.Positions.{openOn}
 use Rattle.ledger.specs.Derivatives.{one}
 use Rattle.positions.specs.Gathered.{cell, Gathered}
 use Rattle.positions.proofs.Gathering.{cell-inside}
-use Rattle.memory_soundness.specs.Cells.{row, Sums}
+use Rattle.memory_soundness.specs.Cells.{row, AllSums}
 use Rattle.memory_judging.specs.OrderFields.{cellsOf}
 
 module _ (cells : List ℕ) (a : ℕ) where
@@ -25,7 +25,7 @@ module _ (cells : List ℕ) (a : ℕ) where
   unfolding cellsOf
   at j h = getD-take 65 (drop (a * 64) cells) j 0 h ∙ getD-drop (a * 64) cells j 0
 
-  pub gathered-of : (orders : List Order) → Sums cells orders → Numbered 16 a → (length (cellsOf cells a) ≡ 65)
+  pub gathered-of : (orders : List Order) → AllSums cells orders → Numbered 16 a → (length (cellsOf cells a) ≡ 65)
       × Gathered (cellsOf cells a) 0 orders a
   gathered-of orders g on =
       (size-of (g .size) (on .1), record { sums = λ s i h. by s i h (g .accounts a on .sums s i h) })

@@ -25,12 +25,9 @@ use Rattle.book.specs.Market.{marketOfKind}
 use Rattle.memory_layout.specs.View.{rosterPart, rosterOf, balancesPart, linesOf, balancesOf, openOrders}
 use Rattle.memory_layout.specs.Readable.{HoldsLine, HoldsGroupLine}
 use Rattle.memory_layout.proofs.RosterRead.{instruments-same, contract-same}
-use Rattle.memory_soundness.specs.Cells.{Sums}
 use Rattle.memory_soundness.proofs.Bounded.{sound-readable, unfilled-small, group-bounds}
 use Rattle.memory_soundness.proofs.Agreement.{group-same, words-agree}
-use Rattle.memory_judging.specs.OrderQuestions.{withinLimits, Sizable}
-use Rattle.memory_judging.specs.OrderFields.{cellsOf}
-use Rattle.memory_judging.proofs.Cells.{gathered-of}
+use Rattle.memory_judging.specs.OrderQuestions.{withinLimits, OnRoster, Sizable}
 
 -- the line in force and the group line are set
 pub both-set : (m : List ℕ) (o : Order) → limitsSet (rosterOf m) (linesOf m (o .account)) o ≡ true
@@ -61,22 +58,20 @@ module _ (m : List ℕ) (after : List Order) (o : Order) where
       (positionQuestions one (rosterOf m) (linesOf m (o .account)) after (balancesOf m (o .account)) o)
 
 -- ---- 21 to 24
-module _ (m : List ℕ) (cells : List ℕ) (o : Order) (z : ℤ) (n : ℕ) (s : Sizable m o n) (more : z ≡ pos n)
-    (g : Sums cells (openOrders m)) where
-  account : Numbered 16 (o .account)
-  account = (s .on .account .0, omega (arith, s .on .account .1, sound-readable m (s .on .held) .accounts))
+pub order-account : (m : List ℕ) (o : Order) → OnRoster m o → Numbered 16 (o .account)
+order-account m o on = (on .account .0, omega (arith, on .account .1, sound-readable m (on .held) .accounts))
 
-  own : (length (cellsOf cells (o .account)) ≡ 65) × Gathered (cellsOf cells (o .account)) 0 (openOrders m) (o .account)
-  own = gathered-of cells (o .account) (openOrders m) g account
-
-  pub event-bounds : EventBounds (cellsOf cells (o .account)) (balancesPart m (o .account)) (rosterPart m) o z
+-- the row of the order's account holds its B and V
+module _ (m : List ℕ) (row : List ℕ) (o : Order) (z : ℤ) (n : ℕ) (s : Sizable m o n) (more : z ≡ pos n) (size : length row ≡ 65)
+    (own : Gathered row 0 (openOrders m) (o .account)) where
+  pub event-bounds : EventBounds row (balancesPart m (o .account)) (rosterPart m) o z
   event-bounds =
       let all = group-bounds m (s .on .held) (o .account) (s .on .account) in
       record {
         positions = record {
-          size = own .0;
+          size = size;
           unfilled =
-              cells-small (cellsOf cells (o .account)) (openOrders m) (o .account) (own .1)
+              cells-small row (openOrders m) (o .account) own
               (λ side i. omega (arith, unfilled-small m (s .on .held) side (o .account) i));
           balances-small = all .balances-small;
           roster-small = all .roster-small;
@@ -91,7 +86,7 @@ module _ (m : List ℕ) (cells : List ℕ) (o : Order) (z : ℤ) (n : ℕ) (s : 
       HoldsGroupLine groupLine (linesOf m (o .account) .lineOfGroup (groupOfInstrument (rosterOf m) (o .instrument))) →
       (let r = rosterIn (rosterPart m) in
       (ls : Lines) (k : ℕ) (before after : List Order) → z ≡ pos k →
-      Gathered (cellsOf cells (o .account)) 0 before (o .account) →
+      Gathered row 0 before (o .account) →
       InForce r ls o line → OfGroup r ls o groupLine → Raised k o before after →
       x ≡ firstNo (positionQuestions one r ls after (balancesIn (balancesPart m (o .account))) o)) →
       (after : List Order) → Raised n o (openOrders m) after →
@@ -103,7 +98,7 @@ module _ (m : List ℕ) (cells : List ℕ) (o : Order) (z : ℤ) (n : ℕ) (s : 
       let contract = contract-same m (o .instrument) (on .instrument) in
       answer ls n (openOrders m) after
       more
-      (own .1)
+      own
       (rw (← same-in-force ls o (rosterOf m) r contract) (holds-line .line (both-set m o (s .set) .0)))
       (rw (← group-same m (on .held) (o .instrument) (on .instrument)) (holds-group .line (both-set m o (s .set) .1)))
       raised

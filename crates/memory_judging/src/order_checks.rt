@@ -13,6 +13,7 @@ ghost use Rattle.limits.specs.Questions.{firstNo};
 ghost use Rattle.limits.specs.Asked.{positionQuestions};
 ghost use Rattle.limits.specs.Numbers.{existenceQuestions};
 ghost use Rattle.limits.specs.Answers.{numberOf};
+ghost use Rattle.positions.specs.Gathered.{Gathered};
 ghost use Rattle.memory_layout.specs.View.{rosterOf, linesOf, balancesOf, openOrders};
 ghost use Rattle.memory_layout.specs.Readable.{HoldsLine};
 ghost use Rattle.memory_soundness.specs.Cells.{Sums};
@@ -24,6 +25,8 @@ use limits::answer::Answer;
 use limits::questions::limits_exist;
 use limits::questions::order_size;
 use limits::within::positions_within;
+use memory_layout::orders::count;
+use memory_layout::orders::records;
 use memory_layout::readers::account_is_blocked;
 use memory_layout::readers::balances;
 use memory_layout::readers::default_set;
@@ -36,6 +39,7 @@ use memory_layout::readers::own_set;
 use memory_layout::roster::contract_of;
 use memory_layout::roster::group_of;
 use memory_layout::roster::roster;
+use positions::gather;
 
 // The contract and the group of an order's instrument, looked up once for an event.
 pub struct Underlying {
@@ -92,7 +96,47 @@ fn cells_of<'a>(cells: &'a [u64], account: usize) -> &'a [u64]
     &cells[first..end]
 }
 
-// 21 to 24.
+// 21 to 24, by B and V of the order's account.
+fn positions_by(
+    m: &[u8],
+    own: &[u64],
+    o: Order,
+    added: Contracts,
+    line: &[u8],
+    under: Underlying,
+) -> Answer
+    requires { ⌜
+        Sizable (now m) o (natAbs (added .0))
+        × (added .0 ≡ pos (natAbs (added .0)))
+        × (length (now own) ≡ 65)
+        × Gathered (now own) 0 (openOrders (now m)) (o .account)
+        × Under (now m) o under
+        × HoldsLine (now line) (lineInForce (rosterOf (now m)) (linesOf (now m) (o .account)) (o .instrument))
+        ⌝ }
+    ensures { λ r. ⌜
+        ((after : List Order) →
+        Raised (natAbs (added .0)) o (openOrders (now (m .entry))) after →
+        numberOf r
+        ≡ firstNo (positionQuestions one (rosterOf (now (m .entry))) (linesOf (now (m .entry)) (o .account)) after
+        (balancesOf (now (m .entry)) (o .account)) o))
+        ⌝ }
+{
+    let account = o.account as usize;
+    let of_account = balances(m, account);
+    let of_group = group_line(m, account, under.group);
+    positions_within(
+        own,
+        of_account,
+        roster(m),
+        line,
+        of_group,
+        o,
+        added,
+        under.group as u64,
+    )
+}
+
+// 21 to 24. Where no cells are kept, the row of the order's account is gathered.
 fn positions_of(
     m: &[u8],
     cells: &[u64],
@@ -116,24 +160,16 @@ fn positions_of(
         (balancesOf (now (m .entry)) (o .account)) o))
         ⌝ }
 {
-    let account = o.account as usize;
-    let own = cells_of(cells, account);
-    let of_account = balances(m, account);
-    let of_group = group_line(m, account, under.group);
-    positions_within(
-        own,
-        of_account,
-        roster(m),
-        line,
-        of_group,
-        o,
-        added,
-        under.group as u64,
-    )
+    if cells.len() == 0 {
+        let mut own = [0u64; 65];
+        gather(records(m), count(m), o.account, &mut own);
+        return positions_by(m, &own, o, added, line, under);
+    }
+    let own = cells_of(cells, o.account as usize);
+    positions_by(m, own, o, added, line, under)
 }
 
-// 19 to 24, of the order as the event enters it or raises it to, `added` contracts more of it then being open. The cells hold B and V of
-// all accounts.
+// 19 to 24, of the order as the event enters it or raises it to, `added` contracts more of it then being open.
 pub fn within_limits(m: &[u8], cells: &[u64], o: Order, added: u64, under: Underlying) -> Answer
     requires { ⌜ Sizable (now m) o added × Sums (now cells) (openOrders (now m)) × Under (now m) o under ⌝ }
     ensures { λ r. ⌜

@@ -102,11 +102,11 @@ module _ (m : List ℕ) (h : SoundMemory m) where
           small = λ s. omega (arith, open-small s a i, ap natAbs (balance-in m a on sound-readable i l), balance-small a i);
         }
 
-    gather-bounds : GatherBounds (recordsOf m) (wordAt m countWord) a
+    pub gather-bounds : GatherBounds (recordsOf m) (wordAt m countWord) a
     gather-bounds =
         record {
           long = records-there;
-          instrument = λ p l. let f = all-fit m h p l in (f .instrument .0, omega (arith, f .instrument .1, sound-readable .instruments));
+          account = (on .0, omega (arith, on .1, sound-readable .accounts));
           unfilled = λ s i. omega (arith, open-small s a i);
         }
 

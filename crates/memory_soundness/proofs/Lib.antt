@@ -5,6 +5,7 @@ pub mod RosterLaws
 pub mod Records
 mod Details
 mod Telling
+mod Passing
 pub mod Gathering
 mod PositionTests
 mod Whole

@@ -6,16 +6,19 @@ use mathlib.Core.List.{List}
 use native.Mathlib.Omega.{arith}
 use lib.IntN.{natAbs}
 use Rattle.words.specs.Words.{wordAt}
+use Rattle.ledger.specs.declared.order.Side.{Side}
+use Rattle.ledger.specs.Derivatives.{one}
 use Rattle.ledger.specs.Orders.{remaining}
+use Rattle.ledger.specs.Positions.{openOn}
 use Rattle.ledger.specs.Records.{orderAt}
 use Rattle.positions.proofs.Counting.{small-orders}
 use Rattle.limits.proofs.Answers.{both-true, and-true}
 use Rattle.memory_layout.specs.Layout.{countWord}
 use Rattle.memory_layout.specs.View.{rosterOf, tradingOf, recordsOf, openOrders}
 use Rattle.memory_soundness.specs.Soundness.{ascend, ordersSound}
-use Rattle.memory_soundness.specs.Cells.{Sums, SmallSums}
+use Rattle.memory_soundness.specs.Cells.{AllSums, SmallSums}
 use Rattle.memory_soundness.specs.Each.{Tells, Each, Remains, TotalFits, Marked}
-use Rattle.memory_soundness.proofs.Records.{Fit}
+use Rattle.memory_soundness.proofs.Records.{Fit, remaining-small}
 use Rattle.memory_soundness.proofs.OrderFacts.{records-out, records-in}
 use Rattle.memory_soundness.proofs.Telling.{same-told, tells-no}
 
@@ -67,14 +70,22 @@ module _ (m : List ℕ) where
           (record { yes-only = λ e. (ordered, totals, marked .yes-only e); yes-where = λ h. marked .yes-where (h .2) })
           told
 
-  -- the cells are small where the totals are in range
-  pub gathered-small : (cells : List ℕ) → wordAt m countWord ≤ 256 → Each m TotalFits → Sums cells (openOrders m)
-      → SmallSums cells (openOrders m)
-  unfolding openOrders remaining
-  gathered-small cells few totals sums =
+  -- B and V are small, and so are the cells that hold them
+  pub orders-few : wordAt m countWord ≤ 256 → ordersSound m ≡ true → (s : Side) (a i : ℕ) →
+      natAbs (openOn one (openOrders m) s a i) ≤ 256000000
+  unfolding openOrders ordersSound
+  orders-few few e s a i =
+      omega (
+        arith,
+        few,
+        small-orders (recordsOf m) (wordAt m countWord) 1000000 (λ p k. remaining-small (rosterOf m) (tradingOf m) _
+            (records-out (recordsOf m) (rosterOf m) (tradingOf m) 0 (wordAt m countWord) e p (omega arith) (omega arith))) s a i,
+      )
+
+  pub gathered-small : (cells : List ℕ) → wordAt m countWord ≤ 256 → ordersSound m ≡ true → AllSums cells (openOrders m) →
+      SmallSums cells (openOrders m)
+  gathered-small cells few e sums =
       record {
         sums = sums;
-        small =
-            λ v a i h l. let most = small-orders (recordsOf m) (wordAt m countWord) 1000000 (λ p k. omega (arith, totals p k)) v a i in
-            omega (arith, most, few, ap natAbs (sums .accounts a h .sums v i l));
+        small = λ s a i h l. omega (arith, orders-few few e s a i, ap natAbs (sums .accounts a h .sums s i l));
       }

@@ -1,6 +1,6 @@
 -- S + B and −S + V of an account and instrument by the gathered cells, as the code asks them of a balance that may be any word.
 use Prim.Native.Nat.{ℕ, _+_, _≤_, _<_}
-use mathlib.Core.Path.{_≡_, refl, sym, _∙_}
+use mathlib.Core.Path.{_≡_, ap}
 use mathlib.Core.Bool.{true, _&&_}
 use mathlib.Core.List.{List}
 use native.Mathlib.Omega.{arith}
@@ -11,7 +11,7 @@ use Rattle.integers.specs.Parts.{signed, sum-parts, difference-parts, negation-
 use Rattle.ledger.specs.declared.order.Side.{Side}
 use Rattle.ledger.specs.declared.order.Side.the-variants.{Buy, Sell}
 use Rattle.ledger.specs.Roster.{Numbered}
-use Rattle.ledger.specs.Positions.{Way, long, short, toward, sideTo, ofInstrument}
+use Rattle.ledger.specs.Positions.{Way, long, short, toward, sideTo, openOn, ofInstrument}
 use Rattle.ledger.specs.Derivatives.{one}
 use Rattle.positions.specs.Gathered.{cell}
 use Rattle.limits.proofs.Answers.{and-true}
@@ -41,11 +41,34 @@ short-same largest s v =
     (λ e. omega (signed, parts, sum-parts (negℤ s) (pos v), negation-parts s))
     (λ e. omega (signed, parts, sum-parts (negℤ s) (pos v), negation-parts s))
 
+-- ---- small balances
 -- beside any s of size 536,870,912 or less
-small-within : (largest : ℕ) (w : Way) (s : ℤ) (x : ℕ) → 1000000000 ≤ largest → natAbs s ≤ 536870912 → x ≤ 256000000 → leZ (toward w s +ℤ pos x) (pos largest) ≡ true
-small-within largest long s x wide h l = omega (signed, magnitude-parts s, sum-parts s (pos x))
-small-within largest short s x wide h l = omega (signed, magnitude-parts s, negation-parts s, sum-parts (negℤ s) (pos x))
+small-within : (largest : ℕ) (w : Way) (s x : ℤ) → 1000000000 ≤ largest → natAbs s ≤ 536870912 → natAbs x ≤ 256000000 →
+    leZ (toward w s +ℤ x) (pos largest) ≡ true
+small-within largest long s x wide h l = omega (signed, magnitude-parts s, magnitude-parts x, sum-parts s x)
+small-within largest short s x wide h l =
+    omega (signed, magnitude-parts s, magnitude-parts x, negation-parts s, sum-parts (negℤ s) x)
 
+-- B and V of account a are at most 256,000,000
+abbrev pub FewOpen : List ℕ → ℕ → Type 0
+FewOpen m a = (s : Side) (i : ℕ) → Numbered 32 i → natAbs (openOn one (openOrders m) s a i) ≤ 256000000
+
+-- the row of account a, all of it small
+pub row-small : (m : List ℕ) (a : ℕ) → Readable m → FewOpen m a → Numbered (rosterOf m .accounts) a →
+    SmallBalances m (marketOf m .largest) a → every (rosterOf m .instruments) (instrumentSound m a) ≡ true
+unfolding instrumentSound positionSound ofInstrument
+row-small m a readable few h small =
+    every-in (instrumentSound m a) (rosterOf m .instruments)
+    (λ i l. and-true (positionSound m a i long) (positionSound m a i short) (within i l long) (within i l short))
+  where
+    within : (i : ℕ) → Numbered (rosterOf m .instruments) i → (w : Way) → positionSound m a i w ≡ true
+    within i l w =
+        let balance = rw (balance-in m a h readable i l) at (small .small i (omega arith) (omega (arith, readable .instruments))) in
+        rw (market-unit m)
+        (small-within (marketOf m .largest) w (balancesOf m a i) (openOn one (openOrders m) (sideTo w) a i) (small .wide) balance
+        (few (sideTo w) i (l .0, omega (arith, readable .instruments))))
+
+-- ---- by the cells
 module _ (m cells : List ℕ) (a i : ℕ) (readable : Readable m) (gathered : SmallSums cells (openOrders m))
     (h : Numbered (rosterOf m .accounts) a) (l : Numbered (rosterOf m .instruments) i) where
   pub cell-small : (s : Side) → getD cells (row a + cell s i) 0 ≤ 256000000
@@ -71,20 +94,7 @@ module _ (m cells : List ℕ) (a i : ℕ) (readable : Readable m) (gathered : Sm
       let y = getD cells (row a + cell Sell i) 0 in
       rw (position-cell long, position-cell short, ← read, buys, sells, ← long-same (marketOf m .largest) s x, ← short-same (marketOf m .largest) s y)
 
-  -- where it is small, whatever the cells hold
-  pub place-small : 1000000000 ≤ marketOf m .largest → natAbs (balancesOf m a i) ≤ 536870912 → instrumentSound m a i ≡ true
-  unfolding instrumentSound
-  place-small wide small =
-      let s = balancesOf m a i in
-      let within : (w : Way) → leZ (toward w s +ℤ pos (getD cells (row a + cell (sideTo w) i) 0)) (pos (marketOf m .largest)) ≡ true =
-      λ w. small-within (marketOf m .largest) w s (getD cells (row a + cell (sideTo w) i) 0) wide small (cell-small (sideTo w)) in
-      and-true (positionSound m a i long) (positionSound m a i short) (position-cell long ∙ within long)
-      (position-cell short ∙ within short)
-
--- ---- the row of account a, all of it small
-pub row-small : (m cells : List ℕ) (a : ℕ) → Readable m → SmallSums cells (openOrders m) → Numbered (rosterOf m .accounts) a
-    → SmallBalances m (marketOf m .largest) a → true ≡ every (rosterOf m .instruments) (instrumentSound m a)
-row-small m cells a readable gathered h small =
-    sym (every-in (instrumentSound m a) (rosterOf m .instruments)
-    (λ i l. place-small m cells a i readable gathered h l (small .wide)
-    (rw (balance-in m a h readable i l) at (small .small i (omega arith) (omega (arith, readable .instruments))))))
+-- B and V are small where the cells are
+pub cells-few : (m cells : List ℕ) (a : ℕ) → SmallSums cells (openOrders m) → Numbered 16 a → FewOpen m a
+cells-few m cells a gathered h s i l =
+    omega (arith, ap natAbs (gathered .sums .accounts a h .sums s i l), gathered .small s a i h l)

@@ -7,6 +7,7 @@ use mathlib.Core.List.{List}
 use lib.Dec.{leb, eqb}
 use borrow.Author.Tests.{le-leb, lt-leb, eq-eqb, ne-eqb}
 use Rattle.words.specs.Words.{wordAt}
+use Rattle.limits.proofs.Answers.{both-true}
 use Rattle.memory_layout.specs.Layout.{kindWord, countWord}
 use Rattle.memory_layout.specs.Rosters.{longEnough}
 use Rattle.memory_layout.specs.View.{firstOf, openOrders}
@@ -30,6 +31,9 @@ module _ (m : List ℕ) where
   asked =
       in-order (longEnough m) (eqb (wordAt m kindWord) 1) (leb (wordAt m countWord) 256) (leb (firstOf m) 256) (rosterSound m)
       (linesSound m) (ascend 0 (openOrders m)) (ordersSound m) (positionsSound m)
+
+  pub orders-alone : (ascend 0 (openOrders m) && ordersSound m) ≡ true → ordersSound m ≡ true
+  orders-alone h = both-true (ascend 0 (openOrders m)) (ordersSound m) h .1
 
   pub too-short : longEnough m ≡ false → false ≡ soundDesk m
   too-short h = rw (asked, h)
@@ -70,6 +74,9 @@ module _ (m : List ℕ) where
           pub no-lines : rosterSound m ≡ true → linesSound m ≡ false → false ≡ soundDesk m
           no-lines e h = rw (rest, e, h)
 
-          pub the-rest : rosterSound m ≡ true → linesSound m ≡ true → (t : Bool)
-              → t ≡ (ascend 0 (openOrders m) && ordersSound m && positionsSound m) → t ≡ soundDesk m
-          the-rest e f t h = rw (rest, e, f) h
+          module _ (roster : rosterSound m ≡ true) (lines : linesSound m ≡ true) where
+            pub no-orders : (ascend 0 (openOrders m) && ordersSound m) ≡ false → false ≡ soundDesk m
+            no-orders h = rw (rest, roster, lines, h)
+
+            pub the-rest : (ascend 0 (openOrders m) && ordersSound m) ≡ true → (t : Bool) → t ≡ positionsSound m → t ≡ soundDesk m
+            the-rest h t e = rw (rest, roster, lines, h) e

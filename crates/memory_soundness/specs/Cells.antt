@@ -1,6 +1,7 @@
 -- What remains of all open orders, gathered into 1,089 cells, a row of 64 for each account; and balances that need none of it.
 use Prim.Native.Nat.{ℕ, _+_, _*_, _%_, _^_, _≤_, _<_}
 use mathlib.Core.Path.{_≡_}
+use mathlib.Core.Logic.{_⊎_}
 use mathlib.Core.List.{List}
 use lib.IntN.{natAbs}
 use lib.ListN.{length, getD}
@@ -25,13 +26,17 @@ pub record Empty (cells : List ℕ) : Type 0 where
   pub zero : (j : ℕ) → getD cells j 0 ≡ 0
 
 -- the cells hold B and V of each account and instrument
-pub record Sums (cells : List ℕ) (orders : List Order) : Type 0 where
+pub record AllSums (cells : List ℕ) (orders : List Order) : Type 0 where
   pub size : length cells ≡ 1089
   pub accounts : (a : ℕ) → Numbered 16 a → Gathered cells (row a) orders a
 
--- and none holds more than 256 orders of 1,000,000
+-- what is kept beside a memory while events are judged: those cells, or none, and then B and V are gathered where a question needs them
+abbrev pub Sums : List ℕ → List Order → Type 0
+Sums cells orders = (length cells ≡ 0) ⊎ AllSums cells orders
+
+-- no cell holds more than 256 orders of 1,000,000
 pub record SmallSums (cells : List ℕ) (orders : List Order) : Type 0 where
-  pub sums : Sums cells orders
+  pub sums : AllSums cells orders
   pub small : (s : Side) (a i : ℕ) → Numbered 16 a → Numbered 32 i → getD cells (row a + cell s i) 0 ≤ 256000000
 
 -- the balances of account a are at most 536,870,912 either way, on the roster or not, and figures run to 1,000,000,000 or more

@@ -1,15 +1,17 @@
 -- What the passes over a memory's open orders answer.
-use Prim.Native.Nat.{ℕ, _≤_, _<_}
+use Prim.Native.Nat.{ℕ, _-_, _≤_, _<_}
 use mathlib.Core.Path.{_≡_}
 use mathlib.Core.Bool.{Bool, true}
 use mathlib.Core.List.{List}
 use Rattle.words.specs.Words.{wordAt}
 use Rattle.ledger.specs.declared.order.Order.{Order}
 use Rattle.ledger.specs.Orders.{remaining}
+use Rattle.ledger.specs.Records.{Within, orderAt, ordersFrom}
 use Rattle.ledger.specs.Roster.{Numbered}
 use Rattle.memory_layout.specs.Layout.{countWord}
 use Rattle.memory_layout.specs.View.{rosterOf, tradingOf}
 use Rattle.memory_layout.specs.Stores.{orderIn}
+use Rattle.memory_soundness.specs.Soundness.{ascend}
 
 -- the answer is yes exactly where P holds
 pub record Tells (answer : Bool) (P : Type 0) : Type 0 where
@@ -33,3 +35,13 @@ pub record Marked (m : List ℕ) (o : Order) : Type 0 where
   pub account : Numbered (rosterOf m .accounts) (o .account)
   pub instrument : Numbered (rosterOf m .instruments) (o .instrument)
   pub marked : tradingOf m (o .account) ≡ true
+
+-- ---- the pass over the records: those below p have ascending ids up to `last`, something remains of each, and a detail has the bits of all
+pub record Passed (s : List ℕ) (p last details : ℕ) : Type 0 where
+  pub ids : (n : ℕ) → p ≤ n → ascend 0 (ordersFrom s 0 n) ≡ ascend last (ordersFrom s p (n - p))
+  pub remain : (q : ℕ) → q < p → Remains (orderAt s q)
+  pub within : (q : ℕ) → q < p → Within details (orderAt s q)
+
+-- whatever the records from p on are, the ids do not ascend or nothing remains of some order
+abbrev pub Refused : List ℕ → ℕ → Type 0
+Refused s p = (n : ℕ) → p ≤ n → ascend 0 (ordersFrom s 0 n) ≡ true → ((q : ℕ) → q < n → Remains (orderAt s q)) → ⊥

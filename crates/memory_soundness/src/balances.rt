@@ -1,14 +1,15 @@
-// The positions that a memory holds: S + B and −S + V of each account and instrument, by the gathered cells.
+// The positions that a memory holds: S + B and −S + V of each account and instrument.
 ghost use mathlib.Core.Path.{_≡_};
-ghost use mathlib.Core.Bool.{true, _&&_};
+ghost use mathlib.Core.Bool.{true};
+ghost use Prim.Native.Nat.{ℕ};
 ghost use Rattle.ledger.specs.Roster.{Numbered};
 ghost use Rattle.memory_layout.specs.View.{rosterOf, openOrders};
 ghost use Rattle.memory_layout.specs.Readable.{MarketOf, Readable};
 ghost use Rattle.memory_layout.specs.Stores.{Records};
-ghost use Rattle.memory_soundness.specs.Soundness.{ascend, ordersSound, instrumentSound, accountSound, positionsSound};
-ghost use Rattle.memory_soundness.specs.Cells.{Empty, SmallBalances, SmallSums};
+ghost use Rattle.memory_soundness.specs.Soundness.{ordersSound, instrumentSound, accountSound, positionsSound};
+ghost use Rattle.memory_soundness.specs.Cells.{SmallBalances, SmallSums};
 use crate::bits::all_small;
-use crate::orders::orders_are_sound;
+use crate::sums::gather_sums;
 use book::market::Market;
 use ledger::units::Contracts;
 use memory_layout::readers::balance;
@@ -71,30 +72,44 @@ fn account_is_sound(m: &[u8], market: Market, cells: &[u64; 1089], a: usize) -> 
     true
 }
 
-// Of each account and instrument.
-fn positions_are_sound(m: &[u8], market: Market, cells: &[u64; 1089]) -> bool
-    requires { ⌜ Readable (now m) × SmallSums (now cells) (openOrders (now m)) × MarketOf (now m) market ⌝ }
+// Of each account and instrument, by B and V.
+fn positions_by_sums(m: &[u8], market: Market) -> bool
+    requires { ⌜ Readable (now m) × Records (now m) × (ordersSound (now m) ≡ true) × MarketOf (now m) market ⌝ }
     ensures { λ r. ⌜ r ≡ positionsSound (now (m .entry)) ⌝ }
 {
+    let mut cells = [0u64; 1089];
+    gather_sums(m, &mut cells);
     let n = accounts(m) as usize;
     for j in 0..n {
-        if !account_is_sound(m, market, cells, j + 1) {
+        if !account_is_sound(m, market, &cells, j + 1) {
             return false;
         }
     }
     true
 }
 
-// The orders in one pass, which gathers, then the positions in another.
-pub fn orders_and_positions(m: &[u8], market: Market, cells: &mut [u64; 1089]) -> bool
-    requires { ⌜ Readable (now m) × Records (now m) × Empty (now cells) × MarketOf (now m) market ⌝ }
-    ensures { λ r. ⌜
-        (r ≡ (ascend 0 (openOrders (now (m .entry))) && ordersSound (now (m .entry)) && positionsSound (now (m .entry))))
-        × (r ≡ true → SmallSums (now (cells .exit)) (openOrders (now (m .entry))))
-        ⌝ }
+// Are the balances of all accounts so small?
+fn all_balances_are_small(m: &[u8], market: Market) -> bool
+    requires { ⌜ Readable (now m) ⌝ }
+    ensures { λ r. ⌜ (r ≡ true → (a : ℕ) → Numbered (rosterOf (now (m .entry)) .accounts) a
+        → SmallBalances (now (m .entry)) (market .largest) a) ⌝ }
 {
-    if !orders_are_sound(m, cells) {
-        return false;
+    let n = accounts(m) as usize;
+    for j in 0..n {
+        if !balances_are_small(m, market, j + 1) {
+            return false;
+        }
     }
-    positions_are_sound(m, market, cells)
+    true
+}
+
+// Of each account and instrument. Where all balances are small, B and V are not gathered.
+pub fn positions_are_sound(m: &[u8], market: Market) -> bool
+    requires { ⌜ Readable (now m) × Records (now m) × (ordersSound (now m) ≡ true) × MarketOf (now m) market ⌝ }
+    ensures { λ r. ⌜ r ≡ positionsSound (now (m .entry)) ⌝ }
+{
+    if all_balances_are_small(m, market) {
+        return true;
+    }
+    positions_by_sums(m, market)
 }

@@ -5,9 +5,11 @@ pub mod lines;
 pub mod orders;
 pub mod ranges;
 pub mod roster;
+pub mod sums;
 
 ghost use mathlib.Core.Path.{_≡_};
 ghost use mathlib.Core.Bool.{true};
+ghost use lib.ListN.{length};
 ghost use Rattle.memory_layout.specs.View.{openOrders};
 ghost use Rattle.memory_soundness.specs.Soundness.{soundDesk};
 ghost use Rattle.memory_soundness.specs.Cells.{Empty, SmallSums};
@@ -17,11 +19,9 @@ use memory_layout::readers::is_long_enough;
 use memory_layout::readers::kind;
 use memory_layout::readers::market;
 
-// Question 5, and where it is answered yes, B and V of all accounts and instruments in the cells. One pass over each region.
-pub fn is_sound_with_sums(m: &[u8], cells: &mut [u64; 1089]) -> bool
-    requires { ⌜ Empty (now cells) ⌝ }
-    ensures sound { λ r. ⌜ r ≡ soundDesk (now (m .entry)) ⌝ }
-    ensures cells { λ r. ⌜ (r ≡ true → SmallSums (now (cells .exit)) (openOrders (now (m .entry)))) ⌝ }
+// Does the memory hold a sound desk? One pass over each region.
+pub fn is_sound(m: &[u8]) -> bool
+    ensures { λ r. ⌜ r ≡ soundDesk (now (m .entry)) ⌝ }
 {
     if !is_long_enough(m) {
         return false;
@@ -42,13 +42,24 @@ pub fn is_sound_with_sums(m: &[u8], cells: &mut [u64; 1089]) -> bool
     if !lines::lines_are_sound(m, market) {
         return false;
     }
-    balances::orders_and_positions(m, market, cells)
+    if !orders::orders_are_sound(m) {
+        return false;
+    }
+    balances::positions_are_sound(m, market)
 }
 
-// Does the memory hold a sound desk?
-pub fn is_sound(m: &[u8]) -> bool
-    ensures { λ r. ⌜ r ≡ soundDesk (now (m .entry)) ⌝ }
+// Question 5, and where it is answered yes, B and V of all accounts and instruments in the cells.
+pub fn is_sound_with_sums(m: &[u8], cells: &mut [u64; 1089]) -> bool
+    requires { ⌜ Empty (now cells) ⌝ }
+    ensures sound { λ r. ⌜ r ≡ soundDesk (now (m .entry)) ⌝ }
+    ensures cells { λ r. ⌜
+        (length (now (cells .exit)) ≡ 1089)
+        × (r ≡ true → SmallSums (now (cells .exit)) (openOrders (now (m .entry))))
+        ⌝ }
 {
-    let mut cells = [0u64; 1089];
-    is_sound_with_sums(m, &mut cells)
+    if !is_sound(m) {
+        return false;
+    }
+    sums::gather_sums(m, cells);
+    true
 }

@@ -1,14 +1,15 @@
-// The open orders that a memory holds. One pass over the records asks what each order alone can tell and gathers what remains of it; what
-// is then still open is asked of all at once, and where that does not tell, record by record.
+// The open orders that a memory holds. One pass over the records asks what each order alone can tell; what is then still open is asked of
+// all at once, and where that does not tell, record by record.
 ghost use mathlib.Core.Path.{_≡_};
-ghost use mathlib.Core.Bool.{true, _&&_};
+ghost use mathlib.Core.Bool.{true, false, _&&_};
+ghost use Prim.Native.Nat.{_+_, _*_, _≤_};
+ghost use lib.ListN.{length};
 ghost use Rattle.ledger.specs.Records.{Packable, Within};
 ghost use Rattle.memory_layout.specs.View.{openOrders};
 ghost use Rattle.memory_layout.specs.Readable.{Readable};
 ghost use Rattle.memory_layout.specs.Stores.{Records};
 ghost use Rattle.memory_soundness.specs.Soundness.{ascend, ordersSound};
-ghost use Rattle.memory_soundness.specs.Cells.{Empty, Sums, SmallSums};
-ghost use Rattle.memory_soundness.specs.Each.{Tells, Each, Remains, TotalFits, Marked};
+ghost use Rattle.memory_soundness.specs.Each.{Tells, Each, Remains, TotalFits, Marked, Passed, Refused};
 use ledger::order::Order;
 use ledger::records::account_of;
 use ledger::records::bits_of_both;
@@ -17,9 +18,7 @@ use ledger::records::filled_of;
 use ledger::records::id_in;
 use ledger::records::instrument_of;
 use ledger::records::load;
-use ledger::records::packed_of;
 use ledger::records::remaining_of;
-use ledger::units::Contracts;
 use memory_layout::orders::count;
 use memory_layout::orders::records;
 use memory_layout::readers::is_trading;
@@ -27,49 +26,73 @@ use memory_layout::roster::account_known;
 use memory_layout::roster::accounts;
 use memory_layout::roster::instrument_known;
 use memory_layout::roster::instruments;
-use positions::add_to;
 
-// What the pass tells: do the ids ascend, and does something remain of each order? And a detail with the bits of all.
+// What the pass tells of the records that it has passed: do the ids ascend, and does something remain of each order? If so, the last id,
+// and a detail with the bits of all.
 struct Pass {
     sound: bool,
+    last: u64,
     details: u64,
 }
 
-// The pass, which gathers B and V of all accounts and instruments into the cells.
-fn gather_all(m: &[u8], cells: &mut [u64; 1089]) -> Pass
-    requires { ⌜ Readable (now m) × Records (now m) × Empty (now cells) ⌝ }
-    ensures sound { λ r. ⌜ Tells (r .sound) ((ascend 0 (openOrders (now (m .entry))) ≡ true) × Each (now (m .entry)) Remains) ⌝ }
-    ensures details { λ r. ⌜ (r .sound ≡ true → Each (now (m .entry)) (Within (r .details))) ⌝ }
-    ensures sums { λ r. ⌜ (r .sound ≡ true → Sums (now (cells .exit)) (openOrders (now (m .entry)))) ⌝ }
+fn refused() -> Pass
+    ensures { λ r. ⌜ r .sound ≡ false ⌝ }
 {
-    let n = count(m);
-    let orders = records(m);
-    let mut last: u64 = 0;
-    let mut all: u64 = 0;
-    for p in 0..n {
-        let id = id_in(orders, p);
-        let w = detail_in(orders, p);
-        if id <= last {
-            return Pass {
-                sound: false,
-                details: 0,
-            };
-        }
-        if remaining_of(w) == 0 {
-            return Pass {
-                sound: false,
-                details: 0,
-            };
-        }
-        last = id;
-        all = bits_of_both(all, w);
-        let j = 65 + packed_of(w) as usize;
-        add_to(cells, j, Contracts::of(remaining_of(w)));
+    Pass {
+        sound: false,
+        last: 0,
+        details: 0,
+    }
+}
+
+// The pass goes on over record `p`.
+fn with_record(orders: &[u8], p: usize, before: Pass) -> Pass
+    requires { ⌜ (p * 16 + 16 ≤ length (now orders)) × Passed (now orders) p (before .last) (before .details) ⌝ }
+    ensures passed { λ r. ⌜ (r .sound ≡ true → Passed (now (orders .entry)) (p + 1) (r .last) (r .details)) ⌝ }
+    ensures refused { λ r. ⌜ (r .sound ≡ false → Refused (now (orders .entry)) (p + 1)) ⌝ }
+{
+    let id = id_in(orders, p);
+    let w = detail_in(orders, p);
+    if id <= before.last {
+        return refused();
+    }
+    if remaining_of(w) == 0 {
+        return refused();
     }
     Pass {
         sound: true,
-        details: all,
+        last: id,
+        details: bits_of_both(before.details, w),
     }
+}
+
+// The pass over all records, two at a turn.
+fn pass_over(m: &[u8]) -> Pass
+    requires { ⌜ Readable (now m) × Records (now m) ⌝ }
+    ensures sound { λ r. ⌜ Tells (r .sound) ((ascend 0 (openOrders (now (m .entry))) ≡ true) × Each (now (m .entry)) Remains) ⌝ }
+    ensures details { λ r. ⌜ (r .sound ≡ true → Each (now (m .entry)) (Within (r .details))) ⌝ }
+{
+    let n = count(m);
+    let orders = records(m);
+    let mut passed = Pass {
+        sound: true,
+        last: 0,
+        details: 0,
+    };
+    for t in 0..n / 2 {
+        let first = with_record(orders, t * 2, passed);
+        if !first.sound {
+            return first;
+        }
+        passed = with_record(orders, t * 2 + 1, first);
+        if !passed.sound {
+            return passed;
+        }
+    }
+    if n % 2 == 1 {
+        return with_record(orders, n - 1, passed);
+    }
+    passed
 }
 
 // Is every total in range? All at once by the detail with the bits of all, and where that does not tell, one by one.
@@ -143,15 +166,12 @@ fn all_marked(m: &[u8], details: u64) -> bool
     true
 }
 
-// Do the ids ascend and is each order sound? If so, B and V of all accounts and instruments are in the cells.
-pub fn orders_are_sound(m: &[u8], cells: &mut [u64; 1089]) -> bool
-    requires { ⌜ Readable (now m) × Records (now m) × Empty (now cells) ⌝ }
-    ensures { λ r. ⌜
-        (r ≡ (ascend 0 (openOrders (now (m .entry))) && ordersSound (now (m .entry))))
-        × (r ≡ true → SmallSums (now (cells .exit)) (openOrders (now (m .entry))))
-        ⌝ }
+// Do the ids ascend and is each order sound?
+pub fn orders_are_sound(m: &[u8]) -> bool
+    requires { ⌜ Readable (now m) × Records (now m) ⌝ }
+    ensures { λ r. ⌜ r ≡ (ascend 0 (openOrders (now (m .entry))) && ordersSound (now (m .entry))) ⌝ }
 {
-    let passed = gather_all(m, cells);
+    let passed = pass_over(m);
     if !passed.sound {
         return false;
     }

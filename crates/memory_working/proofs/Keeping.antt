@@ -1,7 +1,7 @@
 -- The cells after a change of one order: its own cell moves with what counts of it, and no other.
 use Prim.Native.Nat.{ℕ, _+_, _*_, _-_, _≤_, _<_}
 use mathlib.Core.Path.{_≡_, refl, _∙_, sym, ap}
-use mathlib.Core.Logic.{_≢_}
+use mathlib.Core.Logic.{_≢_, _⊎_, inl, inr}
 use mathlib.Core.List.{List}
 use native.Mathlib.Nat.{one-mul}
 use native.Mathlib.Omega.{arith}
@@ -20,7 +20,7 @@ use Rattle.limits.specs.Raised.{addedOn}
 use Rattle.positions.specs.Gathered.{cell}
 use Rattle.positions.proofs.Gathering.{same-cell}
 use Rattle.memory_layout.specs.View.{openOrders}
-use Rattle.memory_soundness.specs.Cells.{row, Sums}
+use Rattle.memory_soundness.specs.Cells.{row, AllSums, Sums}
 use Rattle.memory_soundness.specs.SoundMemory.{SoundMemory}
 use Rattle.memory_soundness.proofs.Bounded.{unfilled-small}
 use Rattle.memory_soundness.proofs.Gathering.{rows, row-inside}
@@ -49,7 +49,7 @@ pub own-inside : (cells : List ℕ) (o : Order) {before after : ℕ} → Countab
 own-inside cells o c =
     omega (arith, c .size, row-inside (o .side) (o .account) (o .instrument) (c .account .1) (c .instrument .1))
 
-module _ (cells : List ℕ) (orders orders′ : List Order) (held : Sums cells orders) (o : Order) (before after : ℕ)
+module _ (cells : List ℕ) (orders orders′ : List Order) (held : AllSums cells orders) (o : Order) (before after : ℕ)
     (shift : SumsChanged o before after orders orders′) where
   abbrev own : ℕ
   own = cellOf o
@@ -91,7 +91,7 @@ module _ (cells : List ℕ) (orders orders′ : List Order) (held : Sums cells o
       let z = openOn one orders′ (o .side) (o .account) (o .instrument) in
       omega (signed, own-sum, enough, sum-parts z (pos before), sum-parts (pos (getD cells own 0)) (pos after))
 
-  pub kept : (j : ℕ) → j ≡ own → Sums (set cells j (getD cells j 0 + after - before)) orders′
+  pub kept : (j : ℕ) → j ≡ own → AllSums (set cells j (getD cells j 0 + after - before)) orders′
   kept j e =
       rw e
       (record {
@@ -133,8 +133,9 @@ module _ (cells : List ℕ) (orders orders′ : List Order) (held : Sums cells o
         enough = enough;
       }
 
--- at a sound desk the cell of an order that an event names can take what counts after it
+-- at a sound desk the cell of an order that an event names can take what counts after it, where cells are kept
 pub recountable : {m cells : List ℕ} {o : Order} {before after : ℕ} {orders′ : List Order} → SoundMemory m → Sums cells (openOrders m)
-    → SumsChanged o before after (openOrders m) orders′ → Countable cells o before after
-recountable {m} {cells} {o} {before} {after} {orders′} held sums changes =
-    countable cells (openOrders m) orders′ sums o before after changes (unfilled-small m held)
+    → SumsChanged o before after (openOrders m) orders′ → (length cells ≡ 0) ⊎ Countable cells o before after
+recountable held (inl none) changes = inl none
+recountable {m} {cells} {o} {before} {after} {orders′} held (inr sums) changes =
+    inr (countable cells (openOrders m) orders′ sums o before after changes (unfilled-small m held))

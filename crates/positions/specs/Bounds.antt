@@ -1,5 +1,5 @@
 -- What the positions of an account need of the lent bytes: that the records are there, and that no number is too large.
-use Prim.Native.Nat.{ℕ, _+_, _*_, _≤_, _<_}
+use Prim.Native.Nat.{ℕ, _+_, _*_, _≤_}
 use mathlib.Core.Path.{_≡_}
 use mathlib.Core.List.{List}
 use lib.ListN.{length, getD}
@@ -7,7 +7,7 @@ use lib.IntN.{natAbs}
 use Rattle.ledger.specs.declared.order.Side.{Side}
 use Rattle.ledger.specs.Roster.{Roster, Numbered}
 use Rattle.ledger.specs.Positions.{openOn}
-use Rattle.ledger.specs.Records.{orderAt, ordersFrom, balancesIn, rosterIn}
+use Rattle.ledger.specs.Records.{ordersFrom, balancesIn, rosterIn}
 use Rattle.ledger.specs.Derivatives.{one}
 use Rattle.positions.specs.Gathered.{cell}
 
@@ -20,7 +20,7 @@ pub record InstrumentBounds (orders : List ℕ) (n : ℕ) (balances : List ℕ) 
 -- for the cells of account a
 pub record GatherBounds (orders : List ℕ) (n a : ℕ) : Type 0 where
   pub long : n * 16 ≤ length orders
-  pub instrument : (p : ℕ) → p < n → Numbered 32 (orderAt orders p .instrument)
+  pub account : Numbered 16 a
   pub unfilled : (s : Side) (i : ℕ) → natAbs (openOn one (ordersFrom orders 0 n) s a i) ≤ 100000000000
 
 -- for PCI and PVI of instrument i by the cells

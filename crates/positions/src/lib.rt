@@ -7,14 +7,15 @@ ghost use lib.ListN.{length, getD};
 ghost use Rattle.ledger.specs.declared.order.Side.{Side};
 ghost use Rattle.ledger.specs.Roster.{Numbered};
 ghost use Rattle.ledger.specs.Positions.{Way, opposite, toward, wayOf, sameSide, groupPart};
-ghost use Rattle.ledger.specs.Records.{ordersFrom, balancesIn, rosterIn};
+ghost use Rattle.ledger.specs.Records.{packedSide, packedInstrument, ordersFrom, balancesIn, rosterIn};
 ghost use Rattle.ledger.specs.Derivatives.{counted};
 ghost use Rattle.positions.specs.Gathered.{onWay, cell, added, Gathered, byCells, partByCells, sumByCells};
 ghost use Rattle.positions.specs.Answers.{InGroup};
 ghost use Rattle.positions.specs.Bounds.{CellBounds, GatherBounds, RosterBounds, WeighBounds, GroupBounds};
 use ledger::order::Order;
 use ledger::order::Side;
-use ledger::records::load;
+use ledger::records::detail_in;
+use ledger::records::remaining_for;
 use ledger::roster::instrument_group_in;
 use ledger::roster::instruments_in;
 use ledger::roster::weight_in;
@@ -142,7 +143,15 @@ pub fn add_to(cells: &mut [u64], j: usize, n: Contracts)
     cells[j] = Contracts::of(cells[j]).plus(n).number();
 }
 
-// Gathers B and V of the account and each instrument, in one pass over the orders.
+// The cell of the order that a detail says, from its account's first cell on.
+fn cell_of(w: u64) -> usize
+    ensures { λ r. ⌜ r ≡ cell (packedSide w) (packedInstrument w) ⌝ }
+{
+    (w % 64 + 1) as usize
+}
+
+// Gathers B and V of the account and each instrument, in one pass over the orders. It has no branch that could be mispredicted: an order
+// of another account adds 0.
 pub fn gather(orders: &[u8], n: usize, account: u64, cells: &mut [u64; 65])
     requires { ⌜ GatherBounds (now orders) n account × (length (now cells) ≡ 65) × ((j : ℕ) → getD (now cells) j 0 ≡ 0) ⌝ }
     ensures { λ r. ⌜
@@ -151,12 +160,8 @@ pub fn gather(orders: &[u8], n: usize, account: u64, cells: &mut [u64; 65])
         ⌝ }
 {
     for p in 0..n {
-        let o = load(orders, p);
-        if o.account == account {
-            let side = o.side;
-            let j = cell(side, o.instrument);
-            add_to(cells, j, Contracts::of(o.remaining()));
-        }
+        let w = detail_in(orders, p);
+        add_to(cells, cell_of(w), Contracts::of(remaining_for(w, account)));
     }
 }
 

@@ -13,22 +13,22 @@ use Rattle.desk.proofs.run.answer_next.Tie as tie
 
 returns : tie.Need-returns
 returns c =
-    let start = c .before .before .before in
+    let start = c .before .before .before .before in
     let same = unsound-event _ _ (answered-no _ _ (start .pre .0) (c .if1 .taken)) in
     (same .0, (same .1, (start .pre .0, start .pre .1)))
 
 step-requires : tie.Need-step-requires
 step-requires c κs =
     let asked = c .before .before .before in
-    let pre = asked .before .before .before .pre in
+    let pre = asked .before .before .before .before .pre in
     (sound-out _ (answered-yes _ _ (pre .0) (asked .if1 .left)), pre .1 (not-false _ (asked .if1 .left)))
 
 returns-2 : tie.Need-returns-2
 returns-2 c =
-    let done = c .before .before .before in
+    let done = c .before .before .before .before .before in
     let decoded = done .before in
     let asked = decoded .before .before .before in
-    let known = asked .before .before in
+    let known = asked .before .before .before in
     let start = known .before in
     let same = sound-event _ _ (answered-yes _ _ (start .pre .0) (asked .if1 .left)) in
     let memory = (rw (decoded .decode .ensures) at (done .step .ensures .1 .0)) ∙ same .1 in
@@ -40,4 +40,5 @@ returns-2 c =
 
 pub answer-next-spec : {M : Type 1} → statement M
 answer-next-spec =
-    tie.close (tie.spec returns (λ c κs. search needs) step-requires (λ c κs. search needs) (λ c. search needs) returns-2)
+    tie.close (tie.spec returns (λ c κs. search needs) step-requires (λ c κs. search needs) (λ c. search needs) (λ c. search needs)
+    returns-2)

@@ -1,7 +1,7 @@
 -- Where the whole row is small, each position is in range whatever the orders (`row-small`), B and V being bounded; else the
 -- loop asks instrument by instrument, the first j being sound.
 use Prim.Native.Nat.{_-_, _≤_}
-use mathlib.Core.Path.{_≡_}
+use mathlib.Core.Path.{_≡_, sym}
 use mathlib.Core.Bool.{true}
 use native.Mathlib.Omega.{arith}
 use borrow.Author.Needs.{needs}
@@ -9,7 +9,7 @@ use Rattle.memory_layout.specs.Rosters.{every}
 use Rattle.memory_layout.specs.View.{rosterOf}
 use Rattle.memory_soundness.specs.Soundness.{instrumentSound, accountSound}
 use Rattle.memory_layout.proofs.Every.{every-none, every-no, every-on, every-all}
-use Rattle.memory_soundness.proofs.PositionTests.{row-small}
+use Rattle.memory_soundness.proofs.PositionTests.{cells-few, row-small}
 use Rattle.memory_soundness.proofs.balances.account_is_sound.Statement.{statement}
 use Rattle.memory_soundness.proofs.balances.account_is_sound.Tie as tie
 
@@ -28,7 +28,8 @@ returns : tie.Need-returns Inv-loop μ-loop
 unfolding accountSound
 returns c =
     let s = c .before .before .before in
-    row-small _ _ _ (s .pre .0) (s .pre .1) (s .pre .2) (rw (s .pre .3) at (c .before .balances-are-small .ensures (c .if1 .taken)))
+    let few = cells-few _ _ _ (s .pre .1) (s .pre .2 .0, omega (arith, s .pre .2, s .pre .0 .accounts)) in
+    sym (row-small _ _ (s .pre .0) few (s .pre .2) (rw (s .pre .3) at (c .before .balances-are-small .ensures (c .if1 .taken))))
 
 returns-2 : tie.Need-returns-2 Inv-loop μ-loop
 unfolding accountSound

@@ -2,44 +2,47 @@
 -- taken out; no other cell moves.
 use Prim.Native.Nat.{_+_, _*_, _-_, _≤_, _<_}
 use mathlib.Core.Path.{_≡_, _∙_}
+use mathlib.Core.Logic.{inl, inr, ⊎-elim}
 use native.Mathlib.Omega.{arith}
 use borrow.Author.Needs.{needs}
 use lib.ListN.{length, getD}
 use lib.IntN.{pos, _+ℤ_}
 use Rattle.integers.specs.Parts.{signed}
-use Rattle.memory_working.specs.SumsChanged.{cellOf}
+use Rattle.memory_working.specs.SumsChanged.{cellOf, Countable}
 use Rattle.memory_working.proofs.Keeping.{own-spot, own-inside, settled, kept}
 use Rattle.memory_working.proofs.sums.recount.Statement.{statement}
 use Rattle.memory_working.proofs.sums.recount.Tie as tie
 
+-- where cells are kept, the order's can take what counts
+countable : (c : tie.Else1) → let a = c .before .before .args in Countable (a .cells .now) (a .o) (a .before) (a .after)
+countable c = ⊎-elim (λ none. absurd (c .if1 .left none)) (λ can. can) (c .before .before .pre)
+
 -- the order's cell
-spot : (c : tie.After-cell) → let o = c .before .before .args .o in o .account * 64 + c .cell .result ≡ cellOf o
-spot c = own-spot (c .before .before .args .o) _ (c .cell .ensures)
+spot : (c : tie.After-cell) → let o = c .before .before .before .args .o in o .account * 64 + c .cell .result ≡ cellOf o
+spot c = own-spot (c .before .before .before .args .o) _ (c .cell .ensures)
 
-inside : (c : tie.After-cell) → let a = c .before .before .args in a .o .account * 64 + c .cell .result < length (a .cells .now)
-inside c =
-    let s = c .before .before in
-    rw (spot c) (own-inside (s .args .cells .now) (s .args .o) (s .pre))
+inside : (c : tie.After-cell) → let a = c .before .before .before .args in a .o .account * 64 + c .cell .result < length (a .cells .now)
+inside c = rw (spot c) (own-inside _ (c .before .before .before .args .o) (countable (c .before)))
 
-small : (c : tie.After-cell) → let a = c .before .before .args in
+small : (c : tie.After-cell) → let a = c .before .before .before .args in
     getD (a .cells .now) (a .o .account * 64 + c .cell .result) 0 + a .after ≤ 257000000
-small c = let pre = c .before .before .pre in rw (spot c) (omega (arith, pre .small, pre .added))
+small c = let can = countable (c .before) in rw (spot c) (omega (arith, can .small, can .added))
 
-enough : (c : tie.After-cell) → let a = c .before .before .args in
+enough : (c : tie.After-cell) → let a = c .before .before .before .args in
     a .before ≤ getD (a .cells .now) (a .o .account * 64 + c .cell .result) 0 + a .after
-enough c = rw (spot c) (c .before .before .pre .enough)
+enough c = rw (spot c) (countable (c .before) .enough)
 
 -- the cell with what counts after, in contracts
 raised : (c : tie.After-plus) →
     let placed = c .before .before .before .before in
-    let a = placed .before .before .args in
+    let a = placed .before .before .before .args in
     c .plus .result .0 ≡ pos (getD (a .cells .now) (a .o .account * 64 + placed .cell .result) 0) +ℤ pos (a .after)
 raised c = c .plus .ensures ∙ rw (c .before .before .of .ensures, c .before .of2 .ensures)
 
 -- and without what counted before
 settled-at : (c : tie.After-less) →
     let placed = c .before .before .before .before .before .before in
-    let a = placed .before .before .args in
+    let a = placed .before .before .before .args in
     c .less .result .0 ≡ pos (getD (a .cells .now) (a .o .account * 64 + placed .cell .result) 0 + a .after - a .before)
 settled-at c =
     let placed = c .before .before .before .before .before .before in
@@ -57,21 +60,22 @@ number-requires : tie.Need-number-requires
 number-requires c κs =
     rw (settled-at c) (omega signed, omega (arith, small (c .before .before .before .before .before .before)))
 
-returns : tie.Need-returns
-returns c orders orders′ held changes =
+returns-2 : tie.Need-returns-2
+returns-2 c orders orders′ held changes =
     let less = c .before in
     let placed = less .before .before .before .before .before .before in
-    rw (c .number .ensures, settled-at less) (kept _ _ _ held _ _ _ changes _ (spot placed))
+    let sums = ⊎-elim (λ none. absurd (placed .before .if1 .left none)) (λ all. all) held in
+    inr (rw (c .number .ensures, settled-at less) (kept _ _ _ sums _ _ _ changes _ (spot placed)))
 
 pub recount-spec : {M : Type 1} → statement M
 recount-spec =
-    tie.close (tie.spec (λ c. omega (arith, c .before .pre .account .1)) (λ c κs. c .before .pre .instrument .1)
-    (λ c. omega (arith, inside c, c .before .before .pre .size)) (λ c. omega (arith, inside c, c .before .before .pre .size))
-    (λ c. inside (c .before)) (λ c κs. omega (arith, small (c .before)))
-    (λ c κs. omega (arith, c .before .before .before .before .pre .added))
+    tie.close (tie.spec (λ c orders orders′ held changes. inl (c .if1 .taken)) (λ c. omega (arith, countable c .account .1))
+    (λ c κs. countable c .instrument .1) (λ c. omega (arith, inside c, countable (c .before) .size))
+    (λ c. omega (arith, inside c, countable (c .before) .size)) (λ c. inside (c .before)) (λ c κs. omega (arith, small (c .before)))
+    (λ c κs. omega (arith, countable (c .before .before .before) .added))
     plus-requires (λ c κs. omega (arith, small (c .before .before .before .before), enough (c .before .before .before .before)))
     less-requires number-requires
     (λ c.
     let placed = c .before .before .before .before .before .before .before in
-    omega (arith, inside placed, placed .before .before .pre .size))
-    (λ c. inside (c .before .before .before .before .before .before .before)) (λ c. search needs) returns)
+    omega (arith, inside placed, countable (placed .before) .size))
+    (λ c. inside (c .before .before .before .before .before .before .before)) (λ c. search needs) returns-2)
