@@ -1,15 +1,16 @@
 -- What the order of an id and a detail says, and details joined bit by bit: each figure is at most that of the whole.
-use Prim.Native.Nat.{ℕ, _+_, _/_, _%_, _≤_, _<_, _^_}
+use Prim.Native.Nat.{ℕ, _+_, _*_, _-_, _/_, _%_, _≤_, _<_, _^_}
 use mathlib.Core.Path.{_≡_, refl, ap, _∙_}
 use mathlib.Core.List.{List}
+use native.Mathlib.Nat.{div-div-eq-div-mul}
 use native.Mathlib.Omega.{arith}
 use lib.Bits.{bitOr, or-comm, or-shr, or-mod}
 use Rattle.words.proofs.Bits.{or-left}
 use Rattle.ledger.specs.declared.order.Order.{Order}
 use Rattle.ledger.specs.Orders.{remaining}
-use Rattle.ledger.specs.Records.{packed, packedAccount, packedInstrument, Packable, detailPacked, detailFilled, detailRemaining}
-use Rattle.ledger.specs.Records.{Within, orderOf, idAt, detailAt, orderAt}
-use Rattle.ledger.proofs.Packing.{packed-again}
+use Rattle.ledger.specs.Records.{packed, packedSide, packedAccount, packedInstrument, Packable, detail, detailPacked, detailFilled}
+use Rattle.ledger.specs.Records.{detailRemaining, Within, orderOf, idAt, detailAt, orderAt}
+use Rattle.ledger.proofs.Packing.{packed-again, detail-back}
 
 -- ---- the order of an id and a detail
 module _ (id w : ℕ) where
@@ -32,6 +33,27 @@ module _ (id w : ℕ) where
 
 pub remaining-below : (w : ℕ) → w < 2 ^ 64 → detailRemaining w < 134217728
 remaining-below w h = omega arith
+
+-- the bits below what remains
+pub below-remaining : (w : ℕ) → w % 137438953472 ≡ w % 1024 + detailFilled w * 1024
+below-remaining w = omega (arith, div-div-eq-div-mul w 1024 134217728)
+
+-- the order that a word says, at another total t and with f filled, is said by a word too
+pub moved : (id w v f t : ℕ) → f ≤ t → f < 134217728 → t - f < 134217728 → v ≡ w % 1024 + f * 1024 + (t - f) * 137438953472
+    → orderOf id v
+    ≡ record { id = id; account = packedAccount w; instrument = packedInstrument w; side = packedSide w; total = t; filled = f }
+unfolding orderOf detail remaining
+moved id w v f t part filled rest is =
+    let o : Order = record {
+      id = id;
+      account = packedAccount w;
+      instrument = packedInstrument w;
+      side = packedSide w;
+      total = t;
+      filled = f;
+    } in
+    rw (is, ← packed-again w)
+    (detail-back o (record { packable = packable-of id w; part = part; filled = filled; remaining = rest }))
 
 -- ---- a record
 module _ (s : List ℕ) (p : ℕ) where

@@ -3,30 +3,30 @@ use native.Mathlib.Omega.{arith}
 use borrow.Author.Needs.{needs}
 use Rattle.ledger.specs.Orders.{remaining}
 use Rattle.ledger.specs.Records.{detail}
-use Rattle.ledger.proofs.Packing.{packed-below, detail-below}
-use Rattle.ledger.proofs.records.detail.Statement.{statement}
-use Rattle.ledger.proofs.records.detail.Tie as tie
+use Rattle.ledger.proofs.Packing.{packed-below, detail-below, detail-back}
+use Rattle.ledger.proofs.detail.Detail.of.Statement.{statement}
+use Rattle.ledger.proofs.detail.Detail.of.Tie as tie
 
-add-result : tie.Need-add-result
-add-result c =
+add-t5 : tie.Need-add-t5
+add-t5 c =
     let start = c .before .before in
     let o = start .args .o in
     omega (arith, c .before .pack .ensures, packed-below (o .account) (o .instrument) (start .pre .packable) (o .side))
 
-mul-result-2 : tie.Need-mul-result-2
+mul-t7 : tie.Need-mul-t7
 unfolding remaining
-mul-result-2 c = omega arith
+mul-t7 c = omega arith
 
-add-result-2 : tie.Need-add-result-2
+add-t8 : tie.Need-add-t8
 unfolding detail remaining
-add-result-2 c =
+add-t8 c =
     let start = c .before .before .before in
     omega (arith, c .before .before .pack .ensures, detail-below (start .args .o) (start .pre))
 
 returns : tie.Need-returns
 unfolding detail remaining
-returns c = cc
+returns c = let start = c .before .before .before in rw (c .before .before .pack .ensures) (detail-back (start .args .o) (start .pre))
 
-pub detail-spec : {M : Type 1} → statement M
-detail-spec =
-    tie.close (tie.spec (λ c κs. search needs) (λ c. search needs) add-result (λ c. search needs) mul-result-2 add-result-2 returns)
+pub of-spec : {M : Type 1} → statement M
+of-spec =
+    tie.close (tie.spec (λ c κs. search needs) (λ c. search needs) add-t5 (λ c. search needs) mul-t7 add-t8 returns)
