@@ -38,22 +38,17 @@ remaining-below w h = omega arith
 pub below-remaining : (w : ℕ) → w % 137438953472 ≡ w % 1024 + detailFilled w * 1024
 below-remaining w = omega (arith, div-div-eq-div-mul w 1024 134217728)
 
--- the order that a word says, at another total t and with f filled, is said by a word too
+-- the order that a word says, at another total t and with f filled, and the word that says it
+abbrev at : ℕ → ℕ → ℕ → ℕ → Order
+at id w t f =
+    record { id = id; account = packedAccount w; instrument = packedInstrument w; side = packedSide w; total = t; filled = f }
+
 pub moved : (id w v f t : ℕ) → f ≤ t → f < 134217728 → t - f < 134217728 → v ≡ w % 1024 + f * 1024 + (t - f) * 137438953472
-    → orderOf id v
-    ≡ record { id = id; account = packedAccount w; instrument = packedInstrument w; side = packedSide w; total = t; filled = f }
+    → orderOf id v ≡ at id w t f
 unfolding orderOf detail remaining
 moved id w v f t part filled rest is =
-    let o : Order = record {
-      id = id;
-      account = packedAccount w;
-      instrument = packedInstrument w;
-      side = packedSide w;
-      total = t;
-      filled = f;
-    } in
     rw (is, ← packed-again w)
-    (detail-back o (record { packable = packable-of id w; part = part; filled = filled; remaining = rest }))
+    (detail-back (at id w t f) (record { packable = packable-of id w; part = part; filled = filled; remaining = rest }))
 
 -- ---- a record
 module _ (s : List ℕ) (p : ℕ) where

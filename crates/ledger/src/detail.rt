@@ -19,33 +19,26 @@ impl Detail {
         ensures { λ r. ⌜ orderOf (o .id) (r .0) ≡ o ⌝ }
     {
         let side = o.side;
-        Detail(pack(side, o.account, o.instrument) + o.filled * 1024 + (o.total - o.filled) * 137438953472)
+        Detail(
+            pack(side, o.account, o.instrument)
+                + o.filled * 1024
+                + (o.total - o.filled) * 137438953472,
+        )
     }
 
     // The order with that id.
     pub fn order(self, id: u64) -> Order
         ensures { λ r. ⌜ r ≡ orderOf id (self .0) ⌝ }
     {
+        let filled = filled_of(self.0);
         Order {
             id,
             account: account_of(self.0),
             instrument: instrument_of(self.0),
             side: packed_side(self.0),
-            total: self.total(),
-            filled: filled_of(self.0),
+            total: filled + remaining_of(self.0),
+            filled,
         }
-    }
-
-    pub fn filled(self) -> u64
-        ensures { λ r. ⌜ ((id : ℕ) → r ≡ orderOf id (self .0) .filled) ⌝ }
-    {
-        filled_of(self.0)
-    }
-
-    pub fn total(self) -> u64
-        ensures { λ r. ⌜ ((id : ℕ) → r ≡ orderOf id (self .0) .total) ⌝ }
-    {
-        filled_of(self.0) + remaining_of(self.0)
     }
 
     pub fn remaining(self) -> u64

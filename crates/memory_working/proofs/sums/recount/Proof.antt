@@ -1,46 +1,44 @@
 -- The order's cell holds B or V, which is small and at least what counted of the order: what counts then is put in and what counted
 -- taken out; no other cell moves.
-use Prim.Native.Nat.{_+_, _*_, _-_, _≤_, _<_}
-use mathlib.Core.Path.{_≡_, _∙_}
+use Prim.Native.Nat.{ℕ, _+_, _-_, _≤_, _<_}
+use mathlib.Core.Path.{_≡_, _∙_, ap}
 use native.Mathlib.Omega.{arith}
 use borrow.Author.Needs.{needs}
 use lib.ListN.{length, getD}
 use lib.IntN.{pos, _+ℤ_}
 use Rattle.integers.specs.Parts.{signed}
 use Rattle.memory_working.specs.SumsChanged.{cellOf}
-use Rattle.memory_working.proofs.Keeping.{own-spot, own-inside, settled, kept}
+use Rattle.memory_working.proofs.Keeping.{settled, kept}
 use Rattle.memory_working.proofs.sums.recount.Statement.{statement}
 use Rattle.memory_working.proofs.sums.recount.Tie as tie
 
 -- the order's cell
-spot : (c : tie.After-cell) → let o = c .before .before .args .o in o .account * 64 + c .cell .result ≡ cellOf o
-spot c = own-spot (c .before .before .args .o) _ (c .cell .ensures)
+spot : (c : tie.After-packed-of) → 65 + c .packed-of .result ≡ cellOf (c .before .before .args .w .0)
+spot c = ap (λ (j : ℕ). 65 + j) (c .packed-of .ensures)
 
-inside : (c : tie.After-cell) → let a = c .before .before .args in a .o .account * 64 + c .cell .result < length (a .cells .now)
-inside c =
-    let s = c .before .before in
-    rw (spot c) (own-inside (s .args .cells .now) (s .args .o) (s .pre))
+inside : (c : tie.After-packed-of) → 65 + c .packed-of .result < length (c .before .before .args .cells .now)
+inside c = omega (arith, c .packed-of .ensures, c .before .before .pre .size)
 
-small : (c : tie.After-cell) → let a = c .before .before .args in
-    getD (a .cells .now) (a .o .account * 64 + c .cell .result) 0 + a .after ≤ 257000000
+small : (c : tie.After-packed-of) → let a = c .before .before .args in
+    getD (a .cells .now) (65 + c .packed-of .result) 0 + a .after ≤ 257000000
 small c = let pre = c .before .before .pre in rw (spot c) (omega (arith, pre .small, pre .added))
 
-enough : (c : tie.After-cell) → let a = c .before .before .args in
-    a .before ≤ getD (a .cells .now) (a .o .account * 64 + c .cell .result) 0 + a .after
+enough : (c : tie.After-packed-of) → let a = c .before .before .args in
+    a .before ≤ getD (a .cells .now) (65 + c .packed-of .result) 0 + a .after
 enough c = rw (spot c) (c .before .before .pre .enough)
 
 -- the cell with what counts after, in contracts
 raised : (c : tie.After-plus) →
     let placed = c .before .before .before .before in
     let a = placed .before .before .args in
-    c .plus .result .0 ≡ pos (getD (a .cells .now) (a .o .account * 64 + placed .cell .result) 0) +ℤ pos (a .after)
+    c .plus .result .0 ≡ pos (getD (a .cells .now) (65 + placed .packed-of .result) 0) +ℤ pos (a .after)
 raised c = c .plus .ensures ∙ rw (c .before .before .of .ensures, c .before .of2 .ensures)
 
 -- and without what counted before
 settled-at : (c : tie.After-less) →
     let placed = c .before .before .before .before .before .before in
     let a = placed .before .before .args in
-    c .less .result .0 ≡ pos (getD (a .cells .now) (a .o .account * 64 + placed .cell .result) 0 + a .after - a .before)
+    c .less .result .0 ≡ pos (getD (a .cells .now) (65 + placed .packed-of .result) 0 + a .after - a .before)
 settled-at c =
     let placed = c .before .before .before .before .before .before in
     settled _ _ _ (enough placed) _ _ (raised (c .before .before)) (c .less .ensures ∙ rw (c .before .of3 .ensures))
@@ -58,16 +56,15 @@ number-requires c κs =
     rw (settled-at c) (omega signed, omega (arith, small (c .before .before .before .before .before .before)))
 
 returns : tie.Need-returns
-returns c orders orders′ held changes =
+returns c id orders orders′ held changes =
     let less = c .before in
     let placed = less .before .before .before .before .before .before in
-    rw (c .number .ensures, settled-at less) (kept _ _ _ held _ _ _ changes _ (spot placed))
+    rw (c .number .ensures, settled-at less) (kept _ _ _ held id _ _ _ changes _ (spot placed))
 
 pub recount-spec : {M : Type 1} → statement M
 recount-spec =
-    tie.close (tie.spec (λ c. omega (arith, c .before .pre .account .1)) (λ c κs. c .before .pre .instrument .1)
-    (λ c. omega (arith, inside c, c .before .before .pre .size)) (λ c. omega (arith, inside c, c .before .before .pre .size))
-    (λ c. inside (c .before)) (λ c κs. omega (arith, small (c .before)))
+    tie.close (tie.spec (λ c κs. search needs) (λ c. omega (arith, inside c, c .before .before .pre .size))
+    (λ c. omega (arith, inside c, c .before .before .pre .size)) (λ c. inside (c .before)) (λ c κs. omega (arith, small (c .before)))
     (λ c κs. omega (arith, c .before .before .before .before .pre .added))
     plus-requires (λ c κs. omega (arith, small (c .before .before .before .before), enough (c .before .before .before .before)))
     less-requires number-requires
