@@ -1,4 +1,4 @@
-// One event on a sound desk: judged, and worked where it is accepted, with the order that the judge hands on.
+// One event on a sound desk: judged, and worked where it is accepted, with the detail that the judge hands on.
 ghost use mathlib.Core.Path.{_≡_};
 ghost use Rattle.limits.specs.Answers.{numberOf};
 ghost use Rattle.memory_layout.specs.View.{openOrders};
@@ -20,10 +20,10 @@ pub fn step(m: &mut [u8], cells: &mut [u64], e: Event) -> Answer
 {
     let verdict = judge(m, cells, e);
     let answer = verdict.answer;
-    let order = verdict.order;
+    let w = verdict.detail;
     match answer {
         Answer::Accepted => {
-            work(m, cells, e, verdict.place, order);
+            work(m, cells, e, verdict.place, w);
             Answer::Accepted
         }
         no => no,

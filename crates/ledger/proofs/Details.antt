@@ -4,6 +4,7 @@ use mathlib.Core.Path.{_≡_, refl, ap, _∙_}
 use mathlib.Core.Bool.{Bool, true, false, cond}
 use mathlib.Core.List.{List}
 use native.Mathlib.Decide.{ℕ-discrete}
+use native.Mathlib.Nat.{div-div-eq-div-mul}
 use native.Mathlib.Omega.{arith}
 use borrow.Author.Tests.{eq-eqb, ne-eqb}
 use lib.Dec.{eqb}
@@ -12,9 +13,9 @@ use Rattle.words.proofs.Bits.{or-left}
 use Rattle.ledger.specs.declared.order.Order.{Order}
 use Rattle.ledger.specs.Orders.{remaining}
 use Rattle.ledger.specs.Roster.{Numbered}
-use Rattle.ledger.specs.Records.{packed, packedAccount, packedInstrument, Packable, detailPacked, detailFilled, detailRemaining}
-use Rattle.ledger.specs.Records.{Within, orderOf, idAt, detailAt, orderAt}
-use Rattle.ledger.proofs.Packing.{packed-again}
+use Rattle.ledger.specs.Records.{packed, packedSide, packedAccount, packedInstrument, Packable, detail, detailPacked, detailFilled}
+use Rattle.ledger.specs.Records.{detailRemaining, Within, orderOf, idAt, detailAt, orderAt}
+use Rattle.ledger.proofs.Packing.{packed-again, detail-back}
 
 -- ---- the order of an id and a detail
 module _ (id w : ℕ) where
@@ -60,6 +61,22 @@ module _ (w a : ℕ) (on : Numbered 16 a) (r : ℕ) where
       by : (t : Bool) → cond t r 0 ≤ r
       by true = omega arith
       by false = omega arith
+
+-- the bits below what remains
+pub below-remaining : (w : ℕ) → w % 137438953472 ≡ w % 1024 + detailFilled w * 1024
+below-remaining w = omega (arith, div-div-eq-div-mul w 1024 134217728)
+
+-- the order that a word says, at another total t and with f filled, and the word that says it
+abbrev at : ℕ → ℕ → ℕ → ℕ → Order
+at id w t f =
+    record { id = id; account = packedAccount w; instrument = packedInstrument w; side = packedSide w; total = t; filled = f }
+
+pub moved : (id w v f t : ℕ) → f ≤ t → f < 134217728 → t - f < 134217728 → v ≡ w % 1024 + f * 1024 + (t - f) * 137438953472
+    → orderOf id v ≡ at id w t f
+unfolding orderOf detail remaining
+moved id w v f t part filled rest is =
+    rw (is, ← packed-again w)
+    (detail-back (at id w t f) (record { packable = packable-of id w; part = part; filled = filled; remaining = rest }))
 
 -- ---- a record
 module _ (s : List ℕ) (p : ℕ) where

@@ -5,8 +5,9 @@ ghost use Prim.Native.Nat.{ℕ, _+_, _*_, _≤_};
 ghost use lib.Dec.{eqb};
 ghost use lib.ListN.{length};
 ghost use Rattle.ledger.specs.Roster.{Numbered};
-ghost use Rattle.ledger.specs.Records.{sideOf, packed, Packable, packedSide, packedAccount, packedInstrument, detail, detailPacked};
-ghost use Rattle.ledger.specs.Records.{detailFilled, detailRemaining, Storable, Within, orderOf, idAt, detailAt, orderAt};
+ghost use Rattle.ledger.specs.Records.{sideOf, packed, Packable, packedSide, packedAccount, packedInstrument, detailPacked};
+ghost use Rattle.ledger.specs.Records.{detailFilled, detailRemaining, Within, orderOf, idAt, detailAt, orderAt};
+use crate::detail::Detail;
 use crate::order::Order;
 use crate::order::Side;
 use words::word;
@@ -29,15 +30,6 @@ pub fn pack(side: Side, account: u64, instrument: u64) -> u64
     }
 }
 
-// All of an order but its id, as one word.
-pub fn detail(o: Order) -> u64
-    requires { ⌜ Storable o ⌝ }
-    ensures { λ r. ⌜ r ≡ detail o ⌝ }
-{
-    let side = o.side;
-    pack(side, o.account, o.instrument) + o.filled * 1024 + (o.total - o.filled) * 137438953472
-}
-
 // What a detail says: side, account and instrument as one number, then each of them.
 pub fn packed_of(w: u64) -> u64
     ensures { λ r. ⌜ r ≡ detailPacked w ⌝ }
@@ -45,7 +37,7 @@ pub fn packed_of(w: u64) -> u64
     w % 1024
 }
 
-fn packed_side(w: u64) -> Side
+pub fn packed_side(w: u64) -> Side
     ensures { λ r. ⌜ r ≡ packedSide w ⌝ }
 {
     if w / 32 % 2 == 0 {
@@ -116,14 +108,5 @@ pub fn load(orders: &[u8], p: usize) -> Order
     requires { ⌜ p * 16 + 16 ≤ length (now orders) ⌝ }
     ensures { λ r. ⌜ r ≡ orderAt (now (orders .entry)) p ⌝ }
 {
-    let w = detail_in(orders, p);
-    let filled = filled_of(w);
-    Order {
-        id: id_in(orders, p),
-        account: account_of(w),
-        instrument: instrument_of(w),
-        side: packed_side(w),
-        total: filled + remaining_of(w),
-        filled,
-    }
+    Detail(detail_in(orders, p)).order(id_in(orders, p))
 }

@@ -1,6 +1,6 @@
 -- The order that an id names: where the search finds it in the memory, and how the book finds it.
-use Prim.Native.Nat.{ℕ, zero, suc, _+_, _-_, _≤_, _<_}
-use mathlib.Core.Path.{_≡_, refl, sym, subst}
+use Prim.Native.Nat.{ℕ, _+_, _-_, _≤_, _<_}
+use mathlib.Core.Path.{_≡_, refl}
 use mathlib.Core.Bool.{Bool, true, false, cond}
 use mathlib.Core.List.{List, [], _∷_}
 use mathlib.Core.Option.{none, some}
@@ -8,36 +8,21 @@ use native.Mathlib.Decide.{ℕ-discrete}
 use native.Mathlib.Omega.{arith}
 use borrow.Author.Tests.{eq-eqb, ne-eqb}
 use lib.Dec.{eqb}
-use Rattle.words.specs.Words.{wordAt}
 use Rattle.ledger.specs.declared.order.Order.{Order}
 use Rattle.ledger.specs.declared.find.Found.the-variants.{At, Nothing}
 use Rattle.ledger.specs.Orders.{placeFrom}
-use Rattle.ledger.specs.Records.{orderAt, ordersFrom}
-use Rattle.ledger.proofs.Search.{found-place}
 use Rattle.limits.specs.Lines.{isSet}
 use Rattle.book.specs.OpenOrders.{find}
 use Rattle.book.specs.Sound.{Ascending}
-use Rattle.book.proofs.Cuts.{standing}
-use Rattle.memory_layout.specs.Layout.{countWord}
-use Rattle.memory_layout.specs.View.{recordsOf, openOrders, bookOf}
+use Rattle.memory_layout.specs.View.{openOrders, bookOf}
 use Rattle.memory_layout.specs.Stores.{orderIn, rank, Ranked}
 use Rattle.memory_layout.proofs.Lengths.{rank-open}
+use Rattle.memory_layout.proofs.ViewOrders.{found-order, found-below}
 use Rattle.memory_layout.proofs.Ranking.{found-before, found-none}
 use Rattle.memory_soundness.specs.SoundMemory.{SoundMemory}
 use Rattle.memory_soundness.proofs.SoundDesk.{sound-records, sound-count}
 
 module _ (id : ℕ) where
-  from-place : (s : List ℕ) (n q p : ℕ) → placeFrom q id (ordersFrom s q n) ≡ At p → find id (ordersFrom s q n) ≡ some (orderAt s p)
-  unfolding placeFrom find ordersFrom
-  from-place s zero q p e = let z : _≡_ {A = ℕ} 0 1 = cc in absurd (omega arith)
-  from-place s (suc n) q p e = by (eqb (orderAt s q .id) id) e (from-place s n (q + 1) p)
-    where
-      by : (t : Bool) → cond t (At q) (placeFrom (q + 1) id (ordersFrom s (q + 1) n)) ≡ At p
-          → (placeFrom (q + 1) id (ordersFrom s (q + 1) n) ≡ At p → find id (ordersFrom s (q + 1) n) ≡ some (orderAt s p))
-          → cond t (some (orderAt s q)) (find id (ordersFrom s (q + 1) n)) ≡ some (orderAt s p)
-      by true d later = let same : q ≡ p = cc in rw same
-      by false d later = later d
-
   from-nowhere : (q : ℕ) (os : List Order) → placeFrom q id os ≡ Nothing → find id os ≡ none
   unfolding placeFrom find
   from-nowhere q [] e = refl
@@ -62,22 +47,8 @@ module _ (m : List ℕ) (held : SoundMemory m) where
   rank-small id p is = omega (arith, rank-open m id, sound-count m held)
 
 module _ (m : List ℕ) (id : ℕ) where
-  pub found-order : (p : ℕ) → placeFrom 0 id (openOrders m) ≡ At p → find id (openOrders m) ≡ some (orderIn m p)
-  unfolding openOrders
-  found-order p e = from-place id (recordsOf m) (wordAt m countWord) 0 p e
-
-  -- its own id is that id
-  pub order-named : (p : ℕ) → placeFrom 0 id (openOrders m) ≡ At p → find (orderIn m p .id) (openOrders m) ≡ some (orderIn m p)
-  order-named p e =
-      let found = found-order p e in
-      subst (λ (n : ℕ). find n (openOrders m) ≡ some (orderIn m p)) (sym (standing id (openOrders m) (orderIn m p) found .named)) found
-
-  place-below : (p : ℕ) → placeFrom 0 id (openOrders m) ≡ At p → p < wordAt m countWord
-  unfolding openOrders
-  place-below p e = found-place (recordsOf m) id (wordAt m countWord) p e .0
-
   pub place-small : SoundMemory m → (p : ℕ) → placeFrom 0 id (openOrders m) ≡ At p → p < 256
-  place-small h p e = omega (arith, place-below p e, sound-count m h)
+  place-small h p e = omega (arith, found-below m id p e, sound-count m h)
 
   pub no-order : placeFrom 0 id (openOrders m) ≡ Nothing → find id (openOrders m) ≡ none
   no-order e = from-nowhere id 0 (openOrders m) e

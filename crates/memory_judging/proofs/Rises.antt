@@ -5,14 +5,16 @@ use mathlib.Core.List.{List, [], _∷_}
 use native.Mathlib.Omega.{arith}
 use Rattle.ledger.specs.declared.order.Order.{Order}
 use Rattle.ledger.specs.Orders.{remaining, replacedTotal}
+use Rattle.ledger.specs.Records.{Storable}
 use Rattle.limits.specs.Raised.{Raised}
 use Rattle.limits.proofs.Raising.{raised-by-new, raised-by-replace}
 use Rattle.book.specs.OpenOrders.{insert, change}
 use Rattle.book.specs.Sound.{OrderFits}
 use Rattle.book.proofs.Cuts.{insert-sums, standing, standing-member, change-sums}
 use Rattle.memory_layout.specs.View.{rosterOf, openOrders, bookOf}
+use Rattle.memory_soundness.proofs.Bounded.{storable}
 use Rattle.memory_judging.specs.OrderQuestions.{OnRoster}
-use Rattle.memory_judging.specs.QuestionsLeft.{Replaceable}
+use Rattle.memory_judging.specs.QuestionsLeft.{Fresh, Replaceable}
 
 -- nothing of the order is filled: all of it is added
 pub entered-raises : (o : Order) (os : List Order) → o .filled ≡ 0 → Raised (o .total) o os (insert o os)
@@ -20,6 +22,10 @@ unfolding remaining
 entered-raises o os e =
     let whole : o .total - o .filled ≡ o .total = omega arith in
     rw whole at (raised-by-new o os (insert o os) (insert-sums o os))
+
+-- and a record can hold it
+pub fresh-storable : (m : List ℕ) (o : Order) → Fresh m o → Storable o
+fresh-storable m o f = storable m (f .on .held) o (f .on .account) (f .on .instrument) (omega (arith, f .unfilled)) (f .small)
 
 module _ (m : List ℕ) (o : Order) (total : ℕ) (r : Replaceable m o total) where
   open-fits : OrderFits (rosterOf m) o

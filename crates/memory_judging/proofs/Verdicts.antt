@@ -3,7 +3,6 @@ use Prim.Native.Nat.{ℕ, _≤_}
 use mathlib.Core.Path.{_≡_, sym, ap, subst, _∙_}
 use mathlib.Core.List.{List}
 use native.Mathlib.Omega.{arith}
-use Rattle.ledger.specs.declared.order.Order.{Order}
 use Rattle.limits.specs.declared.answer.Answer.{Answer}
 use Rattle.book.specs.declared.Event.{Event}
 use Rattle.limits.specs.Answers.{numberOf}
@@ -11,7 +10,7 @@ use Rattle.memory_layout.specs.Judged.{judged, NamedAt}
 use Rattle.memory_judging.specs.declared.Verdict.{Verdict}
 
 abbrev pub Says : List ℕ → Event → Verdict → Type 0
-Says m e v = (numberOf (v .answer) ≡ judged m e) × (judged m e ≡ 0 → NamedAt m e (v .place) (v .order))
+Says m e v = (numberOf (v .answer) ≡ judged m e) × (judged m e ≡ 0 → NamedAt m e (v .place) (v .detail .0))
 
 -- of a refusal the place says nothing
 pub refused : {P : Type 0} {b : Answer} (a : Answer) {n : ℕ} → b ≡ a → n ≡ numberOf a → 1 ≤ numberOf a → (numberOf b ≡ n) × (n ≡ 0 → P)
@@ -23,5 +22,5 @@ module _ (m : List ℕ) (e f : Event) (same : e ≡ f) (v : Verdict) where
   says-same s = subst (λ (x : Event). Says m x v) (sym same) s
 
   -- it names no order
-  pub says-plain : (a : Answer) → v .answer ≡ a → numberOf a ≡ judged m f → ((p : ℕ) (o : Order) → NamedAt m f p o) → Says m e v
-  says-plain a is n unnamed = says-same (ap numberOf is ∙ n, λ z. unnamed (v .place) (v .order))
+  pub says-plain : (a : Answer) → v .answer ≡ a → numberOf a ≡ judged m f → ((p w : ℕ) → NamedAt m f p w) → Says m e v
+  says-plain a is n unnamed = says-same (ap numberOf is ∙ n, λ z. unnamed (v .place) (v .detail .0))

@@ -1,9 +1,10 @@
 // The judge of REPLACE, CANCEL and FILL. The cells hold B and V of all accounts.
 ghost use mathlib.Core.Path.{_≡_};
 ghost use mathlib.Core.Bool.{cond};
-ghost use Prim.Native.Nat.{_<_};
+ghost use Prim.Native.Nat.{ℕ, _<_};
 ghost use lib.Dec.{leb};
 ghost use Rattle.ledger.specs.Orders.{remaining};
+ghost use Rattle.ledger.specs.Records.{orderOf};
 ghost use Rattle.limits.specs.Questions.{firstNo};
 ghost use Rattle.limits.specs.Answers.{numberOf};
 ghost use Rattle.book.specs.declared.Event.the-variants.{Change};
@@ -19,10 +20,11 @@ use crate::order_checks::within_limits;
 use crate::plain;
 use crate::ranges::change_in_range;
 use book::OrderChange;
+use ledger::detail::Detail;
 use ledger::find::Found;
 use ledger::order::Order;
 use limits::answer::Answer;
-use memory_layout::orders::load_order;
+use memory_layout::orders::detail_at;
 use memory_layout::search::find_order;
 
 // 14 to 24 of a REPLACE that raises order `o` to `total`.
@@ -53,46 +55,46 @@ fn replaced(m: &[u8], cells: &[u64], o: Order, total: u64) -> Answer
     raised(m, cells, o, total)
 }
 
-// 12 of a FILL of order `o`.
-fn filled(o: Order, quantity: u64) -> Answer
-    ensures { λ r. ⌜ numberOf r ≡ cond (leb quantity (remaining o)) 0 12 ⌝ }
+// 12 of a FILL of the order of a detail.
+fn filled(w: Detail, quantity: u64) -> Answer
+    ensures { λ r. ⌜ ((id : ℕ) → numberOf r ≡ cond (leb quantity (remaining (orderOf id (w .0)))) 0 12) ⌝ }
 {
-    if quantity <= o.remaining() {
+    if quantity <= w.remaining() {
         Answer::Accepted
     } else {
         Answer::QuantityOutOfRange
     }
 }
 
-// 12 to 24 of a change of order `o`.
-fn change_answer(m: &[u8], cells: &[u64], o: Order, change: OrderChange) -> Answer
-    requires { ⌜ Changeable (now m) o change × Sums (now cells) (openOrders (now m)) ⌝ }
-    ensures { λ r. ⌜ numberOf r ≡ firstNo (changeFrom12 (now (m .entry)) o change) ⌝ }
+// 12 to 24 of a change of the order of that id and detail.
+fn change_answer(m: &[u8], cells: &[u64], id: u64, w: Detail, change: OrderChange) -> Answer
+    requires { ⌜ Changeable (now m) (orderOf id (w .0)) change × Sums (now cells) (openOrders (now m)) ⌝ }
+    ensures { λ r. ⌜ numberOf r ≡ firstNo (changeFrom12 (now (m .entry)) (orderOf id (w .0)) change) ⌝ }
 {
     match change {
-        OrderChange::Replace { total } => replaced(m, cells, o, total as u64),
+        OrderChange::Replace { total } => replaced(m, cells, w.order(id), total as u64),
         OrderChange::Cancel => Answer::Accepted,
-        OrderChange::Fill { quantity } => filled(o, quantity as u64),
+        OrderChange::Fill { quantity } => filled(w, quantity as u64),
     }
 }
 
-// REPLACE, CANCEL and FILL: questions 9, 11, 12 and, of a REPLACE that raises, 14 to 24. The order is found and loaded once.
+// REPLACE, CANCEL and FILL: questions 9, 11, 12 and, of a REPLACE that raises, 14 to 24. The order is found and its detail loaded once.
 pub fn judge_change(m: &[u8], cells: &[u64], id: u64, change: OrderChange) -> Verdict
     requires { ⌜ SoundMemory (now m) × Sums (now cells) (openOrders (now m)) ⌝ }
     ensures answer { λ r. ⌜ numberOf (r .answer) ≡ judged (now (m .entry)) (Change id change) ⌝ }
     ensures named { λ r. ⌜ (judged (now (m .entry)) (Change id change) ≡ 0
-        → NamedAt (now (m .entry)) (Change id change) (r .place) (r .order)) ⌝ }
+        → NamedAt (now (m .entry)) (Change id change) (r .place) (r .detail .0)) ⌝ }
 {
     if !change_in_range(change) {
         return plain(Answer::FigureOutOfRange);
     }
     match find_order(m, id) {
         Found::At(p) => {
-            let o = load_order(m, p);
+            let w = detail_at(m, p);
             Verdict {
-                answer: change_answer(m, cells, o, change),
+                answer: change_answer(m, cells, id, w, change),
                 place: p,
-                order: o,
+                detail: w,
             }
         }
         Found::Nothing => plain(Answer::OrderNotFound),

@@ -20,6 +20,7 @@ use crate::order_checks::underlying_of;
 use crate::order_checks::within_limits;
 use crate::plain;
 use crate::ranges::is_quantity;
+use ledger::detail::Detail;
 use ledger::order::Order;
 use ledger::order::Side;
 use limits::answer::Answer;
@@ -77,7 +78,7 @@ pub fn judge_new(
     requires { ⌜ SoundMemory (now m) × Sums (now cells) (openOrders (now m)) ⌝ }
     ensures answer { λ r. ⌜ numberOf (r .answer) ≡ judged (now (m .entry)) (New side account instrument id quantity) ⌝ }
     ensures named { λ r. ⌜ (judged (now (m .entry)) (New side account instrument id quantity) ≡ 0
-        → NamedAt (now (m .entry)) (New side account instrument id quantity) (r .place) (r .order)) ⌝ }
+        → NamedAt (now (m .entry)) (New side account instrument id quantity) (r .place) (r .detail .0)) ⌝ }
 {
     if !account_known(m, account) {
         return plain(Answer::UnknownAccount);
@@ -100,6 +101,6 @@ pub fn judge_new(
     Verdict {
         answer: new_order(m, cells, o, p),
         place: p,
-        order: o,
+        detail: Detail::of(o),
     }
 }

@@ -18,16 +18,15 @@ use crate::settings::judge_balance;
 use crate::settings::judge_block;
 use crate::settings::judge_limit;
 use book::Event;
-use ledger::order::Order;
-use ledger::order::Side;
+use ledger::detail::Detail;
 use limits::answer::Answer;
 
-// An answer and, where a NEW is accepted, the order that it enters and the place where it joins; where another event that names an open
-// order is accepted, that order as it stands, and its place.
+// An answer and, where a NEW is accepted, the detail of the order that it enters and the place where it joins; where another event that
+// names an open order is accepted, that order's detail as it stands, and its place.
 pub struct Verdict {
     pub answer: Answer,
     pub place: usize,
-    pub order: Order,
+    pub detail: Detail,
 }
 
 // A verdict that names no order: a refusal, or one on an event that names none.
@@ -37,14 +36,7 @@ pub fn plain(answer: Answer) -> Verdict
     Verdict {
         answer,
         place: 0,
-        order: Order {
-            id: 0,
-            account: 0,
-            instrument: 0,
-            side: Side::Buy,
-            total: 0,
-            filled: 0,
-        },
+        detail: Detail(0),
     }
 }
 
@@ -52,7 +44,7 @@ pub fn plain(answer: Answer) -> Verdict
 pub fn judge(m: &[u8], cells: &[u64], e: Event) -> Verdict
     requires { ⌜ SoundMemory (now m) × Sums (now cells) (openOrders (now m)) ⌝ }
     ensures answer { λ r. ⌜ numberOf (r .answer) ≡ judged (now (m .entry)) e ⌝ }
-    ensures named { λ r. ⌜ (judged (now (m .entry)) e ≡ 0 → NamedAt (now (m .entry)) e (r .place) (r .order)) ⌝ }
+    ensures named { λ r. ⌜ (judged (now (m .entry)) e ≡ 0 → NamedAt (now (m .entry)) e (r .place) (r .detail .0)) ⌝ }
 {
     match e {
         Event::Limit { account, line } => plain(judge_limit(m, account, line)),

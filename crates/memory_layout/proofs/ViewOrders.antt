@@ -1,16 +1,23 @@
--- Stored orders: the view's list is the book's, nothing else of the view changes, and the records can be worked on again.
-use Prim.Native.Nat.{ℕ, _+_, _≤_, _<_}
+-- Stored orders: the view's list is the book's, nothing else of the view changes, and the records can be worked on again. And an order
+-- found by its id, where the book finds it.
+use Prim.Native.Nat.{ℕ, zero, suc, _+_, _≤_, _<_}
 use mathlib.Core.Path.{_≡_, _∙_, sym, ap}
+use mathlib.Core.Bool.{Bool, true, false, cond}
 use mathlib.Core.List.{List, [], _∷_}
+use mathlib.Core.Option.{some}
 use native.Mathlib.Omega.{arith}
+use lib.Dec.{eqb}
 use lib.ListN.{length, set}
 use Rattle.words.specs.Words.{wordAt}
 use Rattle.ledger.specs.declared.order.Order.{Order}
 use Rattle.ledger.specs.declared.find.Found.the-variants.{At}
 use Rattle.ledger.specs.Orders.{placeFrom}
-use Rattle.book.specs.OpenOrders.{change}
+use Rattle.ledger.specs.Records.{orderAt, ordersFrom}
+use Rattle.ledger.proofs.Search.{found-place}
+use Rattle.book.specs.OpenOrders.{find, change}
 use Rattle.memory_layout.specs.Layout.{kindWord, countWord}
-use Rattle.memory_layout.specs.View.{marketOf, balancesOf, linesOf, blocksOf, rosterOf, openOrders, bookOf, tradingOf, view}
+use Rattle.memory_layout.specs.View.{marketOf, balancesOf, linesOf, blocksOf, rosterOf, recordsOf, openOrders, bookOf, tradingOf}
+use Rattle.memory_layout.specs.View.{view}
 use Rattle.memory_layout.specs.Stores.{orderIn, recordWord, storeFrom, SmallOrders, without}
 use Rattle.memory_layout.proofs.RosterLaws.{roster-same}
 use Rattle.memory_layout.proofs.MarketRead.{market-same}
@@ -51,7 +58,33 @@ module _ (m : List ℕ) (f : ℕ) (os : List Order) (held : InBounds m) (low : f
       (orders-store m f os low few (held .long) small)
       (marks-same l m held roster-orders (elsewhere 128 144 (λ a b. omega arith) (omega arith)))
 
--- ---- the list is the book's: an order found by its id
+-- ---- an order found by its id
+found-there : (s : List ℕ) (id n q p : ℕ) → placeFrom q id (ordersFrom s q n) ≡ At p → find id (ordersFrom s q n) ≡ some (orderAt s p)
+unfolding placeFrom ordersFrom find
+found-there s id zero q p e = let z : _≡_ {A = ℕ} 0 1 = cc in absurd (omega arith)
+found-there s id (suc n) q p e = by (eqb (orderAt s q .id) id) e (found-there s id n (q + 1) p)
+  where
+    by : (t : Bool) → cond t (At q) (placeFrom (q + 1) id (ordersFrom s (q + 1) n)) ≡ At p
+        → (placeFrom (q + 1) id (ordersFrom s (q + 1) n) ≡ At p → find id (ordersFrom s (q + 1) n) ≡ some (orderAt s p))
+        → cond t (some (orderAt s q)) (find id (ordersFrom s (q + 1) n)) ≡ some (orderAt s p)
+    by true here later = let same : q ≡ p = cc in rw same
+    by false there later = later there
+
+-- it is one of the open orders, the one that the book's search finds
+module _ (m : List ℕ) (id p : ℕ) (found : placeFrom 0 id (openOrders m) ≡ At p) where
+  pub found-order : find id (openOrders m) ≡ some (orderIn m p)
+  unfolding openOrders
+  found-order = found-there (recordsOf m) id (wordAt m countWord) 0 p found
+
+  pub found-below : p < wordAt m countWord
+  unfolding openOrders
+  found-below = found-place (recordsOf m) id (wordAt m countWord) p found .0
+
+  pub found-id : orderIn m p .id ≡ id
+  unfolding openOrders
+  found-id = found-place (recordsOf m) id (wordAt m countWord) p found .1
+
+-- ---- the list is the book's: the order found
 module _ (m : List ℕ) (id p : ℕ) (found : placeFrom 0 id (openOrders m) ≡ At p) (f : Order → List Order) where
   from-zero : 0 + p ≡ p
   from-zero = omega arith

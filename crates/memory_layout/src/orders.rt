@@ -4,7 +4,7 @@ ghost use mathlib.Core.Path.{_≡_};
 ghost use Prim.Native.Nat.{_+_, _≤_, _<_};
 ghost use lib.ListN.{length, set};
 ghost use Rattle.words.specs.Words.{wordAt};
-ghost use Rattle.ledger.specs.Records.{Storable};
+ghost use Rattle.ledger.specs.Records.{orderOf};
 ghost use Rattle.book.specs.OpenOrders.{insert};
 ghost use Rattle.memory_layout.specs.Layout.{memoryBytes, countWord};
 ghost use Rattle.memory_layout.specs.View.{firstOf, recordsOf, openOrders};
@@ -14,9 +14,8 @@ ghost use Rattle.memory_layout.specs.Stores.{rank, without};
 use crate::table::COUNT;
 use crate::table::FIRST;
 use crate::table::ORDERS;
-use ledger::order::Order;
-use ledger::records::detail;
-use ledger::records::load;
+use ledger::detail::Detail;
+use ledger::records::detail_in;
 use words::part;
 use words::set_word;
 use words::word;
@@ -48,22 +47,22 @@ pub fn records(m: &[u8]) -> &[u8]
     part(m, ORDERS + first_of(m) * 2, 512)
 }
 
-// The open order at place `p`.
-pub fn load_order(m: &[u8], p: usize) -> Order
+// The detail of the open order at place `p`.
+pub fn detail_at(m: &[u8], p: usize) -> Detail
     requires { ⌜ Records (now m) × (p < 256) ⌝ }
-    ensures { λ r. ⌜ r ≡ orderIn (now (m .entry)) p ⌝ }
+    ensures { λ r. ⌜ orderOf (orderIn (now (m .entry)) p .id) (r .0) ≡ orderIn (now (m .entry)) p ⌝ }
 {
-    load(records(m), p)
+    Detail(detail_in(records(m), p))
 }
 
-// Makes `o` the order in record `at` of the region.
-fn put_order(m: &mut [u8], at: usize, o: Order)
-    requires { ⌜ (memoryBytes ≤ length (now m)) × (at < 512) × Storable o ⌝ }
-    ensures { λ r. ⌜ now (m .exit) ≡ putOrder (now (m .entry)) at o ⌝ }
+// Makes the order of that id and detail the one in record `at` of the region.
+fn put_order(m: &mut [u8], at: usize, id: u64, w: Detail)
+    requires { ⌜ (memoryBytes ≤ length (now m)) × (at < 512) ⌝ }
+    ensures { λ r. ⌜ now (m .exit) ≡ putOrder (now (m .entry)) at (orderOf id (w .0)) ⌝ }
 {
     let k = ORDERS + at * 2;
-    set_word(m, k, o.id);
-    set_word(m, k + 1, detail(o));
+    set_word(m, k, id);
+    set_word(m, k + 1, w.0);
 }
 
 // Moves the `n` records from record `at` on one record up.
@@ -125,15 +124,15 @@ fn close_gap(m: &mut [u8], p: usize, n: usize) -> usize
     first
 }
 
-// The order `o` joins at place `p`, before the first larger id.
-pub fn insert_order(m: &mut [u8], p: usize, o: Order)
-    requires { ⌜ Records (now m) × (wordAt (now m) countWord < 256) × (p ≡ rank (o .id) (openOrders (now m))) × Storable o ⌝ }
+// The order of that id and detail joins at place `p`, before the first larger id.
+pub fn insert_order(m: &mut [u8], p: usize, id: u64, w: Detail)
+    requires { ⌜ Records (now m) × (wordAt (now m) countWord < 256) × (p ≡ rank id (openOrders (now m))) ⌝ }
     ensures { λ r. ⌜ now (m .exit) ≡ storeFrom (now (m .entry)) (joinedFirst (now (m .entry)) p)
-        (insert o (openOrders (now (m .entry)))) ⌝ }
+        (insert (orderOf id (w .0)) (openOrders (now (m .entry)))) ⌝ }
 {
     let n = word(m, COUNT) as usize;
     let first = make_room(m, p, n);
-    put_order(m, first + p, o);
+    put_order(m, first + p, id, w);
     set_word(m, FIRST, first as u64);
     set_word(m, COUNT, (n + 1) as u64);
 }
@@ -149,10 +148,11 @@ pub fn remove_order(m: &mut [u8], p: usize)
     set_word(m, COUNT, (n - 1) as u64);
 }
 
-// The order at place `p` becomes `o`.
-pub fn replace_order(m: &mut [u8], p: usize, o: Order)
-    requires { ⌜ Records (now m) × (p < wordAt (now m) countWord) × Storable o ⌝ }
-    ensures { λ r. ⌜ now (m .exit) ≡ storeFrom (now (m .entry)) (firstOf (now (m .entry))) (set (openOrders (now (m .entry))) p o) ⌝ }
+// The order at place `p` becomes that of the id and the detail.
+pub fn replace_order(m: &mut [u8], p: usize, id: u64, w: Detail)
+    requires { ⌜ Records (now m) × (p < wordAt (now m) countWord) ⌝ }
+    ensures { λ r. ⌜ now (m .exit) ≡ storeFrom (now (m .entry)) (firstOf (now (m .entry)))
+        (set (openOrders (now (m .entry))) p (orderOf id (w .0))) ⌝ }
 {
-    put_order(m, first_of(m) + p, o);
+    put_order(m, first_of(m) + p, id, w);
 }

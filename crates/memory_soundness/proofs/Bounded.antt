@@ -7,12 +7,13 @@ use lib.IntN.{negℤ, natAbs}
 use lib.ListN.{length}
 use Rattle.integers.specs.Parts.{signed, sum-parts, negation-parts, magnitude-parts}
 use Rattle.words.specs.Words.{wordAt}
+use Rattle.ledger.specs.declared.order.Order.{Order}
 use Rattle.ledger.specs.declared.order.Side.{Side}
 use Rattle.ledger.specs.declared.order.Side.the-variants.{Buy, Sell}
 use Rattle.ledger.specs.Orders.{remaining}
 use Rattle.ledger.specs.Roster.{Numbered}
 use Rattle.ledger.specs.Positions.{long, short, openOn, ofInstrument}
-use Rattle.ledger.specs.Records.{orderAt, ordersFrom, rosterIn}
+use Rattle.ledger.specs.Records.{Storable, orderAt, ordersFrom, rosterIn}
 use Rattle.positions.specs.Bounds.{InstrumentBounds, GatherBounds, BalanceBounds, RosterBounds, GroupBounds}
 use Rattle.ledger.specs.Derivatives.{one}
 use Rattle.positions.proofs.Counting.{small-orders}
@@ -61,6 +62,19 @@ module _ (m : List ℕ) (h : SoundMemory m) where
   pub order-small : (p : ℕ) → p < wordAt m countWord → remaining (orderAt (recordsOf m) p) ≤ 1000000
   order-small p l =
       remaining-small (rosterOf m) (tradingOf m) (orderAt (recordsOf m) p) (all-fit m h p l)
+
+  -- a record can hold an order in range
+  pub storable : (o : Order) → Numbered (rosterOf m .accounts) (o .account) → Numbered (rosterOf m .instruments) (o .instrument)
+      → o .filled ≤ o .total → o .total ≤ 1000000 → Storable o
+  unfolding remaining
+  storable o a i part small =
+      let bounds = sound-readable in
+      record {
+        packable = ((a .0, omega arith), (i .0, omega arith));
+        part = part;
+        filled = omega arith;
+        remaining = omega arith;
+      }
 
   -- B and V
   pub open-small : (s : Side) (a i : ℕ) → natAbs (openOn one (ordersFrom (recordsOf m) 0 (wordAt m countWord)) s a i) ≤ 256000000

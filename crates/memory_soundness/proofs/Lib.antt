@@ -3,7 +3,7 @@ mod Joining
 pub mod Asked
 pub mod RosterLaws
 pub mod Records
-mod Details
+pub mod Details
 mod Telling
 mod Passing
 pub mod Gathering

@@ -15,7 +15,6 @@ use Rattle.words.specs.Words.{wordAt}
 use Rattle.ledger.specs.declared.order.Order.{Order}
 use Rattle.ledger.specs.Orders.{remaining}
 use Rattle.ledger.specs.Roster.{Roster, Numbered}
-use Rattle.ledger.specs.Records.{Storable}
 use Rattle.book.specs.declared.LimitLine.{LimitLine}
 use Rattle.book.specs.declared.LimitLine.the-variants.{Own, Default, OfGroup}
 use Rattle.book.specs.declared.Blocked.{Blocked}
@@ -97,18 +96,6 @@ module _ (m : List ℕ) (held : SoundMemory m) where
   -- its records can be worked on
   pub records : Records m
   records = sound-records m held
-
-  -- a record can hold an order in range
-  pub storable : (o : Order) → OrderFits (rosterOf m) o → Storable o
-  unfolding remaining
-  storable o fits =
-      let sized = laid .sized in
-      record {
-        packable = ((fits .account .0, omega arith), (fits .instrument .0, omega arith));
-        part = omega arith;
-        filled = omega arith;
-        remaining = omega arith;
-      }
 
 pub passed : (m : List ℕ) (e : Event) → judged m e ≡ 0 → Passed (view m) e
 unfolding judged

@@ -1,5 +1,5 @@
 -- FILL: the order found moves its account's balance, and the numbers that the code adds fit.
-use Prim.Native.Nat.{ℕ, _+_, _*_, _≤_}
+use Prim.Native.Nat.{ℕ, _*_, _≤_}
 use mathlib.Core.Path.{_≡_, refl, _∙_, sym, ap}
 use mathlib.Core.List.{List}
 use native.Mathlib.Omega.{arith}
@@ -13,10 +13,12 @@ use Rattle.ledger.specs.declared.order.Side.{Side}
 use Rattle.ledger.specs.declared.order.Side.the-variants.{Buy, Sell}
 use Rattle.ledger.specs.declared.order.Order.{Order}
 use Rattle.ledger.specs.Orders.{remaining}
+use Rattle.ledger.specs.Records.{orderOf}
 use Rattle.ledger.specs.Roster.{Numbered}
 use Rattle.ledger.specs.Positions.{toward, wayOf}
 use Rattle.ledger.specs.Fillings.{fillMoves}
 use Rattle.ledger.specs.Derivatives.{one}
+use Rattle.ledger.proofs.Details.{remaining-of}
 use Rattle.ledger.proofs.Amounts.{fill-here}
 use Rattle.book.specs.declared.OrderChange.the-variants.{Fill}
 use Rattle.book.specs.declared.Event.the-variants.{Change}
@@ -43,7 +45,10 @@ fill-one m o n =
     let e : 1 * n ≡ n = omega arith in
     rw e at (fill-here one (o .account) (o .instrument) o n refl refl)
 
-module _ {m : List ℕ} {o : Order} {p n : ℕ} (ready : Ready m (Change (o .id) (Fill (pos n))) p o) where
+module _ {m : List ℕ} {id w p n : ℕ} (ready : Ready m (Change id (Fill (pos n))) p w) where
+  abbrev o : Order
+  o = orderOf id w
+
   facts : OrderFits (rosterOf m) o × ChangeFacts (Fill (pos n)) o
   facts = change-facts ready
 
@@ -60,13 +65,14 @@ module _ {m : List ℕ} {o : Order} {p n : ℕ} (ready : Ready m (Change (o .id)
       let i = facts .0 .instrument in
       omega (arith, ready .held .long)
 
-  pub fill-stands : Stands m p o n
-  unfolding remaining
+  pub fill-stands : Stands m p id w n
+  unfolding orderOf
   fill-stands =
       record {
         records = records m (ready .held);
         found = ready .named .0;
         loaded = ready .named .1;
+        most = omega (arith, fill-most, remaining-of id w);
         small = let rest = facts .0 .remains in omega (arith, facts .0 .total .1, facts .1 .0 .1 .1);
       }
 
@@ -82,9 +88,9 @@ module _ {m : List ℕ} {o : Order} {p n : ℕ} (ready : Ready m (Change (o .id)
     fill-small =
         (rw same-balance (balance-small m (ready .held) (o .account) (o .instrument)), omega (arith, facts .1 .0 .1 .1))
 
-    pub fill-worked : {z : ℤ} {l x : List ℕ} → l ≡ recordsChanged m (o .id) (Fill (pos n)) o
+    pub fill-worked : {z : ℤ} {l x : List ℕ} → l ≡ recordsChanged m id (Fill (pos n)) o
         → z ≡ toZ w64 (ofZ w64 s) +ℤ toward (wayOf (o .side)) (pos n)
-        → x ≡ storeBalance l (o .account) (o .instrument) (toZ w64 (ofZ w64 z)) → x ≡ worked m (Change (o .id) (Fill (pos n)))
+        → x ≡ storeBalance l (o .account) (o .instrument) (toZ w64 (ofZ w64 z)) → x ≡ worked m (Change id (Fill (pos n)))
     fill-worked {z} {l} stored after put =
         let fits-z = moved-fits (o .side) (toZ w64 (ofZ w64 s)) (pos n) z (fill-small .0) (fill-small .1) after in
         let moved : toZ w64 (ofZ w64 z) ≡ balancesOf m (o .account) (o .instrument)

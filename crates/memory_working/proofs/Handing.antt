@@ -8,33 +8,33 @@ use mir.Syntax.{w64}
 use mir.Val.{SFits, toZ, ofZ}
 use mir.ValLaws.{toZ-ofZ}
 use Rattle.integers.specs.Parts.{signed, magnitude-parts}
-use Rattle.ledger.specs.declared.order.Order.{Order}
 use Rattle.book.specs.declared.OrderChange.{OrderChange}
 use Rattle.book.specs.declared.Event.the-variants.{Change}
 use Rattle.book.specs.declared.Event.{Event}
-use Rattle.memory_working.specs.Working.{AcceptedEvent, Ready, worked}
+use Rattle.memory_working.specs.Working.{AcceptedEvent, Ready}
+use Rattle.memory_working.proofs.Rooms.{Cast, cast-fits}
 
 pub handed : (f : ℤ → Event) {e : Event} {z : ℤ} → e ≡ f z → SFits w64 z → e ≡ f (toZ w64 (ofZ w64 z))
 handed f {z = z} same fits = same ∙ ap f (sym (toZ-ofZ w64 z fits))
 
 -- an event that names no order
-pub accepted-as : {m : List ℕ} {e e′ : Event} {p : ℕ} {o : Order} → e ≡ e′ → Ready m e p o → AcceptedEvent m e′
+pub accepted-as : {m : List ℕ} {e e′ : Event} {p w : ℕ} → e ≡ e′ → Ready m e p w → AcceptedEvent m e′
 accepted-as {m} {e} same ready =
     let was : AcceptedEvent m e = record { held = ready .held; accepted = ready .accepted } in
     rw same at was
 
-pub ready-as : {m : List ℕ} {e e′ : Event} {p : ℕ} {o : Order} → e ≡ e′ → Ready m e p o → Ready m e′ p o
+pub ready-as : {m : List ℕ} {e e′ : Event} {p w : ℕ} → e ≡ e′ → Ready m e p w → Ready m e′ p w
 ready-as same ready = rw same at ready
 
--- the memory that it leaves
-pub done-as : (m : List ℕ) {e e′ : Event} {x : List ℕ} → e ≡ e′ → x ≡ worked m e′ → x ≡ worked m e
-done-as m same stored = rw same stored
+-- a change by its figure, which is no less than 0, as a whole number
+abbrev pub Whole : (ℤ → OrderChange) → OrderChange → ℤ → Type 0
+Whole k c z = Cast z × (c ≡ k (pos (natAbs (toZ w64 (ofZ w64 z)))))
 
--- a figure that is no less than 0, as a whole number
-pub whole-is : (z : ℤ) → SFits w64 z → pos 0 ≤ℤ z → z ≡ pos (natAbs (toZ w64 (ofZ w64 z)))
-whole-is z fits low = rw (toZ-ofZ w64 z fits) (omega (signed, magnitude-parts z))
+pub whole : (k : ℤ → OrderChange) {c : OrderChange} {z : ℤ} → c ≡ k z → SFits w64 z → pos 0 ≤ℤ z → Whole k c z
+whole k {z = z} same fits low =
+    let n : z ≡ pos (natAbs (toZ w64 (ofZ w64 z))) = rw (toZ-ofZ w64 z fits) (omega (signed, magnitude-parts z)) in
+    (cast-fits z fits low, same ∙ ap k n)
 
 -- a change by another name
-pub change-as : {m : List ℕ} {o : Order} {p : ℕ} {c c′ : OrderChange} → c ≡ c′ → Ready m (Change (o .id) c) p o
-    → Ready m (Change (o .id) c′) p o
-change-as {o = o} same = ready-as (ap (Change (o .id)) same)
+pub change-as : {m : List ℕ} {id p w : ℕ} {c c′ : OrderChange} → c ≡ c′ → Ready m (Change id c) p w → Ready m (Change id c′) p w
+change-as {id = id} same = ready-as (ap (Change id) same)

@@ -1,5 +1,5 @@
 -- The cells after a change of one order: its own cell moves with what counts of it, and no other.
-use Prim.Native.Nat.{ℕ, _+_, _*_, _-_, _≤_, _<_}
+use Prim.Native.Nat.{ℕ, _+_, _-_, _≤_}
 use mathlib.Core.Path.{_≡_, refl, _∙_, sym, ap}
 use mathlib.Core.Logic.{_≢_, _⊎_, inl, inr}
 use mathlib.Core.List.{List}
@@ -13,7 +13,9 @@ use Rattle.ledger.specs.declared.order.Order.{Order}
 use Rattle.ledger.specs.declared.order.Side.{Side}
 use Rattle.ledger.specs.Roster.{Numbered}
 use Rattle.ledger.specs.Positions.{openOn}
+use Rattle.ledger.specs.Records.{orderOf}
 use Rattle.ledger.specs.Derivatives.{one}
+use Rattle.ledger.proofs.Details.{packable-of}
 use Rattle.ledger.proofs.Amounts.{Stands, stands?, amount-here, amount-apart}
 use Rattle.ledger.proofs.Sums.{open-nonneg}
 use Rattle.limits.specs.Raised.{addedOn}
@@ -23,7 +25,8 @@ use Rattle.memory_layout.specs.View.{openOrders}
 use Rattle.memory_soundness.specs.Cells.{row, AllSums, Sums}
 use Rattle.memory_soundness.specs.SoundMemory.{SoundMemory}
 use Rattle.memory_soundness.proofs.Bounded.{unfilled-small}
-use Rattle.memory_soundness.proofs.Gathering.{rows, row-inside}
+use Rattle.memory_soundness.proofs.Gathering.{rows}
+use Rattle.memory_soundness.proofs.Details.{cell-detail}
 use Rattle.memory_working.specs.SumsChanged.{SumsChanged, cellOf, Countable}
 use Rattle.memory_working.proofs.SumsMoved.{same-amount}
 
@@ -35,35 +38,32 @@ module _ (s : Side) (a i : ℕ) (o : Order) (n : ℕ) where
   added-apart : ¬ Stands s a i o → addedOn n o s a i ≡ pos 0
   added-apart apart = sym (same-amount n o s a i) ∙ amount-apart one s a i o n apart
 
--- the cell of an order, as the code counts it
-pub own-spot : (o : Order) (j : ℕ) → j ≡ cell (o .side) (o .instrument) → o .account * 64 + j ≡ cellOf o
-own-spot o j e = rw e
-
 -- what a cell holds after a shift, counted in contracts
 pub settled : (c a b : ℕ) → b ≤ c + a → (x y : ℤ) → x ≡ pos c +ℤ pos a → y ≡ x +ℤ negℤ (pos b) → y ≡ pos (c + a - b)
 settled c a b enough x y sum rest =
     omega (signed, sum-parts (pos c) (pos a), difference-parts x (pos b), rest)
 
--- it is one of the cells
-pub own-inside : (cells : List ℕ) (o : Order) {before after : ℕ} → Countable cells o before after → cellOf o < length cells
-own-inside cells o c =
-    omega (arith, c .size, row-inside (o .side) (o .account) (o .instrument) (c .account .1) (c .instrument .1))
+module _ (cells : List ℕ) (orders orders′ : List Order) (held : AllSums cells orders) (id w before after : ℕ)
+    (shift : SumsChanged (orderOf id w) before after orders orders′) where
+  abbrev o : Order
+  o = orderOf id w
 
-module _ (cells : List ℕ) (orders orders′ : List Order) (held : AllSums cells orders) (o : Order) (before after : ℕ)
-    (shift : SumsChanged o before after orders orders′) where
   abbrev own : ℕ
-  own = cellOf o
+  own = cellOf w
 
-  here-inside : own < length cells
-  here-inside =
-      omega (arith, held .size, row-inside (o .side) (o .account) (o .instrument) (shift .account .1) (shift .instrument .1))
+  on-account : Numbered 16 (o .account)
+  on-account = packable-of id w .0
+
+  on-instrument : Numbered 32 (o .instrument)
+  on-instrument = packable-of id w .1
+
+  own-cell : pos (getD cells own 0) ≡ openOn one orders (o .side) (o .account) (o .instrument)
+  own-cell =
+      ap (λ (j : ℕ). pos (getD cells j 0)) (sym (cell-detail id w))
+      ∙ held .accounts (o .account) on-account .sums (o .side) (o .instrument) on-instrument
 
   pub own-small : ((s : Side) (a i : ℕ) → natAbs (openOn one orders s a i) ≤ 256000000) → getD cells own 0 ≤ 256000000
-  own-small small =
-      let s = o .side in
-      let a = o .account in
-      let i = o .instrument in
-      omega (arith, small s a i, ap natAbs (held .accounts a (shift .account) .sums s i (shift .instrument)))
+  own-small small = omega (arith, small (o .side) (o .account) (o .instrument), ap natAbs own-cell)
 
   own-sum : openOn one orders′ (o .side) (o .account) (o .instrument) +ℤ pos before ≡ pos (getD cells own 0) +ℤ pos after
   own-sum =
@@ -72,7 +72,7 @@ module _ (cells : List ℕ) (orders orders′ : List Order) (held : AllSums cell
       let i = o .instrument in
       ap (λ (z : ℤ). openOn one orders′ s a i +ℤ z) (sym (added-here s a i o before (refl, refl, refl)))
       ∙ shift .sums s a i
-      ∙ ap (λ (z : ℤ). z +ℤ addedOn after o s a i) (sym (held .accounts a (shift .account) .sums s i (shift .instrument)))
+      ∙ ap (λ (z : ℤ). z +ℤ addedOn after o s a i) (sym own-cell)
       ∙ ap (λ (z : ℤ). pos (getD cells own 0) +ℤ z) (added-here s a i o after (refl, refl, refl))
 
   pub enough : before ≤ getD cells own 0 + after
@@ -102,13 +102,13 @@ module _ (cells : List ℕ) (orders orders′ : List Order) (held : AllSums cell
       each : (s : Side) (a i : ℕ) → Numbered 16 a → Numbered 32 i → Dec (Stands s a i o)
           → pos (getD (set cells own (getD cells own 0 + after - before)) (row a + cell s i) 0) ≡ openOn one orders′ s a i
       each s a i on in-roster (yes stands) =
-          let same : row a + cell s i ≡ own = rw (stands .0, stands .1, stands .2) in
-          rw (same, getD-set-same cells own (getD cells own 0 + after - before) 0 here-inside)
+          let same : row a + cell s i ≡ own = rw (← stands .0, ← stands .1, ← stands .2) (cell-detail id w) in
+          rw (same, getD-set-same cells own (getD cells own 0 + after - before) 0 (omega (arith, held .size)))
           (sym next ∙ rw (stands .0, stands .1, stands .2))
       each s a i on in-roster (no apart) =
           let other : row a + cell s i ≢ own = λ same. let all =
-          same-cell (Numbered 16) row rows s (o .side) a i (o .account) (o .instrument) on in-roster (shift .account)
-          (shift .instrument) same in apart (sym (all .0), sym (all .1), sym (all .2)) in
+          same-cell (Numbered 16) row rows s (o .side) a i (o .account) (o .instrument) on in-roster on-account on-instrument
+          (same ∙ sym (cell-detail id w)) in apart (sym (all .0), sym (all .1), sym (all .2)) in
           let z = openOn one orders s a i in
           let z′ = openOn one orders′ s a i in
           rw (getD-set-other cells own (row a + cell s i) (getD cells own 0 + after - before) 0 other)
@@ -122,20 +122,12 @@ module _ (cells : List ℕ) (orders orders′ : List Order) (held : AllSums cell
             sum-parts z′ (addedOn before o s a i),
           ))
 
-  pub countable : ((s : Side) (a i : ℕ) → natAbs (openOn one orders s a i) ≤ 256000000) → Countable cells o before after
-  countable small =
-      record {
-        account = shift .account;
-        instrument = shift .instrument;
-        size = held .size;
-        small = own-small small;
-        added = shift .small;
-        enough = enough;
-      }
+  pub countable : ((s : Side) (a i : ℕ) → natAbs (openOn one orders s a i) ≤ 256000000) → Countable cells w before after
+  countable small = record { size = held .size; small = own-small small; added = shift .small; enough = enough }
 
 -- at a sound desk the cell of an order that an event names can take what counts after it, where cells are kept
-pub recountable : {m cells : List ℕ} {o : Order} {before after : ℕ} {orders′ : List Order} → SoundMemory m → Sums cells (openOrders m)
-    → SumsChanged o before after (openOrders m) orders′ → (length cells ≡ 0) ⊎ Countable cells o before after
-recountable held (inl none) changes = inl none
-recountable {m} {cells} {o} {before} {after} {orders′} held (inr sums) changes =
-    inr (countable cells (openOrders m) orders′ sums o before after changes (unfilled-small m held))
+pub recountable : {m cells : List ℕ} (id w : ℕ) {before after : ℕ} {orders′ : List Order} → SoundMemory m → Sums cells (openOrders m)
+    → SumsChanged (orderOf id w) before after (openOrders m) orders′ → (length cells ≡ 0) ⊎ Countable cells w before after
+recountable id w held (inl none) changes = inl none
+recountable {m} {cells} id w {before} {after} {orders′} held (inr sums) changes =
+    inr (countable cells (openOrders m) orders′ sums id w before after changes (unfilled-small m held))

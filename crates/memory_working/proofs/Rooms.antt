@@ -36,7 +36,7 @@ Room m (Balance a i z) = (memoryBytes ≤ length m) × (a ≤ 16) × (i ≤ 32)
 Room m (Block (Account a) z) = (memoryBytes ≤ length m) × (a ≤ 16)
 Room m (Block (Instrument i) z) = (memoryBytes ≤ length m) × (i ≤ 32)
 Room m (Block (GroupFor a g) z) = (memoryBytes ≤ length m) × (a ≤ 16) × (g ≤ 4)
-Room m (New s a i id n) = (memoryBytes ≤ length m) × (a ≤ 16)
+Room m (New s a i id n) = Unit
 Room m (Change id c) = Unit
 Room m Junk = Unit
 
@@ -48,7 +48,7 @@ in-room m held (Balance a i z) t = let bounds = held .sized in omega (arith, hel
 in-room m held (Block (Account a) z) t = let bounds = held .sized in omega (arith, held .long)
 in-room m held (Block (Instrument i) z) t = let bounds = held .sized in omega (arith, held .long)
 in-room m held (Block (GroupFor a g) z) t = let bounds = held .sized in omega (arith, held .long)
-in-room m held (New s a i id n) t = let bounds = held .sized in omega (arith, held .long)
+in-room m held (New s a i id n) t = tt
 in-room m held (Change id c) t = tt
 in-room m held Junk t = tt
 

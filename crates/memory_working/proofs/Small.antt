@@ -11,6 +11,7 @@ use Rattle.words.specs.Fields.{u64At}
 use Rattle.words.specs.Words.{wordAt}
 use Rattle.words.proofs.Numbers.{number-below}
 use Rattle.ledger.specs.declared.order.Order.{Order}
+use Rattle.ledger.specs.Orders.{remaining}
 use Rattle.limits.specs.Lines.{Line, GroupLine}
 use Rattle.book.specs.declared.Event.{Event}
 use Rattle.book.specs.declared.Event.the-variants.{Limit, Balance, Block, New, Change, Junk}
@@ -33,7 +34,8 @@ use Rattle.memory_layout.proofs.StoreWords.{SmallLine, SmallGroupLine}
 use Rattle.memory_soundness.specs.SoundMemory.{SoundMemory}
 use Rattle.memory_soundness.proofs.OrderFacts.{each-member}
 use Rattle.memory_soundness.proofs.SoundDesk.{sound-count}
-use Rattle.memory_working.proofs.AcceptedFacts.{Found, sound, storable, passed, accepted-facts}
+use Rattle.memory_soundness.proofs.Bounded.{storable}
+use Rattle.memory_working.proofs.AcceptedFacts.{Found, sound, passed, accepted-facts}
 
 -- ---- lines in range
 pub small-line : {largest : ℕ} → largest ≤ 1000000000 → (x : Option Line) → ((l : Line) → x ≡ some l → LineFits largest l) → SmallLine x
@@ -105,8 +107,10 @@ module _ (m : List ℕ) (bytes : Bytes m) (held : SoundMemory m) where
   ids-after Junk sized passes = open-ids
 
   pub small-after : (e : Event) → Sized e → judged m e ≡ 0 → SmallOrders (work (view m) e .book .orders)
+  unfolding remaining
   small-after e sized passes =
       members-small (work (view m) e .book .orders)
       (λ x k.
       let f = fits-after (view m) (sound m held) e (passed m e passes) x k in
-      record { id = ids-after e sized passes x k; detail = storable m held x f })
+      let fits = storable m held x (f .account) (f .instrument) (omega (arith, f .remains)) (f .total .1) in
+      record { id = ids-after e sized passes x k; detail = fits })

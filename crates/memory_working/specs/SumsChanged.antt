@@ -6,28 +6,22 @@ use lib.IntN.{_+ℤ_}
 use lib.ListN.{length, getD}
 use Rattle.ledger.specs.declared.order.Order.{Order}
 use Rattle.ledger.specs.declared.order.Side.{Side}
-use Rattle.ledger.specs.Roster.{Numbered}
 use Rattle.ledger.specs.Positions.{openOn}
+use Rattle.ledger.specs.Records.{detailPacked}
 use Rattle.ledger.specs.Derivatives.{one}
 use Rattle.limits.specs.Raised.{addedOn}
-use Rattle.positions.specs.Gathered.{cell}
-use Rattle.memory_soundness.specs.Cells.{row}
 
 pub record SumsChanged (o : Order) (before after : ℕ) (orders orders′ : List Order) : Type 0 where
-  pub account : Numbered 16 (o .account)
-  pub instrument : Numbered 32 (o .instrument)
   pub small : after ≤ 1000000
   pub sums : (s : Side) (a i : ℕ) → openOn one orders′ s a i +ℤ addedOn before o s a i ≡ openOn one orders s a i +ℤ addedOn after o s a i
 
--- the order's cell, of all accounts' cells
-abbrev pub cellOf : Order → ℕ
-cellOf o = row (o .account) + cell (o .side) (o .instrument)
+-- the cell of the order of a detail, of all accounts' cells
+abbrev pub cellOf : ℕ → ℕ
+cellOf w = 65 + detailPacked w
 
--- the order's cell can take what counts after in the place of what counted before
-pub record Countable (cells : List ℕ) (o : Order) (before after : ℕ) : Type 0 where
-  pub account : Numbered 16 (o .account)
-  pub instrument : Numbered 32 (o .instrument)
+-- that cell can take what counts after in the place of what counted before
+pub record Countable (cells : List ℕ) (w before after : ℕ) : Type 0 where
   pub size : length cells ≡ 1089
-  pub small : getD cells (cellOf o) 0 ≤ 256000000
+  pub small : getD cells (cellOf w) 0 ≤ 256000000
   pub added : after ≤ 1000000
-  pub enough : before ≤ getD cells (cellOf o) 0 + after
+  pub enough : before ≤ getD cells (cellOf w) 0 + after

@@ -9,6 +9,7 @@ use Rattle.ledger.specs.declared.order.Order.{Order}
 use Rattle.ledger.specs.declared.find.Found.{Found}
 use Rattle.ledger.specs.declared.find.Found.the-variants.{At, Nothing}
 use Rattle.ledger.specs.Orders.{placeFrom}
+use Rattle.ledger.specs.Records.{detailFilled, detailRemaining, orderOf}
 use Rattle.ledger.specs.Fillings.{fillMoves}
 use Rattle.limits.specs.Asked.{isZero}
 use Rattle.book.specs.declared.Figures.{Figures}
@@ -35,22 +36,23 @@ pub record AcceptedEvent (m : List ℕ) (e : Event) : Type 0 where
   pub held : SoundMemory m
   pub accepted : judged m e ≡ 0
 
--- and the order that it names is o, which stands, or joins, at place p
-pub record Ready (m : List ℕ) (e : Event) (p : ℕ) (o : Order) : Type 0 where
+-- and w is the detail of the order that it names, which stands, or joins, at place p
+pub record Ready (m : List ℕ) (e : Event) (p w : ℕ) : Type 0 where
   pub held : SoundMemory m
   pub accepted : judged m e ≡ 0
-  pub named : NamedAt m e p o
+  pub named : NamedAt m e p w
 
--- the NEW that enters an order
-abbrev pub newOf : Order → Event
-newOf o = New (o .side) (o .account) (o .instrument) (o .id) (pos (o .total))
+-- the NEW that enters the order of an id and a detail
+abbrev pub newOf : ℕ → ℕ → Event
+newOf id w = let o = orderOf id w in New (o .side) (o .account) (o .instrument) id (pos (o .total))
 
--- the open order o is found at place p, and what is filled of it with n more fits its record
-pub record Stands (m : List ℕ) (p : ℕ) (o : Order) (n : ℕ) : Type 0 where
+-- the open order of an id and a detail is found at place p, and n more of it can be filled, in the bits that it has
+pub record Stands (m : List ℕ) (p id w n : ℕ) : Type 0 where
   pub records : Records m
-  pub found : placeFrom 0 (o .id) (openOrders m) ≡ At p
-  pub loaded : o ≡ orderIn m p
-  pub small : o .filled + n < 134217728
+  pub found : placeFrom 0 id (openOrders m) ≡ At p
+  pub loaded : orderOf id w ≡ orderIn m p
+  pub most : n ≤ detailRemaining w
+  pub small : detailFilled w + n < 134217728
 
 -- figures of a line that pass question 9 in a market whose largest figure is at most 1,000,000,000, so that each fits half a word
 pub record LineStorable (f : Figures) : Type 0 where

@@ -14,12 +14,12 @@ use crate::settings::work_balance;
 use crate::settings::work_block;
 use crate::settings::work_limit;
 use book::Event;
-use ledger::order::Order;
+use ledger::detail::Detail;
 
-// Works an event of any kind. Of a NEW, `o` is the order that it enters, and `place` where it joins; of a REPLACE, CANCEL or FILL the open
-// order that it names, and where it stands.
-pub fn work(m: &mut [u8], cells: &mut [u64], e: Event, place: usize, o: Order)
-    requires { ⌜ Ready (now m) e place o × Sums (now cells) (openOrders (now m)) ⌝ }
+// Works an event of any kind. Of a NEW, `w` is the detail of the order that it enters, and `place` where it joins; of a REPLACE, CANCEL or
+// FILL that of the open order that it names, and where it stands.
+pub fn work(m: &mut [u8], cells: &mut [u64], e: Event, place: usize, w: Detail)
+    requires { ⌜ Ready (now m) e place (w .0) × Sums (now cells) (openOrders (now m)) ⌝ }
     ensures memory { λ r. ⌜ now (m .exit) ≡ worked (now (m .entry)) e ⌝ }
     ensures sums { λ r. ⌜ Sums (now (cells .exit)) (openOrders (now (m .exit))) ⌝ }
 {
@@ -37,8 +37,8 @@ pub fn work(m: &mut [u8], cells: &mut [u64], e: Event, place: usize, o: Order)
             instrument,
             id,
             quantity,
-        } => enter(m, cells, o, place),
-        Event::Change { id, change } => change_order(m, cells, o, place, change),
+        } => enter(m, cells, id, w, place),
+        Event::Change { id, change } => change_order(m, cells, id, w, place, change),
         Event::Junk => {}
     }
 }

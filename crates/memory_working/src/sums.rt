@@ -2,29 +2,30 @@
 ghost use mathlib.Core.Path.{_≡_};
 ghost use mathlib.Core.Logic.{_⊎_};
 ghost use mathlib.Core.List.{List};
+ghost use Prim.Native.Nat.{ℕ};
 ghost use lib.ListN.{length};
 ghost use Rattle.ledger.specs.declared.order.Order.{Order};
+ghost use Rattle.ledger.specs.Records.{orderOf};
 ghost use Rattle.memory_soundness.specs.Cells.{Sums};
 ghost use Rattle.memory_working.specs.SumsChanged.{SumsChanged, Countable};
-use ledger::order::Order;
+use ledger::detail::Detail;
+use ledger::records::packed_of;
 use ledger::units::Contracts;
-use positions::cell;
 
-// What counts of order `o` goes from `before` contracts to `after`.
-pub fn recount(cells: &mut [u64], o: Order, before: u64, after: u64)
-    requires { ⌜ (length (now cells) ≡ 0) ⊎ Countable (now cells) o before after ⌝ }
+// What counts of the order of a detail goes from `before` contracts to `after`.
+pub fn recount(cells: &mut [u64], w: Detail, before: u64, after: u64)
+    requires { ⌜ (length (now cells) ≡ 0) ⊎ Countable (now cells) (w .0) before after ⌝ }
     ensures { λ r. ⌜
-        ((orders orders′ : List Order) →
+        ((id : ℕ) (orders orders′ : List Order) →
         Sums (now (cells .entry)) orders →
-        SumsChanged o before after orders orders′ →
+        SumsChanged (orderOf id (w .0)) before after orders orders′ →
         Sums (now (cells .exit)) orders′)
         ⌝ }
 {
     if cells.len() == 0 {
         return;
     }
-    let side = o.side;
-    let j = o.account as usize * 64 + cell(side, o.instrument);
+    let j = 65 + packed_of(w.0) as usize;
     cells[j] = Contracts::of(cells[j])
         .plus(Contracts::of(after))
         .less(Contracts::of(before))

@@ -1,15 +1,14 @@
 -- Each kind's function gets the event by the name that the match gives it, with its figure as the machine holds it; what it did is what
 -- `worked` says of the event, and B and V are those of the orders that it leaves.
-use mathlib.Core.Path.{_≡_, _∙_, ap}
+use mathlib.Core.Path.{_≡_, _∙_}
 use borrow.Author.Needs.{needs}
 use mir.Syntax.{w64}
 use mir.Val.{toZ, ofZ}
-use Rattle.book.specs.declared.Event.the-variants.{Balance, Block, Change}
-use Rattle.book.specs.Books.{newOrder}
+use Rattle.book.specs.declared.Event.the-variants.{Balance, Block}
 use Rattle.memory_working.specs.Working.{newOf, worked}
-use Rattle.memory_working.proofs.Handing.{handed, accepted-as, ready-as, done-as}
-use Rattle.memory_working.proofs.Changing.{new-is, change-is}
-use Rattle.memory_working.proofs.SumsMoved.{setting-sums}
+use Rattle.memory_working.proofs.Handing.{handed, accepted-as, ready-as}
+use Rattle.memory_working.proofs.Changing.{new-is}
+use Rattle.memory_working.proofs.SumsMoved.{setting-done}
 use Rattle.memory_working.proofs.work.Statement.{statement}
 use Rattle.memory_working.proofs.work.Tie as tie
 
@@ -25,66 +24,41 @@ block : (c : tie.After-known-told3) → let f = c .before .e3 .given .0 in
 block c = handed (Block (c .before .e3 .given .0 .0)) (c .before .e3 .given .1) (record { sfits = c .known-told3 .given .1 .0 .1 })
 
 -- a NEW enters the order that the judge hands on
-entering : (c : tie.After-known-told4) → let a = c .before .before .before .before .before .args in a .e ≡ newOf (a .o)
+entering : (c : tie.After-known-told4) → let a = c .before .before .before .before .before .args in
+    a .e ≡ newOf (c .before .e4 .given .0 .1 .1 .1 .0) (a .w .0)
 entering c =
     let is = c .before .e4 .given .1 in
     is ∙ new-is (ready-as is (c .before .before .before .before .before .pre .0))
 
--- a change is one of the order that the judge hands on
-changing : (c : tie.After-known-told5)
-    → let a = c .before .before .before .before .before .args in
-    a .e ≡ Change (a .o .id) (c .before .e5 .given .0 .1 .0)
-changing c =
-    let is = c .before .e5 .given .1 in
-    is ∙ change-is (ready-as is (c .before .before .before .before .before .pre .0))
-
 enter-requires : tie.Need-enter-requires
-unfolding newOrder
 enter-requires c κs =
     let told = c .before .before in
     let pre = told .before .before .before .before .before .pre in
-    let named = ready-as (told .before .e4 .given .1) (pre .0) .named .1 in
-    let same : _ ≡ told .before .e4 .given .0 .1 .1 .1 .0 = ap (λ x. x .id) named in
-    (ready-as (entering told) (pre .0), pre .1, rw same (told .known-told4 .given .1 .1 .1 .0 .1))
+    (ready-as (entering told) (pre .0), pre .1)
 
 change-order-requires : tie.Need-change-order-requires
 change-order-requires c κs =
     let told = c .before .before in
     let pre = told .before .before .before .before .before .pre in
-    (ready-as (changing told) (pre .0), pre .1)
+    (ready-as (told .before .e5 .given .1) (pre .0), pre .1)
 
 returns : tie.Need-returns
 returns c =
     let known = c .before .before .before .before .before .before .before .before in
-    let pre = known .before .pre in
-    let is = c .before .before .before .before .before .e .given .1 in
-    let stored = c .before .before .work-limit .ensures in
-    let ready = accepted-as is (pre .0) in (
-      done-as _ is stored,
-      setting-sums _ (λ i. known .slice-known .given i .fits) (ready .held) (ready .accepted) tt stored (pre .1),
-    )
+    setting-done (λ i. known .slice-known .given i .fits) (c .before .before .before .before .before .e .given .1) (known .before .pre .0)
+    tt (c .before .before .work-limit .ensures) (known .before .pre .1)
 
 returns-2 : tie.Need-returns-2
 returns-2 c =
     let known = c .before .before .before .before .before .before .before .before in
-    let pre = known .before .pre in
-    let is = balance (c .before .before .before .before) in
-    let stored = c .before .before .work-balance .ensures in
-    let ready = accepted-as is (pre .0) in (
-      done-as _ is stored,
-      setting-sums _ (λ i. known .slice-known .given i .fits) (ready .held) (ready .accepted) tt stored (pre .1),
-    )
+    setting-done (λ i. known .slice-known .given i .fits) (balance (c .before .before .before .before)) (known .before .pre .0) tt
+    (c .before .before .work-balance .ensures) (known .before .pre .1)
 
 returns-3 : tie.Need-returns-3
 returns-3 c =
     let known = c .before .before .before .before .before .before .before .before in
-    let pre = known .before .pre in
-    let is = block (c .before .before .before .before) in
-    let stored = c .before .before .work-block .ensures in
-    let ready = accepted-as is (pre .0) in (
-      done-as _ is stored,
-      setting-sums _ (λ i. known .slice-known .given i .fits) (ready .held) (ready .accepted) tt stored (pre .1),
-    )
+    setting-done (λ i. known .slice-known .given i .fits) (block (c .before .before .before .before)) (known .before .pre .0) tt
+    (c .before .before .work-block .ensures) (known .before .pre .1)
 
 returns-4 : tie.Need-returns-4
 returns-4 c =
@@ -94,7 +68,7 @@ returns-4 c =
 returns-5 : tie.Need-returns-5
 returns-5 c =
     let done = c .before .before .before .before in
-    (rw (changing (done .before .before .before)) (done .change-order .ensures .0), done .change-order .ensures .1)
+    (rw (done .before .before .before .before .e5 .given .1) (done .change-order .ensures .0), done .change-order .ensures .1)
 
 returns-6 : tie.Need-returns-6
 unfolding worked

@@ -1,11 +1,12 @@
--- Each field is read from its bits of the detail, as `orderOf` does; filled and remaining are below 2^27, so the total fits.
+-- The record's two words are the id and the detail, and the order is theirs.
 use borrow.Author.Needs.{needs}
-use Rattle.ledger.specs.Records.{orderOf, orderAt}
+use Rattle.ledger.specs.Records.{orderAt}
 use Rattle.ledger.proofs.records.load.Statement.{statement}
 use Rattle.ledger.proofs.records.load.Tie as tie
 
+returns : tie.Need-returns
+unfolding orderAt
+returns c = cc
+
 pub load-spec : {M : Type 1} → statement M
-unfolding orderAt orderOf
-load-spec =
-    tie.close (tie.spec (λ c κs. search needs) (λ c κs. search needs) (λ c κs. search needs) (λ c κs. search needs) (λ c κs. search needs)
-    (λ c κs. search needs) (λ c κs. search needs) (λ c. search needs) (λ c. cc))
+load-spec = tie.close (tie.spec (λ c κs. search needs) (λ c κs. search needs) (λ c κs. search needs) returns)

@@ -5,6 +5,7 @@ use borrow.Author.Needs.{needs}
 use mir.Syntax.{w64}
 use mir.Val.{SFits}
 use mir.ValLaws.{toZ-ofZ}
+use Rattle.ledger.specs.Records.{orderOf}
 use Rattle.limits.specs.Questions.{firstNo}
 use Rattle.limits.specs.Answers.{numberOf}
 use Rattle.book.specs.declared.OrderChange.{OrderChange}
@@ -29,34 +30,36 @@ fill-whole c = sym (ap changeInRange (c .before .change2 .given .1)) ∙ c .befo
 
 replaced-requires : tie.Need-replaced-requires
 replaced-requires c κs =
-    let s = c .before .before .before .before .before in
-    let n = c .before .change .given .0 .0 in
-    rw (toZ-ofZ w64 n (replace-fits c))
-    (record { held = s .pre .0 .held; found = s .pre .0 .found; small = quantity-numbered n (replace-whole c) .1 }, s .pre .1)
+    let told = c .before in
+    let s = told .before .before .before .before .before in
+    let n = told .before .change .given .0 .0 in
+    rw (c .order .ensures, toZ-ofZ w64 n (replace-fits told))
+    (record { held = s .pre .0 .held; found = s .pre .0 .found; small = quantity-numbered n (replace-whole told) .1 }, s .pre .1)
 
 returns : tie.Need-returns
 unfolding changeFrom12
 returns c =
-    let told = c .before in
+    let told = c .before .before in
     let a = told .before .before .before .before .before .args in
-    rw (toZ-ofZ w64 (told .before .change .given .0 .0) (replace-fits told)) at (c .replaced .ensures)
-    ∙ sym (ap (λ (x : OrderChange). firstNo (changeFrom12 (a .m .now) (a .o) x)) (told .before .change .given .1))
+    rw (c .before .order .ensures, toZ-ofZ w64 (told .before .change .given .0 .0) (replace-fits told)) at (c .replaced .ensures)
+    ∙ sym (ap (λ (x : OrderChange). firstNo (changeFrom12 (a .m .now) (orderOf (a .id) (a .w .0)) x)) (told .before .change .given .1))
 
 returns-2 : tie.Need-returns-2
 unfolding changeFrom12 firstNo numberOf
 returns-2 c =
     let a = c .before .before .before .before .args in
-    sym (ap (λ (x : OrderChange). firstNo (changeFrom12 (a .m .now) (a .o) x)) (c .enum-told .given .1))
+    sym (ap (λ (x : OrderChange). firstNo (changeFrom12 (a .m .now) (orderOf (a .id) (a .w .0)) x)) (c .enum-told .given .1))
 
 returns-3 : tie.Need-returns-3
 unfolding changeFrom12 firstNo
 returns-3 c =
     let told = c .before in
     let a = told .before .before .before .before .before .args in
-    rw (toZ-ofZ w64 (told .before .change2 .given .0 .0) (fill-fits told)) at (c .filled .ensures)
-    ∙ sym (ap (λ (x : OrderChange). firstNo (changeFrom12 (a .m .now) (a .o) x)) (told .before .change2 .given .1))
+    rw (toZ-ofZ w64 (told .before .change2 .given .0 .0) (fill-fits told)) at (c .filled .ensures (a .id))
+    ∙ sym (ap (λ (x : OrderChange). firstNo (changeFrom12 (a .m .now) (orderOf (a .id) (a .w .0)) x)) (told .before .change2 .given .1))
 
 pub change-answer-spec : {M : Type 1} → statement M
 change-answer-spec =
-    tie.close (tie.spec (λ c. search needs) (λ c. quantity-cast _ (replace-fits c) (replace-whole c)) replaced-requires (λ c. search needs)
+    tie.close (tie.spec (λ c. search needs) (λ c κs. search needs)
+    (λ c. quantity-cast _ (replace-fits (c .before)) (replace-whole (c .before))) replaced-requires (λ c. search needs)
     (λ c. search needs) (λ c. quantity-cast _ (fill-fits c) (fill-whole c)) (λ c κs. search needs) returns returns-2 returns-3)

@@ -6,21 +6,24 @@ use native.Mathlib.Omega.{arith}
 use borrow.Author.Needs.{needs}
 use borrow.Author.Tests.{le-leb, lt-leb}
 use Rattle.ledger.specs.Orders.{remaining}
+use Rattle.ledger.specs.Records.{orderOf}
 use Rattle.limits.specs.Answers.{numberOf}
 use Rattle.memory_judging.proofs.changes.filled.Statement.{statement}
 use Rattle.memory_judging.proofs.changes.filled.Tie as tie
 
 returns : tie.Need-returns
 unfolding numberOf
-returns c =
+returns c id =
     let a = c .before .before .args in
-    sym (ap (λ (t : Bool). cond {A = ℕ} t 0 12) (le-leb (a .quantity) (remaining (a .o)) (omega (arith, c .before .remaining .ensures))))
+    let left = remaining (orderOf id (a .w .0)) in
+    sym (ap (λ (t : Bool). cond {A = ℕ} t 0 12) (le-leb (a .quantity) left (omega (arith, c .before .remaining .ensures id))))
 
 returns-2 : tie.Need-returns-2
 unfolding numberOf
-returns-2 c =
+returns-2 c id =
     let a = c .before .before .args in
-    sym (ap (λ (t : Bool). cond {A = ℕ} t 0 12) (lt-leb (a .quantity) (remaining (a .o)) (omega (arith, c .before .remaining .ensures))))
+    let left = remaining (orderOf id (a .w .0)) in
+    sym (ap (λ (t : Bool). cond {A = ℕ} t 0 12) (lt-leb (a .quantity) left (omega (arith, c .before .remaining .ensures id))))
 
 pub filled-spec : {M : Type 1} → statement M
 filled-spec = tie.close (tie.spec (λ c κs. search needs) returns returns-2)

@@ -1,19 +1,23 @@
--- 9, then 11 by the search, then the rest asked of the order loaded from the place that the search found.
-use mathlib.Core.Path.{_≡_, sym, _∙_}
+-- 9, then 11 by the search, then the rest asked of the order whose detail is loaded from the place that the search found.
+use mathlib.Core.Path.{_≡_, sym, ap, _∙_}
 use mathlib.Core.Bool.{true}
+use mathlib.Core.Option.{some}
 use native.Mathlib.Omega.{arith}
 use borrow.Author.Needs.{needs}
 use Rattle.ledger.specs.declared.find.Found.the-variants.{At}
 use Rattle.ledger.specs.Orders.{placeFrom}
+use Rattle.ledger.specs.Records.{orderOf}
 use Rattle.limits.specs.declared.answer.Answer.the-variants.{FigureOutOfRange, OrderNotFound}
 use Rattle.limits.specs.Answers.{numberOf}
 use Rattle.book.specs.Table.{changeInRange}
 use Rattle.memory_layout.specs.View.{openOrders}
+use Rattle.memory_layout.specs.Stores.{orderIn}
+use Rattle.memory_layout.proofs.ViewOrders.{found-order, found-id}
 use Rattle.memory_soundness.proofs.Asked.{answered-no, answered-yes}
 use Rattle.memory_soundness.proofs.SoundDesk.{sound-records}
 use Rattle.memory_judging.proofs.Verdicts.{refused}
 use Rattle.memory_judging.proofs.ByKind.{change-figure, change-none, change-found}
-use Rattle.memory_judging.proofs.Places.{sound-ranked, found-order, order-named, place-small, no-order}
+use Rattle.memory_judging.proofs.Places.{sound-ranked, place-small, no-order}
 use Rattle.memory_judging.proofs.changes.judge_change.Statement.{statement}
 use Rattle.memory_judging.proofs.changes.judge_change.Tie as tie
 
@@ -31,25 +35,32 @@ returns c =
     refused FigureOutOfRange (c .plain .ensures) (change-figure _ _ _
     (answered-no _ _ (c .before .before .change-in-range .ensures) (c .before .if1 .taken))) (omega arith)
 
-load-order-requires : tie.Need-load-order-requires
-load-order-requires c κs =
+detail-at-requires : tie.Need-detail-at-requires
+detail-at-requires c κs =
     let s = c .before .before .before .before .before .before .before .before in
     (sound-records _ (s .pre .0), place-small _ _ (s .pre .0) _ (found (c .before)))
 
+loaded : (c : tie.After-detail-at)
+    → let p = c .before .before in
+    let a = p .before .before .before .before .before .before .before .args in
+    orderOf (a .id) (c .detail-at .result .0) ≡ orderIn (a .m .now) (p .p .given .0 .0)
+loaded c = ap (λ id. orderOf id (c .detail-at .result .0)) (sym (found-id _ _ _ (found (c .before .before)))) ∙ c .detail-at .ensures
+
 change-answer-requires : tie.Need-change-answer-requires
+unfolding orderOf
 change-answer-requires c κs =
     let p = c .before .before in
     let one = p .before .before .before in
     let s = one .before .before .before .before in
-    (rw (c .load-order .ensures) (record { held = s .pre .0; found = order-named _ _ _ (found p); figures = whole one }), s .pre .1)
+    let there = found-order _ _ _ (found p) ∙ ap some (sym (loaded c)) in
+    (record { held = s .pre .0; found = there; figures = whole one }, s .pre .1)
 
 returns-2 : tie.Need-returns-2
 returns-2 c =
     let p = c .before .before .before in
     let one = p .before .before .before in (
-      rw (c .before .load-order .ensures) at (c .change-answer .ensures)
-          ∙ sym (change-found _ _ _ _ (whole one) (found-order _ _ _ (found p))),
-      λ z. (found p, c .before .load-order .ensures),
+      rw (loaded (c .before)) at (c .change-answer .ensures) ∙ sym (change-found _ _ _ _ (whole one) (found-order _ _ _ (found p))),
+      λ z. (found p, loaded (c .before)),
     )
 
 returns-3 : tie.Need-returns-3
@@ -62,5 +73,5 @@ returns-3 c =
 pub judge-change-spec : {M : Type 1} → statement M
 judge-change-spec =
     tie.close (tie.spec (λ c κs. search needs) (λ c κs. search needs) returns
-    (λ c κs. sound-ranked _ (c .before .before .before .before .pre .0)) (λ c. search needs) load-order-requires
+    (λ c κs. sound-ranked _ (c .before .before .before .before .pre .0)) (λ c. search needs) detail-at-requires
     change-answer-requires (λ c. search needs) (λ c κs. search needs) returns-2 returns-3)

@@ -17,6 +17,7 @@ use Rattle.memory_judging.proofs.HandedOn.{test-handed-on, quantity-cas
 use Rattle.memory_judging.proofs.Verdicts.{refused}
 use Rattle.memory_judging.proofs.ByKind.{new-answer}
 use Rattle.memory_judging.proofs.Places.{sound-ranked}
+use Rattle.memory_judging.proofs.Rises.{fresh-storable}
 use Rattle.memory_judging.proofs.entries.judge_new.Statement.{statement}
 use Rattle.memory_judging.proofs.entries.judge_new.Tie as tie
 
@@ -87,16 +88,17 @@ new-order-requires c κs =
 returns-4 : tie.Need-returns-4
 unfolding newOrder
 returns-4 c =
-    let three = c .before .before in
+    let three = c .before .before .before in
     let two = three .before .before in
     let one = two .before .before in
     let s = one .before .before .before .before in (
-      rw (toZ-ofZ w64 (s .args .quantity) (s .fits .quantity)) at (c .new-order .ensures)
+      rw (toZ-ofZ w64 (s .args .quantity) (s .fits .quantity)) at (c .before .new-order .ensures)
           ∙ sym (new-answer _ _ _ _ _ _ true true true (known one) (listed two) (whole three)),
-      λ z. (c .before .place .ensures, rw (toZ-ofZ w64 (s .args .quantity) (s .fits .quantity))),
+      λ z. (c .before .before .place .ensures, c .of .ensures ∙ rw (toZ-ofZ w64 (s .args .quantity) (s .fits .quantity))),
     )
 
 pub judge-new-spec : {M : Type 1} → statement M
 judge-new-spec =
     tie.close (tie.spec (λ c κs. search needs) (λ c κs. search needs) returns (λ c κs. search needs) (λ c κs. search needs) returns-2
-    (λ c κs. search needs) (λ c κs. search needs) returns-3 cast-t15 place-requires new-order-requires returns-4)
+    (λ c κs. search needs) (λ c κs. search needs) returns-3 cast-t15 place-requires new-order-requires
+    (λ c κs. fresh-storable _ _ (new-order-requires (c .before) (c .new-order .lifetimes) .0)) returns-4)

@@ -3,6 +3,7 @@
 use Prim.Native.Nat.{_+_, _<_}
 use native.Mathlib.Omega.{arith}
 use borrow.Author.Needs.{needs}
+use Rattle.ledger.specs.Records.{orderOf}
 use Rattle.memory_layout.proofs.Lengths.{rank-open}
 use Rattle.memory_layout.proofs.ListChanges.{joined-by}
 use Rattle.memory_layout.proofs.FirstRecord.{joined-small}
@@ -17,7 +18,7 @@ make-room-requires c κs =
       read .word .ensures,
       omega (
         arith,
-        rank-open (start .args .m .now) (start .args .o .id),
+        rank-open (start .args .m .now) (start .args .id),
         start .pre .2,
         read .word .ensures,
       ),
@@ -34,17 +35,17 @@ inside c =
       arith,
       room .make-room .ensures .0,
       joined-small (start .args .m .now) (start .args .p) (start .pre .0 .first),
-      rank-open (start .args .m .now) (start .args .o .id),
+      rank-open (start .args .m .now) (start .args .id),
       start .pre .1,
       start .pre .2,
     )
 
 put-order-requires : tie.Need-put-order-requires
 put-order-requires c κs =
-    let room = c .before .before .before in
-    (search needs, inside c, room .before .before .before .before .before .pre .3)
+    (search needs, inside c)
 
 returns : tie.Need-returns
+unfolding orderOf
 returns c =
     let counted = c .before .before in
     let placed = counted .before .before .before .before in
@@ -53,8 +54,9 @@ returns c =
     let read = room .before .before in
     let known = read .before .before in
     let start = known .before in
+    let o = orderOf (start .args .id) (start .args .w .0) in
     rw (← room .make-room .ensures .0)
-    (joined-by (start .args .m .now) (λ i. known .slice-known .given i .fits) (start .pre .0) _ _ _ _ _ _ _ _
+    (joined-by (start .args .m .now) (λ i. known .slice-known .given i .fits) (start .pre .0) o _ _ _ _ _ _ _
     (read .word .ensures) (start .pre .2) (room .make-room .ensures .1) (put .put-order .ensures) (placed .set-word .ensures)
     (counted .set-word2 .ensures))
 

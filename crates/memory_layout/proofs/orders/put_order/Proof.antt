@@ -1,15 +1,19 @@
 -- The two words written, the id and the detail, are the fields of the order's record, in the definition's order.
 use borrow.Author.Needs.{needs}
 use Rattle.words.specs.Words.{putWords}
+use Rattle.ledger.proofs.Packing.{detail-again}
+use Rattle.ledger.proofs.Details.{id-of}
 use Rattle.memory_layout.specs.Stores.{fields, putOrder}
 use Rattle.memory_layout.proofs.orders.put_order.Statement.{statement}
 use Rattle.memory_layout.proofs.orders.put_order.Tie as tie
 
 returns : tie.Need-returns
 unfolding putOrder fields putWords
-returns c = cc
+returns c =
+    let start = c .before .before .before .before .before .before .before .before .before in
+    cc (detail-again (start .args .id) (start .args .w .0), id-of (start .args .id) (start .args .w .0))
 
 pub put-order-spec : {M : Type 1} → statement M
 put-order-spec =
     tie.close (tie.spec (λ c. search needs) (λ c. search needs) (λ c κs. search needs) (λ c. search needs) (λ c κs. search needs)
-    (λ c κs. search needs) (λ c. search needs) returns)
+    (λ c. search needs) returns)

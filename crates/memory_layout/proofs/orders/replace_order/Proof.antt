@@ -1,8 +1,6 @@
 -- The order's record is first + p, and writing it stores the list with place p set (`changed`); nothing else moves.
-use mathlib.Core.Path.{_∙_, ap}
-use Prim.Native.Nat.{_+_}
+use mathlib.Core.Path.{_∙_}
 use borrow.Author.Needs.{needs}
-use Rattle.memory_layout.specs.Stores.{putOrder}
 use Rattle.memory_layout.proofs.ListChanges.{changed}
 use Rattle.memory_layout.proofs.orders.replace_order.Statement.{statement}
 use Rattle.memory_layout.proofs.orders.replace_order.Tie as tie
@@ -15,8 +13,7 @@ returns c =
     let start = known .before in
     let m = start .args .m .now in
     put .put-order .ensures
-    ∙ ap (λ f. putOrder m (f + start .args .p) (start .args .o)) (read .first-of .ensures)
-    ∙ changed m (λ i. known .slice-known .given i .fits) (start .pre .0) _ (start .pre .1) _
+    ∙ rw (read .first-of .ensures) (changed m (λ i. known .slice-known .given i .fits) (start .pre .0) _ (start .pre .1) _)
 
 pub replace-order-spec : {M : Type 1} → statement M
 replace-order-spec =

@@ -11,7 +11,8 @@ recount-requires : tie.Need-recount-requires
 recount-requires c κs =
     let known = c .before .before in
     let start = known .before .before in
-    rw (c .remaining .ensures) (recountable (start .pre .0 .held) (start .pre .1)
+    let id = start .args .id in
+    rw (c .remaining .ensures id) (recountable id _ (start .pre .0 .held) (start .pre .1)
     (change-sums (λ i. known .before .slice-known .given i .fits) (start .pre .0)))
 
 remove-order-requires : tie.Need-remove-order-requires
@@ -22,10 +23,11 @@ returns c =
     let counted = c .before .before .before .before .before .before in
     let known = counted .before .before .before in
     let start = known .before .before in
+    let id = start .args .id in
     let stored = cancelled (start .pre .0) _ (c .before .before .remove-order .ensures) in (
       stored,
       rw stored
-          (counted .recount .ensures _ _ (start .pre .1) (rw (counted .before .remaining .ensures)
+          (counted .recount .ensures id _ _ (start .pre .1) (rw (counted .before .remaining .ensures id)
           (change-sums (λ i. known .before .slice-known .given i .fits) (start .pre .0)))),
     )
 

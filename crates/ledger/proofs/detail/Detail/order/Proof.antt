@@ -1,0 +1,14 @@
+-- Each field is read from its bits of the detail, as `orderOf` does; filled and remaining are below 2^27, so the total fits.
+use borrow.Author.Needs.{needs}
+use Rattle.ledger.specs.Records.{orderOf}
+use Rattle.ledger.proofs.detail.Detail.order.Statement.{statement}
+use Rattle.ledger.proofs.detail.Detail.order.Tie as tie
+
+returns : tie.Need-returns
+unfolding orderOf
+returns c = cc
+
+pub order-spec : {M : Type 1} → statement M
+order-spec =
+    tie.close (tie.spec (λ c κs. search needs) (λ c κs. search needs) (λ c κs. search needs) (λ c κs. search needs) (λ c κs. search needs)
+    (λ c. search needs) returns)

@@ -1,0 +1,12 @@
+-- What remains of the order of any id is what the upper bits say (`remaining-of`).
+use mathlib.Core.Path.{_∙_, sym}
+use borrow.Author.Needs.{needs}
+use Rattle.ledger.proofs.Details.{remaining-of}
+use Rattle.ledger.proofs.detail.Detail.remaining.Statement.{statement}
+use Rattle.ledger.proofs.detail.Detail.remaining.Tie as tie
+
+returns : tie.Need-returns
+returns c id = c .remaining-of .ensures ∙ sym (remaining-of id _)
+
+pub remaining-spec : {M : Type 1} → statement M
+remaining-spec = tie.close (tie.spec (λ c κs. search needs) returns)
