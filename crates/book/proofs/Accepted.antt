@@ -53,34 +53,33 @@ module _ (k : State) (e : Event) where
   unfolding questionsBefore
   counted = omega arith
 
-  pub passes-each : allPass (questionsBefore k e) ≡ true → Passed k e
-  unfolding questionsBefore
-  passes-each h =
-      let yes = passed (questionsBefore k e) h in
-      record {
-        event = yes 6;
-        account = yes 7;
-        item = yes 8;
-        figures = yes 9;
-        idle = yes 10;
-        found = yes 11;
-        quantity = yes 12;
-        fresh = yes 13;
-        limits = yes 17;
-        room = yes 18;
-      }
-
   -- past the questions before the position limits, the answer is theirs
   pub answer-after : allPass (questionsBefore k e) ≡ true → answer k e ≡ firstNo (limitQuestions k e)
   unfolding answer
   answer-after h = append-passed (questionsBefore k e) (limitQuestions k e) h
 
   pub accepted : answer k e ≡ 0 → Accepted k e
-  unfolding answer
-  accepted z = record { passed = passes-each (both .0); within = inside }
+  unfolding answer questionsBefore
+  accepted z = record { passed = each; within = inside }
     where
       both : (allPass (questionsBefore k e) ≡ true) × (firstNo (limitQuestions k e) ≡ 0)
       both = append-zero (questionsBefore k e) (limitQuestions k e) counted z
+
+      each : Passed k e
+      each =
+          let yes = passed (questionsBefore k e) (both .0) in
+          record {
+            event = yes 6;
+            account = yes 7;
+            item = yes 8;
+            figures = yes 9;
+            idle = yes 10;
+            found = yes 11;
+            quantity = yes 12;
+            fresh = yes 13;
+            limits = yes 17;
+            room = yes 18;
+          }
 
       inside : (o : Order) → entered (k .book) e ≡ some o → (p : Scope) (w : Way) → Moves (k .roster) o p w
           → potentialOf (work k e) (o .account) p w ≤ℤ limitOf (work k e) (o .account) p w

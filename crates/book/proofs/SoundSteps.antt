@@ -4,19 +4,20 @@ use Prim.Native.Nat.{ℕ}
 use mathlib.Core.Path.{_≡_, sym, _∙_}
 use mathlib.Core.Logic.{_≢_, by-cases}
 use mathlib.Core.Bool.{true≢false}
-use mathlib.Core.List.{[], List·Memᴰ, List·Memᴰ·not-nil}
+use mathlib.Core.List.{List·Memᴰ, List·Memᴰ·not-nil}
 use native.Mathlib.Decide.{ℕ-discrete}
 use native.Mathlib.Omega.{arith}
 use lib.IntN.{ℤ, pos, negℤ}
 use lib.Signed.{_≤ℤ_}
 use borrow.Author.Tests.{not-true}
-use Rattle.integers.specs.Parts.{signed, negation-parts, sum-parts}
+use Rattle.integers.specs.Parts.{signed, negation-parts}
 use Rattle.ledger.specs.declared.order.Order.{Order}
 use Rattle.ledger.specs.Roster.{Roster}
-use Rattle.ledger.specs.Positions.{Way, long, short, instrument, toward, sideTo, openOn, ofInstrument, potential, position}
+use Rattle.ledger.specs.Positions.{Way, long, short, instrument, toward, sideTo, ofInstrument, potential, position}
 use Rattle.ledger.proofs.Sums.{open-none}
 use Rattle.ledger.proofs.Changes.{idle}
 use Rattle.ledger.proofs.Ways.{zero-toward}
+use Rattle.ledger.proofs.Linear.{linear}
 use Rattle.limits.proofs.LineLaws.{none-some}
 use Rattle.book.specs.declared.Event.{Event}
 use Rattle.book.specs.declared.Event.the-variants.{Limit, Balance, Block, New, Change, Junk}
@@ -45,12 +46,7 @@ sound-empty mk r fits =
       fits = λ o m. absurd (List·Memᴰ·not-nil m);
       ids = nothing;
       bounded =
-          λ a i w. omega (
-            signed,
-            zero-toward w,
-            open-none (mk .unit) (sideTo w) a i,
-            sum-parts (toward w (pos 0)) (openOn (mk .unit) [] (sideTo w) a i),
-          );
+          λ a i w. omega (linear, zero-toward w, open-none (mk .unit) (sideTo w) a i);
       marked = λ o m. absurd (List·Memᴰ·not-nil m);
     }
 
