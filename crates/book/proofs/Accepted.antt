@@ -11,7 +11,7 @@ use Rattle.ledger.specs.Positions.{Way, Scope}
 use Rattle.ledger.specs.Moves.{Moves}
 use Rattle.limits.specs.Questions.{firstNo, allPass}
 use Rattle.limits.specs.Asked.{limitsSet, positionQuestions}
-use Rattle.limits.proofs.Answers.{Counted, passed, append-zero, append-passed, never-answered}
+use Rattle.limits.proofs.Answers.{passed, append-zero, append-passed, never-answered}
 use Rattle.limits.proofs.Refusals.{accepted-within}
 use Rattle.book.specs.declared.Event.{Event}
 use Rattle.book.specs.States.{State, work}
@@ -49,10 +49,6 @@ unfolding limitQuestions
 limits-of k e o enters = rw enters
 
 module _ (k : State) (e : Event) where
-  counted : Counted (questionsBefore k e)
-  unfolding questionsBefore
-  counted = omega arith
-
   -- past the questions before the position limits, the answer is theirs
   pub answer-after : allPass (questionsBefore k e) ≡ true → answer k e ≡ firstNo (limitQuestions k e)
   unfolding answer
@@ -63,7 +59,7 @@ module _ (k : State) (e : Event) where
   accepted z = record { passed = each; within = inside }
     where
       both : (allPass (questionsBefore k e) ≡ true) × (firstNo (limitQuestions k e) ≡ 0)
-      both = append-zero (questionsBefore k e) (limitQuestions k e) counted z
+      both = append-zero (questionsBefore k e) (limitQuestions k e) (omega arith) z
 
       each : Passed k e
       each =

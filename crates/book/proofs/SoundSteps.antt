@@ -82,18 +82,15 @@ module _ (k : State) (sound : Sound k) where
       (λ _. rw (idle (k .market .unit) (k .roster) a (k .book .orders) (k .book .balanceOf a) (instrument j) w free)
       at (sound .bounded a j w)))
 
-  in-range : (a i : ℕ) (w : Way) → potentialOf k a (instrument i) w ≤ℤ pos (k .market .largest)
-  unfolding potential
-  in-range a i w = sound .bounded a i w
-
   pub bounded-after : (e : Event) → Accepted k e → (a i : ℕ) (w : Way)
       → potentialOf (work k e) a (instrument i) w ≤ℤ pos (k .market .largest)
+  unfolding potential
   bounded-after e acc a i w = by e acc
     where
       keep : (e : Event) → Accepted k e → SetsNoBalance a e → potentialOf (work k e) a (instrument i) w ≤ℤ pos (k .market .largest)
       keep e acc free =
           kept-within k a (instrument i) w (pos (k .market .largest)) e acc free
-          (limit-fits (k .roster) (k .book .linesOf a) (k .market .largest) (sound .lines a) i w) (in-range a i w)
+          (limit-fits (k .roster) (k .book .linesOf a) (k .market .largest) (sound .lines a) i w) (sound .bounded a i w)
 
       by : (e : Event) → Accepted k e → potentialOf (work k e) a (instrument i) w ≤ℤ pos (k .market .largest)
       by (Limit c l) acc = keep (Limit c l) acc tt

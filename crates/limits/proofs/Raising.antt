@@ -41,10 +41,9 @@ module _ (n : ℕ) (o : Order) (before after : List Order) where
 module _ (o : Order) (before after : List Order) where
   -- NEW: order o joins
   pub raised-by-new : Joined o before after → Raised (remaining o) o before after
-  raised-by-new joined = shift-raised (remaining o) o before after 0 (rw e (entered one o before after joined))
-    where
-      e : 0 + remaining o ≡ remaining o
-      e = omega arith
+  raised-by-new joined =
+      let e : 0 + remaining o ≡ remaining o = omega arith in
+      shift-raised (remaining o) o before after 0 (rw e (entered one o before after joined))
 
   -- REPLACE: order o gets a larger total
   pub raised-by-replace : (total : ℕ) → o .filled ≤ o .total → o .total ≤ total → Changed o (replacedTotal o total) before after
