@@ -1,4 +1,4 @@
--- What each kind of accepted event does to each potential position.
+-- What an accepted BALANCE, NEW, REPLACE, CANCEL or FILL does to each potential position; no other kind moves any.
 use Prim.Native.Nat.{ℕ, _+_, _*_, _-_, _≤_}
 use mathlib.Core.Path.{_≡_, refl, _∙_, ap}
 use mathlib.Core.Logic.{_≢_}
