@@ -96,26 +96,22 @@ module _ (D : Desk) (m₀ : D .Memory) (k₀ : State) where
       )
 
   pub in-full : Demand3At D m₀ k₀ ↔ InFull
-  in-full = (there, back)
-    where
-      there : Demand3At D m₀ k₀ → InFull
-      there d events n o enters passes =
-          let so = d events n o (judged-iff (keptAt events) n o .1 (enters, passes)) in (
-            so .refused,
-            λ zero p w moves later out.
-                let h = so .accepted zero p w moves later (none-later events n (o .account) p later .1 out) in
-                subst (λ (x : State). Keeps (keptAt events) x (o .account) p w) (sym (state-past D m₀ k₀ events n later))
-                (h .same, h .stands, h .filled),
-          )
-
-      back : InFull → Demand3At D m₀ k₀
-      back full events n o j =
-          let so = full events n o (j .enters) (j .passes) in
-          record {
-            refused = so .0;
-            accepted = λ zero p w moves later out.
-                let h = so .1 zero p w moves later (none-later events n (o .account) p later .0 out) in
-                let h′ = subst (λ (x : State). Keeps (keptAt events) x (o .account) p w) (state-past D m₀ k₀ events n later)
-                h in
-                record { same = h′ .0; stands = h′ .1; filled = h′ .2 };
-          }
+  in-full = (
+    λ d events n o enters passes.
+        let so = d events n o (judged-iff (keptAt events) n o .1 (enters, passes)) in (
+          so .refused,
+          λ zero p w moves later out.
+              let h = so .accepted zero p w moves later (none-later events n (o .account) p later .1 out) in
+              subst (λ (x : State). Keeps (keptAt events) x (o .account) p w) (sym (state-past D m₀ k₀ events n later))
+              (h .same, h .stands, h .filled),
+        ),
+    λ full events n o j.
+        let so = full events n o (j .enters) (j .passes) in
+        record {
+          refused = so .0;
+          accepted = λ zero p w moves later out.
+              let h = so .1 zero p w moves later (none-later events n (o .account) p later .0 out) in
+              let h′ = subst (λ (x : State). Keeps (keptAt events) x (o .account) p w) (state-past D m₀ k₀ events n later) h in
+              record { same = h′ .0; stands = h′ .1; filled = h′ .2 };
+        },
+  )

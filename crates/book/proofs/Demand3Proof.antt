@@ -15,14 +15,12 @@ use Rattle.ledger.specs.Positions.{Scope, Way}
 use Rattle.ledger.specs.Moves.{Moves}
 use Rattle.ledger.proofs.Upper.{upper, upper-standing}
 use Rattle.limits.specs.Lines.{limit}
-use Rattle.limits.specs.Questions.{firstNo}
 use Rattle.limits.proofs.Refusals.{refused-iff}
 use Rattle.book.specs.declared.Event.{Event}
 use Rattle.book.specs.declared.Event.the-variants.{Limit, Balance, Block, New, Change, Junk}
-use Rattle.book.specs.Books.{Book}
 use Rattle.book.specs.States.{State, work}
 use Rattle.book.specs.Positions.{potentialOf}
-use Rattle.book.specs.Table.{notYetTrading, entered, positionsAfter}
+use Rattle.book.specs.Table.{notYetTrading, entered}
 use Rattle.book.specs.Sound.{Sound}
 use Rattle.book.specs.EventLists.{RawEvent, asEvent, Desk, keep, memoryAfter, stateAfter}
 use Rattle.book.specs.SetAgain.{SetsAgain}
@@ -51,14 +49,9 @@ module _ {D : Desk} (C : Contract D) where
   refused-so : (m : D .Memory) (k : State) (n : RawEvent) (o : Order) → Holds C m k → Judged k n o
       → RefusedExactly k n o (D .answerTo m n)
   refused-so m k n o h j =
-      rw the-answer (refused-iff (k .market .unit) (k .roster) (b .linesOf (o .account)) (b .orders) (b .balanceOf (o .account)) o)
-    where
-      b : Book
-      b = work k (asEvent n) .book
-
-      the-answer : D .answerTo m n ≡ firstNo (positionsAfter (work k (asEvent n)) (some o))
-      the-answer =
-          answers C m k n h ∙ answer-after k (asEvent n) (j .passes) ∙ ap firstNo (limits-of k (asEvent n) o (j .enters))
+      let b = work k (asEvent n) .book in
+      rw (answers C m k n h, answer-after k (asEvent n) (j .passes), limits-of k (asEvent n) o (j .enters))
+      (refused-iff (k .market .unit) (k .roster) (b .linesOf (o .account)) (b .orders) (b .balanceOf (o .account)) o)
 
   -- ---- the second half: a run after N
   -- the account is trading, the limit is still the same, and the potential position is within it
@@ -74,21 +67,17 @@ module _ {D : Desk} (C : Contract D) where
         → Safe a p w figure (D .next m e) (keep k (asEvent e) (D .answerTo m e))
     safe-next m k e s out =
         by-cases (ℕ-discrete (D .answerTo m e) 0)
-        (λ zero. rw (keep-accepted k e (D .answerTo m e) zero) (accepted-so zero))
+        (λ zero.
+        let acc = accepted k (asEvent e) (sym (answers C m k e (s .holds)) ∙ zero) in
+        let le : limitOf k a p w ≤ℤ figure = (let d = s .same in omega signed) in
+        rw (keep-accepted k e (D .answerTo m e) zero) (record {
+          holds = holds-worked C m k e (s .holds) zero;
+          trading = marks-stay (k .beside .trading) (asEvent e) a (s .trading);
+          same = limit-stays k a w (asEvent e) p (out zero) ∙ s .same;
+          within =
+              kept-within k a p w figure (asEvent e) acc (no-balance k a (s .trading) (asEvent e) (acc .passed)) le (s .within);
+        }))
         (λ other. rw (keep-refused k e (D .answerTo m e) other, C .refused m e other) s)
-      where
-        accepted-so : D .answerTo m e ≡ 0 → Safe a p w figure (D .next m e) (work k (asEvent e))
-        accepted-so zero =
-            let acc = accepted k (asEvent e) (sym (answers C m k e (s .holds)) ∙ zero) in
-            let le : limitOf k a p w ≤ℤ figure = (let d = s .same in omega signed) in
-            record {
-              holds = holds-worked C m k e (s .holds) zero;
-              trading = marks-stay (k .beside .trading) (asEvent e) a (s .trading);
-              same = limit-stays k a w (asEvent e) p (out zero) ∙ s .same;
-              within =
-                  kept-within k a p w figure (asEvent e) acc
-                  (no-balance k a (s .trading) (asEvent e) (acc .passed)) le (s .within);
-            }
 
     safe-after : (m : D .Memory) (k : State) (es : List RawEvent) → Safe a p w figure m k → NotSetAgain D m k a p es
         → Safe a p w figure (memoryAfter D m es) (stateAfter D m k es)

@@ -10,12 +10,13 @@ use native.Mathlib.Omega.{arith}
 use lib.Dec.{eqb}
 use lib.IntN.{ℤ, pos, natAbs, _+ℤ_, +ℤ-idr}
 use borrow.Author.Tests.{leb-true}
-use Rattle.integers.specs.Parts.{signed, sum-parts}
+use Rattle.integers.specs.Parts.{sum-parts}
 use Rattle.ledger.specs.declared.order.Order.{Order}
 use Rattle.ledger.specs.Orders.{remaining, filledBy}
 use Rattle.ledger.specs.Positions.{wayOf, standsIn}
 use Rattle.ledger.specs.Fillings.{Filling, none, fill, fillMoves, balanceAfter}
 use Rattle.ledger.proofs.Ways.{by-test, toward-sum}
+use Rattle.ledger.proofs.Linear.{linear}
 use Rattle.book.specs.declared.OrderChange.the-variants.{Fill}
 use Rattle.book.specs.declared.Event.{Event}
 use Rattle.book.specs.OpenOrders.{find, change, kept}
@@ -128,13 +129,11 @@ module _ (unit : Order → ℕ) (same-unit : (o : Order) (n : ℕ) → unit (fil
                 let more = fillMoves unit a i (filledBy o n) m in
                 let first = fillMoves unit a i o n in
                 omega (
-                  signed,
+                  linear,
                   h .1 a S i,
                   after-moved unit a (balanceAfter unit a S f)
                       (λ j. balanceAfter unit a S f j +ℤ fillMoves unit a j o n) (λ j. fillMoves unit a j o n) g i refl,
                   fill-more unit a i o n m (same-unit o n),
-                  sum-parts (balanceAfter unit a S (h .0) i) (fillMoves unit a i o (n + m)),
-                  sum-parts y more,
                   sum-parts x first,
                   sum-parts first more,
                 ),

@@ -14,6 +14,7 @@ use Rattle.integers.specs.Parts.{signed, sum-parts}
 use Rattle.ledger.specs.declared.order.Order.{Order}
 use Rattle.ledger.specs.Orders.{remaining, filledBy}
 use Rattle.ledger.specs.Fillings.{Filling, none, fill, fillMoves, balanceAfter}
+use Rattle.ledger.proofs.Linear.{linear}
 use Rattle.limits.specs.Questions.{firstNo}
 use Rattle.limits.proofs.Answers.{and-true}
 use Rattle.book.specs.declared.OrderChange.the-variants.{Fill}
@@ -45,16 +46,7 @@ pub after-moved : (unit : Order → ℕ) (a : ℕ) (S S′ d : ℕ → ℤ) {os 
 unfolding balanceAfter
 after-moved unit a S S′ d none i e = e
 after-moved unit a S S′ d (fill {o} n most f) i e =
-    let x = balanceAfter unit a S f i in
-    let m = fillMoves unit a i o n in
-    omega (
-      signed,
-      after-moved unit a S S′ d f i e,
-      sum-parts x (d i),
-      sum-parts (balanceAfter unit a S′ f i) m,
-      sum-parts x m,
-      sum-parts (x +ℤ m) (d i),
-    )
+    omega (linear, after-moved unit a S S′ d f i e, sum-parts (balanceAfter unit a S f i) (fillMoves unit a i o n))
 
 -- ---- accepted FILLs, worked one after the other
 abbrev pub fillOf : ℕ → ℤ → Event
@@ -89,8 +81,30 @@ unfolding balanceAfter leaves bookAfter changed remaining
 fills-behind none front k sound whole = record { state = k; fills = done; balances = λ a i. refl; orders = whole }
 fills-behind (fill {o} {orders} n most f) front k sound whole =
     by-cases (ℕ-discrete n 0)
-    (λ e. skipped e (fills-behind f (front ++ (o ∷ [])) k sound (whole ∙ sym (append-assoc front (o ∷ []) orders))))
-    (λ h. filled h (fills-behind f (front ++ kept (filledBy o n)) k₁ (sound₁ h) orders₁))
+    (λ e.
+    let w = fills-behind f (front ++ (o ∷ [])) k sound (whole ∙ sym (append-assoc front (o ∷ []) orders)) in
+    record {
+      state = w .state;
+      fills = w .fills;
+      balances = λ a i.
+          let x = balanceAfter (k .market .unit) a (k .book .balanceOf a) f i in
+          w .balances a i ∙ sym (ap (λ z. x +ℤ z) (ap (fillMoves (k .market .unit) a i o) e ∙ no-fill (k .market .unit) a i o) ∙ +ℤ-idr x);
+      orders =
+          w .orders ∙ append-assoc front (o ∷ []) (leaves f)
+          ∙ ap (λ xs. front ++ (xs ++ leaves f)) (sym (ap (λ m. kept (filledBy o m)) e ∙ kept-whole o (fits .remains)));
+    })
+    (λ h.
+    let sound₁ = sound-step k sound (fillOf (o .id) (pos n)) tt (accepted₁ h) in
+    let w = fills-behind f (front ++ kept (filledBy o n)) k₁ sound₁ orders₁ in
+    record {
+      state = w .state;
+      fills = then (o .id) (pos n) (accepted₁ h) (w .fills);
+      balances =
+          λ a i. w .balances a i
+          ∙ after-moved (k .market .unit) a (k .book .balanceOf a) (k₁ .book .balanceOf a) (λ j. fillMoves (k .market .unit) a j o n) f i
+          (change-balances k (o .id) o found (Fill (pos n)) a i);
+      orders = w .orders ∙ append-assoc front (kept (filledBy o n)) (leaves f);
+    })
   where
     k₁ : State
     k₁ = work k (fillOf (o .id) (pos n))
@@ -109,41 +123,11 @@ fills-behind (fill {o} {orders} n most f) front k sound whole =
         let small : remaining o ≤ o .total = omega arith in
         fill-accepted k (o .id) n o found (omega arith) (omega (arith, fits .total)) most
 
-    sound₁ : n ≢ 0 → Sound (work k (fillOf (o .id) (pos n)))
-    sound₁ h = sound-step k sound (fillOf (o .id) (pos n)) tt (accepted₁ h)
-
     orders₁ : work k (fillOf (o .id) (pos n)) .book .orders ≡ front ++ kept (filledBy o n) ++ orders
     orders₁ =
         ap (change (o .id) (changed (Fill (pos n)))) whole
         ∙ change-between (changed (Fill (pos n))) front o orders (ascending-before front o orders (rw whole at (sound .ids)))
         ∙ sym (append-assoc front (kept (filledBy o n)) orders)
-
-    skipped : n ≡ 0 → Worked k (front ++ (o ∷ [])) f → Worked k front (fill {o = o} n most f)
-    skipped e w =
-        record {
-          state = w .state;
-          fills = w .fills;
-          balances = λ a i.
-              let unit = k .market .unit in
-              let x = balanceAfter unit a (k .book .balanceOf a) f i in
-              w .balances a i ∙ sym (ap (λ z. x +ℤ z) (ap (fillMoves unit a i o) e ∙ no-fill unit a i o) ∙ +ℤ-idr x);
-          orders =
-              w .orders ∙ append-assoc front (o ∷ []) (leaves f)
-              ∙ ap (λ xs. front ++ (xs ++ leaves f)) (sym (ap (λ m. kept (filledBy o m)) e ∙ kept-whole o (fits .remains)));
-        }
-
-    filled : n ≢ 0 → Worked (work k (fillOf (o .id) (pos n))) (front ++ kept (filledBy o n)) f → Worked k front (fill {o = o} n most f)
-    filled h w =
-        record {
-          state = w .state;
-          fills = then (o .id) (pos n) (accepted₁ h) (w .fills);
-          balances =
-              λ a i. w .balances a i
-              ∙ after-moved (k .market .unit) a (k .book .balanceOf a) (k₁ .book .balanceOf a) (λ j. fillMoves (k .market .unit) a j o n) f
-              i
-              (change-balances k (o .id) o found (Fill (pos n)) a i);
-          orders = w .orders ∙ append-assoc front (kept (filledBy o n)) (leaves f);
-        }
 
 pub fills-of : (k : State) → Sound k → (f : Filling (k .book .orders)) → Worked k [] f
 fills-of k sound f = fills-behind f [] k sound refl

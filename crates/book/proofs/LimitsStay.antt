@@ -42,7 +42,7 @@ group-set-again k e a g = (
   λ h. inl (h ∙ ap some (sym (under-group (k .roster) _ a g))),
 )
 
--- ---- the lines after a LIMIT of the account, and of another
+-- ---- the lines after a LIMIT of the account
 module _ (k : State) (a : ℕ) where
   pub lines-own : (l : LimitLine) → work k (Limit a l) .book .linesOf a ≡ setLine l (k .book .linesOf a)
   unfolding bookAfter

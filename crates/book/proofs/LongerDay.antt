@@ -11,7 +11,8 @@ use Rattle.ledger.specs.declared.order.Side.{Side}
 use Rattle.ledger.specs.declared.order.Side.the-variants.{Buy, Sell}
 use Rattle.ledger.specs.Roster.{Roster, Numbered}
 use Rattle.ledger.specs.Positions.{instrument, group, long, short}
-use Rattle.ledger.specs.Fillings.{none, fill}
+use Rattle.ledger.specs.Fillings.{none, fill, Filling}
+use Rattle.ledger.specs.Orders.{remaining}
 use Rattle.book.specs.Market.{derivatives}
 use Rattle.book.specs.States.{State, begun}
 use Rattle.book.specs.Sound.{RosterFits, Sound}
@@ -84,55 +85,37 @@ weighs-less e = let z : _≡_ {A = ℕ} 0 1 = cc in omega arith
 abbrev Exactly : List ℕ → Order → Type 0
 Exactly n o = Past longerRoster morning n o × Refused longerRoster morning n
 
+-- order 7 filled by m, and the order of N by n
+abbrev beside-7 : (o : Order) (m n : ℕ) → m ≤ remaining (order 7 1 Buy 50) → n ≤ remaining o → Filling (order 7 1 Buy 50 ∷ o ∷ [])
+beside-7 o m n h l = fill {o = order 7 1 Buy 50} m h (fill {o = o} n l none)
+
 -- 21: all 50 of order 7 and the 53 of N put instrument 1 at 101, past 100
 too-long : Exactly tooLong (order 8 1 Buy 53)
 unfolding computes
 too-long =
-    both-ways longerRoster morning tooLong longer-fits (order 8 1 Buy 53) (refl, refl) (inl refl) (
-      instrument 1,
-      long,
-      (refl, refl),
-      (
-        fill {o = order 7 1 Buy 50} 50 (omega arith) (fill {o = order 8 1 Buy 53} 53 (omega arith) none),
-        record { lt = tt },
-      ),
-    )
+    both-ways longerRoster morning tooLong longer-fits (order 8 1 Buy 53) (refl, refl) (inl refl)
+    (instrument 1, long, (refl, refl), (beside-7 (order 8 1 Buy 53) 50 53 (omega arith) (omega arith), record { lt = tt }))
 
 -- 22: nothing of order 7 and the 99 of N put it at −101
 too-short : Exactly tooShort (order 8 1 Sell 99)
 unfolding computes
 too-short =
-    both-ways longerRoster morning tooShort longer-fits (order 8 1 Sell 99) (refl, refl) (inr (inl refl)) (
-      instrument 1,
-      short,
-      (refl, refl),
-      (
-        fill {o = order 7 1 Buy 50} 0 (omega arith) (fill {o = order 8 1 Sell 99} 99 (omega arith) none),
-        record { lt = tt },
-      ),
-    )
+    both-ways longerRoster morning tooShort longer-fits (order 8 1 Sell 99) (refl, refl) (inr (inl refl))
+    (instrument 1, short, (refl, refl), (beside-7 (order 8 1 Sell 99) 0 99 (omega arith) (omega arith), record { lt = tt }))
 
 -- 23: all of both put group 1 at 605,000 ten-thousandths, past 600,000
 put-sold : Exactly putSold (order 8 2 Sell 25)
 unfolding computes
 put-sold =
-    both-ways longerRoster morning putSold longer-fits (order 8 2 Sell 25) (refl, refl) (inr (inr (inl refl))) (
-      group 1,
-      long,
-      (refl, weighs-less, refl),
-      (fill {o = order 7 1 Buy 50} 50 (omega arith) (fill {o = order 8 2 Sell 25} 25 (omega arith) none), record { lt = tt }),
-    )
+    both-ways longerRoster morning putSold longer-fits (order 8 2 Sell 25) (refl, refl) (inr (inr (inl refl)))
+    (group 1, long, (refl, weighs-less, refl), (beside-7 (order 8 2 Sell 25) 50 25 (omega arith) (omega arith), record { lt = tt }))
 
 -- 24: nothing of order 7 and the 77 of N put it at −405,000, past 400,000 short
 put-bought : Exactly putBought (order 8 2 Buy 77)
 unfolding computes
 put-bought =
-    both-ways longerRoster morning putBought longer-fits (order 8 2 Buy 77) (refl, refl) (inr (inr (inr refl))) (
-      group 1,
-      short,
-      (refl, weighs-less, refl),
-      (fill {o = order 7 1 Buy 50} 0 (omega arith) (fill {o = order 8 2 Buy 77} 77 (omega arith) none), record { lt = tt }),
-    )
+    both-ways longerRoster morning putBought longer-fits (order 8 2 Buy 77) (refl, refl) (inr (inr (inr refl)))
+    (group 1, short, (refl, weighs-less, refl), (beside-7 (order 8 2 Buy 77) 0 77 (omega arith) (omega arith), record { lt = tt }))
 
 -- 23: order 7 raised, once: all 63 of it put the group at 610,000
 raised-too-far : Exactly raisedTooFar (order 7 1 Buy 63)

@@ -1,4 +1,4 @@
--- What each kind of accepted event does to each potential position.
+-- What an accepted BALANCE, NEW, REPLACE, CANCEL or FILL does to each potential position; no other kind moves any.
 use Prim.Native.Nat.{ℕ, _+_, _*_, _-_, _≤_}
 use mathlib.Core.Path.{_≡_, refl, _∙_, ap}
 use mathlib.Core.Logic.{_≢_}
@@ -7,16 +7,16 @@ use mathlib.Core.Option.{some}
 use native.Mathlib.Omega.{arith}
 use lib.IntN.{ℤ, pos, natAbs, _+ℤ_, _-ℤ_}
 use lib.Signed.{_≤ℤ_}
-use Rattle.integers.specs.Parts.{signed, sum-parts}
 use Rattle.ledger.specs.declared.order.Order.{Order}
 use Rattle.ledger.specs.declared.order.Side.{Side}
 use Rattle.ledger.specs.Orders.{remaining}
-use Rattle.ledger.specs.Positions.{Way, Scope, instrument, opposite, wayOf, ofInstrument, potential, position}
+use Rattle.ledger.specs.Positions.{Way, Scope, instrument, opposite, wayOf, potential, position}
 use Rattle.ledger.specs.Moves.{Moves}
 use Rattle.ledger.proofs.Changes.{shift-down, shift-unmoved, shift-of-another, shift-own, fill-lowers, fill-opposite, idle}
 use Rattle.ledger.proofs.Changes.{fill-level}
 use Rattle.ledger.proofs.Changes.{shift-by}
 use Rattle.ledger.proofs.Ways.{other-side, side-back}
+use Rattle.ledger.proofs.Linear.{linear}
 use Rattle.book.specs.declared.OrderChange.{OrderChange}
 use Rattle.book.specs.declared.OrderChange.the-variants.{Replace, Cancel, Fill}
 use Rattle.book.specs.declared.Event.the-variants.{Balance, New, Change}
@@ -100,12 +100,7 @@ module _ (k : State) where
     unfolding bookAfter changedBalances potential
     cancel-own =
         let S = k .book .balanceOf (o .account) in
-        let x = ofInstrument (k .market .unit) (k .book .orders) (o .account) S (o .instrument) (wayOf (o .side)) in
-        omega (
-          signed,
-          shift-own (change-shift k id o found Cancel) (o .account) S refl (wayOf (o .side)) refl,
-          sum-parts x (counts 0),
-        )
+        omega (linear, shift-own (change-shift k id o found Cancel) (o .account) S refl (wayOf (o .side)) refl)
 
     -- a FILL leaves that side as it was, and lowers the other by the quantity
     pub fill-own : (n : ℤ) → natAbs n ≤ remaining o → ownAt (work k (Change id (Fill n))) (wayOf (o .side)) ≡ ownAt k (wayOf (o .side))

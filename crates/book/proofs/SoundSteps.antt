@@ -4,19 +4,20 @@ use Prim.Native.Nat.{ℕ}
 use mathlib.Core.Path.{_≡_, sym, _∙_}
 use mathlib.Core.Logic.{_≢_, by-cases}
 use mathlib.Core.Bool.{true≢false}
-use mathlib.Core.List.{[], List·Memᴰ, List·Memᴰ·not-nil}
+use mathlib.Core.List.{List·Memᴰ, List·Memᴰ·not-nil}
 use native.Mathlib.Decide.{ℕ-discrete}
 use native.Mathlib.Omega.{arith}
 use lib.IntN.{ℤ, pos, negℤ}
 use lib.Signed.{_≤ℤ_}
 use borrow.Author.Tests.{not-true}
-use Rattle.integers.specs.Parts.{signed, negation-parts, sum-parts}
+use Rattle.integers.specs.Parts.{signed, negation-parts}
 use Rattle.ledger.specs.declared.order.Order.{Order}
 use Rattle.ledger.specs.Roster.{Roster}
-use Rattle.ledger.specs.Positions.{Way, long, short, instrument, toward, sideTo, openOn, ofInstrument, potential, position}
+use Rattle.ledger.specs.Positions.{Way, long, short, instrument, toward, sideTo, ofInstrument, potential, position}
 use Rattle.ledger.proofs.Sums.{open-none}
 use Rattle.ledger.proofs.Changes.{idle}
 use Rattle.ledger.proofs.Ways.{zero-toward}
+use Rattle.ledger.proofs.Linear.{linear}
 use Rattle.limits.proofs.LineLaws.{none-some}
 use Rattle.book.specs.declared.Event.{Event}
 use Rattle.book.specs.declared.Event.the-variants.{Limit, Balance, Block, New, Change, Junk}
@@ -45,12 +46,7 @@ sound-empty mk r fits =
       fits = λ o m. absurd (List·Memᴰ·not-nil m);
       ids = nothing;
       bounded =
-          λ a i w. omega (
-            signed,
-            zero-toward w,
-            open-none (mk .unit) (sideTo w) a i,
-            sum-parts (toward w (pos 0)) (openOn (mk .unit) [] (sideTo w) a i),
-          );
+          λ a i w. omega (linear, zero-toward w, open-none (mk .unit) (sideTo w) a i);
       marked = λ o m. absurd (List·Memᴰ·not-nil m);
     }
 
@@ -86,18 +82,15 @@ module _ (k : State) (sound : Sound k) where
       (λ _. rw (idle (k .market .unit) (k .roster) a (k .book .orders) (k .book .balanceOf a) (instrument j) w free)
       at (sound .bounded a j w)))
 
-  in-range : (a i : ℕ) (w : Way) → potentialOf k a (instrument i) w ≤ℤ pos (k .market .largest)
-  unfolding potential
-  in-range a i w = sound .bounded a i w
-
   pub bounded-after : (e : Event) → Accepted k e → (a i : ℕ) (w : Way)
       → potentialOf (work k e) a (instrument i) w ≤ℤ pos (k .market .largest)
+  unfolding potential
   bounded-after e acc a i w = by e acc
     where
       keep : (e : Event) → Accepted k e → SetsNoBalance a e → potentialOf (work k e) a (instrument i) w ≤ℤ pos (k .market .largest)
       keep e acc free =
           kept-within k a (instrument i) w (pos (k .market .largest)) e acc free
-          (limit-fits (k .roster) (k .book .linesOf a) (k .market .largest) (sound .lines a) i w) (in-range a i w)
+          (limit-fits (k .roster) (k .book .linesOf a) (k .market .largest) (sound .lines a) i w) (sound .bounded a i w)
 
       by : (e : Event) → Accepted k e → potentialOf (work k e) a (instrument i) w ≤ℤ pos (k .market .largest)
       by (Limit c l) acc = keep (Limit c l) acc tt

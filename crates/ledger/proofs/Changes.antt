@@ -7,7 +7,7 @@ use mathlib.Core.List.{List, List·Memᴰ}
 use native.Mathlib.Omega.{arith}
 use lib.IntN.{ℤ, pos, _+ℤ_, _-ℤ_, +ℤ-comm, +ℤ-assoc, natAbs, _*ℤ_}
 use lib.Signed.{_≤ℤ_}
-use Rattle.integers.specs.Parts.{signed, sum-parts, difference-parts}
+use Rattle.integers.specs.Parts.{sum-parts, difference-parts, negation-parts}
 use Rattle.ledger.specs.declared.order.Order.{Order}
 use Rattle.ledger.specs.declared.order.Side.{Side}
 use Rattle.ledger.specs.Orders.{remaining, filledBy, replacedTotal}
@@ -24,6 +24,7 @@ use Rattle.ledger.proofs.Sums.{open-sum, sum-permuted, adds}
 use Rattle.ledger.proofs.Scopes.{wayTo, potential-≤, potential-same, potential-weighted, position-weighted, weighted-same}
 use Rattle.ledger.proofs.Scopes.{weight-way, group-moved}
 use Rattle.ledger.proofs.Movement.{fill-moves, unmoved-amount}
+use Rattle.ledger.proofs.Linear.{linear}
 
 -- what counts of order o goes from m contracts to m′
 pub record CountChanged (unit : Order → ℕ) (o : Order) (m m′ : ℕ) (orders orders′ : List Order) : Type 0 where
@@ -38,17 +39,7 @@ module _ (unit : Order → ℕ) (o : Order) (orders orders′ : List Order) wher
   pub entered : Joined o orders orders′ → CountChanged unit o 0 (remaining o) orders orders′
   entered joined =
       record {
-        sums = λ s a i.
-            let x = openOn unit orders s a i in
-            let y = amount unit s a i o (remaining o) in
-            omega (
-              signed,
-              open-joined unit s a i o orders orders′ joined,
-              amount-none unit s a i o,
-              sum-parts y x,
-              sum-parts x y,
-              sum-parts (openOn unit orders′ s a i) (amount unit s a i o 0),
-            );
+        sums = λ s a i. omega (linear, open-joined unit s a i o orders orders′ joined, amount-none unit s a i o);
       }
 
   pub changed : {o′ : Order} → Alike unit o o′ → Changed o o′ orders orders′
@@ -95,12 +86,7 @@ module _ {unit : Order → ℕ} {o : Order} {m m′ : ℕ} {orders orders′ : L
   shift-level : (i : ℕ) (v : Way) → amount unit (sideTo v) a i o m ≡ pos 0 → amount unit (sideTo v) a i o m′ ≡ pos 0
       → ofInstrument unit orders′ a S i v ≡ ofInstrument unit orders a S i v
   shift-level i v before after =
-      omega (
-        signed,
-        shift-instrument i v,
-        sum-parts (ofInstrument unit orders′ a S i v) (amount unit (sideTo v) a i o m),
-        sum-parts (ofInstrument unit orders a S i v) (amount unit (sideTo v) a i o m′),
-      )
+      omega (linear, shift-instrument i v)
 
   pub shift-apart : (i : ℕ) (v : Way) → ¬ Stands (sideTo v) a i o → ofInstrument unit orders′ a S i v ≡ ofInstrument unit orders a S i v
   shift-apart i v out = shift-level i v (amount-apart unit (sideTo v) a i o m out) (amount-apart unit (sideTo v) a i o m′ out)
@@ -120,11 +106,7 @@ module _ {unit : Order → ℕ} {o : Order} {m m′ : ℕ} {orders orders′ : L
   module _ (own : o .account ≡ a) (d : ℤ) (more : pos (unit o * m) +ℤ d ≡ pos (unit o * m′)) where
     pub shift-by : (v : Way) → wayOf (o .side) ≡ v
         → ofInstrument unit orders′ a S (o .instrument) v ≡ ofInstrument unit orders a S (o .instrument) v +ℤ d
-    shift-by v way =
-        let x = ofInstrument unit orders a S (o .instrument) v in
-        let y = ofInstrument unit orders′ a S (o .instrument) v in
-        let c = pos (unit o * m) in
-        omega (signed, shift-own own v way, sum-parts y c, sum-parts x (pos (unit o * m′)), sum-parts c d, sum-parts x d)
+    shift-by v way = omega (linear, shift-own own v way)
 
     pub shift-group : (r : Roster) (w : Way) → Numbered (r .instruments) (o .instrument)
         → wayBy (r .weight (o .instrument)) (wayOf (o .side)) ≡ w
@@ -140,15 +122,7 @@ module _ {unit : Order → ℕ} {o : Order} {m m′ : ℕ} {orders orders′ : L
     pub shift-up : m ≤ m′ → potential unit r orders a S p w ≤ℤ potential unit r orders′ a S p w
     shift-up l =
         potential-≤ unit r a orders orders′ S S p w
-        (λ i _.
-        let v = wayTo r p w i in
-        omega (
-          signed,
-          shift-instrument i v,
-          amount-≤ unit (sideTo v) a i o m m′ l,
-          sum-parts (ofInstrument unit orders′ a S i v) (amount unit (sideTo v) a i o m),
-          sum-parts (ofInstrument unit orders a S i v) (amount unit (sideTo v) a i o m′),
-        ))
+        (λ i _. let v = wayTo r p w i in omega (linear, shift-instrument i v, amount-≤ unit (sideTo v) a i o m m′ l))
 
     pub shift-unmoved : ¬ Moves r o p w → potential unit r orders′ a S p w ≡ potential unit r orders a S p w
     shift-unmoved out =
@@ -171,37 +145,23 @@ module _ {unit : Order → ℕ} {o : Order} {m m′ : ℕ} {orders orders′ : L
       (sideTo (opposite v)) a i o n
   unfolding ofInstrument
   fill-instrument i v =
-      let s = toward v (S i) in
-      let s′ = toward v (S′ i) in
-      let before = openOn unit orders (sideTo v) a i in
-      let next = openOn unit orders′ (sideTo v) a i in
       let here = amount unit (sideTo v) a i o n in
       let there = amount unit (sideTo (opposite v)) a i o n in
-      let whole = amount unit (sideTo v) a i o m in
-      let rest = amount unit (sideTo v) a i o m′ in
       omega (
-        signed,
+        linear,
         ap (toward v) (moved i),
         fill-moves unit a S o n i v,
         shift .sums (sideTo v) a i,
         ap (amount unit (sideTo v) a i o) by-n,
         amount-sum unit (sideTo v) a i o m′ n,
         difference-parts here there,
-        sum-parts s (here -ℤ there),
-        sum-parts next whole,
-        sum-parts before rest,
-        sum-parts rest here,
-        sum-parts s′ next,
-        sum-parts s before,
-        difference-parts (s +ℤ before) there,
+        negation-parts there,
+        sum-parts (toward v (S i)) (openOn unit orders (sideTo v) a i),
       )
 
   pub fill-level : (i : ℕ) (v : Way) → ¬ Stands (sideTo (opposite v)) a i o
       → ofInstrument unit orders′ a S′ i v ≡ ofInstrument unit orders a S i v
-  fill-level i v out =
-      let x = ofInstrument unit orders a S i v in
-      let y = amount unit (sideTo (opposite v)) a i o n in
-      omega (signed, fill-instrument i v, amount-apart unit (sideTo (opposite v)) a i o n out, difference-parts x y)
+  fill-level i v out = omega (linear, fill-instrument i v, amount-apart unit (sideTo (opposite v)) a i o n out)
 
   pub fill-opposite : o .account ≡ a → (v : Way) → wayOf (o .side) ≡ opposite v
       → ofInstrument unit orders′ a S′ (o .instrument) v ≡ ofInstrument unit orders a S (o .instrument) v -ℤ pos (unit o * n)
@@ -214,11 +174,7 @@ module _ {unit : Order → ℕ} {o : Order} {m m′ : ℕ} {orders orders′ : L
     pub fill-lowers : potential unit r orders′ a S′ p w ≤ℤ potential unit r orders a S p w
     fill-lowers =
         potential-≤ unit r a orders′ orders S′ S p w
-        (λ i _.
-        let v = wayTo r p w i in
-        let x = ofInstrument unit orders a S i v in
-        let y = amount unit (sideTo (opposite v)) a i o n in
-        omega (signed, fill-instrument i v, amount-nonneg unit (sideTo (opposite v)) a i o n, difference-parts x y))
+        (λ i _. let v = wayTo r p w i in omega (linear, fill-instrument i v, amount-nonneg unit (sideTo (opposite v)) a i o n))
 
 -- ---- other changes
 module _ (unit : Order → ℕ) (r : Roster) (a : ℕ) (orders : List Order) (S : ℕ → ℤ) (p : Scope) (w : Way) where
@@ -243,4 +199,4 @@ module _ (unit : Order → ℕ) (r : Roster) (a : ℕ) (orders : List Order) (S 
       (λ i _.
       let v = wayTo r p w i in
       let none = open-nowhere unit (sideTo v) a i orders (λ o m h. others o m (h .1)) in
-      omega (signed, sum-parts (toward v (S i)) (openOn unit orders (sideTo v) a i))))
+      omega (linear, sum-parts (toward v (S i)) (openOn unit orders (sideTo v) a i))))

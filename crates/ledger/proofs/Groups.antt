@@ -5,28 +5,25 @@ use mathlib.Core.Logic.{_≢_}
 use mathlib.Core.Bool.{cond}
 use native.Mathlib.Omega.{arith}
 use lib.Dec.{eqb}
-use lib.IntN.{ℤ, pos, negℤ, _+ℤ_, _-ℤ_}
+use lib.IntN.{ℤ, pos, negℤ, _+ℤ_}
 use lib.Signed.{_≤ℤ_, _<ℤ_}
 use borrow.Author.Tests.{eq-eqb}
-use Rattle.integers.specs.Parts.{signed, sum-parts, difference-parts}
+use Rattle.integers.specs.Parts.{signed, difference-parts}
 use Rattle.integers.specs.Sum.{sumTo, below, sumTo-mono, sumTo-same, sumTo-change, sumOver-negated}
 use Rattle.ledger.specs.Roster.{Roster, groupOfInstrument, Numbered}
 use Rattle.ledger.specs.Positions.{Way, long, short, toward, sumGroup}
 use Rattle.ledger.proofs.Ways.{by-number}
+use Rattle.ledger.proofs.Linear.{linear}
 
 -- a sum grows where no term falls and one grows
 sumTo-strict : (f g : ℕ → ℤ) (n j : ℕ) → j < n → ((i : ℕ) → i < n → f i ≤ℤ g i) → f j <ℤ g j → sumTo f n <ℤ sumTo g n
 sumTo-strict f g n j b mono grows =
-    let s = sumTo f n in
-    let x = raised j in
     omega (
-      signed,
+      linear,
       sumTo-mono raised g n at-most,
       sumTo-change f raised n j b (λ i _. elsewhere i),
       here,
-      sum-parts (f j) (pos 1),
-      difference-parts x (f j),
-      sum-parts s (x -ℤ f j),
+      difference-parts (raised j) (f j),
     )
   where
     raised : ℕ → ℤ
@@ -41,7 +38,7 @@ sumTo-strict f g n j b mono grows =
     at-most : (i : ℕ) → i < n → raised i ≤ℤ g i
     at-most i l =
         by-number i j (λ t. cond t (f i +ℤ pos 1) (f i) ≤ℤ g i) (λ e. let k : f i <ℤ g i = rw e grows in
-        omega (signed, sum-parts (f i) (pos 1))) (λ h. mono i l)
+        omega linear) (λ h. mono i l)
 
 -- the term of instrument j + 1 in the sum over group g
 abbrev pub groupTerm : Roster → ℕ → (ℕ → ℤ) → ℕ → ℤ
@@ -81,19 +78,12 @@ module _ (r : Roster) (g : ℕ) where
   unfolding sumGroup
   group-change f h zero d of same e = absurd (omega arith)
   group-change f h (suc j) d of same e =
-      let s = sumTo (groupTerm r g f) (r .instruments) in
       let here = eq-eqb (groupOfInstrument r (suc j)) g (of .1) in
       let x : groupTerm r g f j ≡ f (suc j) = rw here in
       let y : groupTerm r g h j ≡ h (suc j) = rw here in
       let change = sumTo-change (groupTerm r g f) (groupTerm r g h) (r .instruments) j (omega arith)
       (λ i _ apart. rw (same (suc i) (λ q. apart (omega arith)))) in
-      omega (
-        signed,
-        sum-parts (f (suc j)) d,
-        difference-parts (groupTerm r g h j) (groupTerm r g f j),
-        sum-parts s (groupTerm r g h j -ℤ groupTerm r g f j),
-        sum-parts s d,
-      )
+      omega (linear, difference-parts (groupTerm r g h j) (groupTerm r g f j))
 
   -- the short side of a sum is the sum of the short sides
   pub group-toward : (w : Way) (f : ℕ → ℤ) → toward w (sumGroup r g f) ≡ sumGroup r g (λ i. toward w (f i))

@@ -1,5 +1,6 @@
 -- Laws of orders, sums, positions and fillings: no filling passes a potential position, and one reaches it. And of records and bounds.
 pub mod Fits
+pub mod Linear
 pub mod Search
 pub mod Agreement
 pub mod Ways

@@ -6,7 +6,7 @@ use native.Mathlib.Decide.{ℕ-discrete, map-dec}
 use native.Mathlib.Nat.{mul-le-mul}
 use lib.IntN.{ℤ, pos, _+ℤ_, _-ℤ_, +ℤ-idr, ℤ-discrete}
 use lib.Signed.{_≤ℤ_, _<ℤ_}
-use Rattle.integers.specs.Parts.{signed, sum-parts, difference-parts}
+use Rattle.integers.specs.Parts.{signed, difference-parts}
 use Rattle.ledger.specs.declared.order.Order.{Order}
 use Rattle.ledger.specs.Roster.{Roster, groupOfInstrument, Numbered}
 use Rattle.ledger.specs.Positions.{Way, Scope, instrument, group, opposite, toward, wayOf, wayBy, sideTo, position}
@@ -14,7 +14,8 @@ use Rattle.ledger.specs.Fillings.{fillMoves}
 use Rattle.ledger.specs.Moves.{Moves}
 use Rattle.ledger.proofs.Ways.{side-there, side-back, opposite-apart, Way-discrete, toward-sum}
 use Rattle.ledger.proofs.Amounts.{amount, amount-here, amount-apart, amount-nonneg, fill-amounts}
-use Rattle.ledger.proofs.Scopes.{wayTo, Bears, weight-way, position-≤, position-<}
+use Rattle.ledger.proofs.Scopes.{wayTo, Bears, weight-way, position-weighted, weighted-mono, figure-strict}
+use Rattle.ledger.proofs.Linear.{linear}
 
 pub moves? : (r : Roster) (o : Order) (p : Scope) (w : Way) → Dec (Moves r o p w)
 moves? r o (instrument i) w = Dec·and (ℕ-discrete (o .instrument) i) (Way-discrete (wayOf (o .side)) w)
@@ -65,34 +66,26 @@ fill-moves unit a S o n i v = rw (toward-sum v (S i) (fillMoves unit a i o n), f
 
 module _ (unit : Order → ℕ) (r : Roster) (o : Order) (S : ℕ → ℤ) (n : ℕ) (p : Scope) (w : Way) where
   pub unmoved-falls : ¬ Moves r o p w → position r (afterFill unit (o .account) S o n) p w ≤ℤ position r S p w
-  unmoved-falls out = position-≤ r (afterFill unit (o .account) S o n) S p w goes
-    where
-      goes : (i : ℕ) → Bears r p i → toward (wayTo r p w i) (afterFill unit (o .account) S o n i) ≤ℤ toward (wayTo r p w i) (S i)
-      goes i b =
-          let v = wayTo r p w i in
-          let x = amount unit (sideTo v) (o .account) i o n in
-          let y = amount unit (sideTo (opposite v)) (o .account) i o n in
-          omega (
-            signed,
-            fill-moves unit (o .account) S o n i v,
-            unmoved-amount r o w p unit (o .account) n i out b,
-            amount-nonneg unit (sideTo (opposite v)) (o .account) i o n,
-            difference-parts x y,
-            sum-parts (toward v (S i)) (x -ℤ y),
-          )
+  unmoved-falls out =
+      rw (position-weighted r (afterFill unit (o .account) S o n) p w, position-weighted r S p w) (weighted-mono r _ _ p
+      (λ i b.
+      let v = wayTo r p w i in
+      omega (
+        linear,
+        fill-moves unit (o .account) S o n i v,
+        unmoved-amount r o w p unit (o .account) n i out b,
+        amount-nonneg unit (sideTo (opposite v)) (o .account) i o n,
+        difference-parts (amount unit (sideTo v) (o .account) i o n) (amount unit (sideTo (opposite v)) (o .account) i o n),
+      )))
 
   pub moves-raises : 1 ≤ n → 1 ≤ unit o → Numbered (r .instruments) (o .instrument) → Moves r o p w
       → position r S p w <ℤ position r (afterFill unit (o .account) S o n) p w
   moves-raises some counted b m =
       let k = o .instrument in
-      position-< r S (afterFill unit (o .account) S o n) p w k (moves-bears r o w p b m)
-      (λ i _. omega (
-        signed,
-        comes i,
-        amount-nonneg unit (sideTo (wayTo r p w i)) (o .account) i o n,
-        sum-parts (toward (wayTo r p w i) (S i)) (counts i),
-      ))
-      (omega (signed, comes k, here, mul-le-mul counted some, sum-parts (toward (wayTo r p w k) (S k)) (counts k)))
+      rw (position-weighted r S p w, position-weighted r (afterFill unit (o .account) S o n) p w)
+      (figure-strict r _ _ p k (moves-bears r o w p b m)
+      (λ i _. omega (linear, comes i, amount-nonneg unit (sideTo (wayTo r p w i)) (o .account) i o n))
+      (omega (linear, comes k, here, mul-le-mul counted some)))
     where
       counts : ℕ → ℤ
       counts i = amount unit (sideTo (wayTo r p w i)) (o .account) i o n

@@ -8,17 +8,18 @@ use mathlib.Core.List.{List, [], _∷_}
 use native.Mathlib.Omega.{arith}
 use lib.IntN.{ℤ, pos}
 use lib.Signed.{_<ℤ_}
-use Rattle.integers.specs.Parts.{signed, sum-parts, difference-parts}
+use Rattle.integers.specs.Parts.{signed}
 use Rattle.ledger.specs.declared.order.Order.{Order}
 use Rattle.ledger.specs.Orders.{remaining}
 use Rattle.ledger.specs.Roster.{Roster}
-use Rattle.ledger.specs.Positions.{Way, Scope, opposite, toward, sideTo, sameSide, openOn, ofInstrument, potential, position}
+use Rattle.ledger.specs.Positions.{Way, Scope, opposite, toward, sideTo, sameSide, ofInstrument, potential, position}
 use Rattle.ledger.specs.Fillings.{Filling, none, fill, fillMoves, balanceAfter}
 use Rattle.ledger.proofs.Ways.{by-side, other-side, toward-sum}
 use Rattle.ledger.proofs.Amounts.{amount, stands?, amount-apart, amount-none, fill-amounts}
 use Rattle.ledger.proofs.Sums.{open-none, open-cons}
 use Rattle.ledger.proofs.Scopes.{wayTo, potential-weighted, position-weighted, weighted-same}
 use Rattle.ledger.proofs.Upper.{upper}
+use Rattle.ledger.proofs.Linear.{linear}
 
 -- for each instrument a wanted way, d: the whole order where its side moves its instrument that way, else nothing
 unfoldable pub wholly : (ℕ → Way) → Order → ℕ
@@ -45,14 +46,7 @@ fillingTo d (o ∷ orders) = fill (wholly d o) (wholly-most d o) (fillingTo d or
 module _ (unit : Order → ℕ) (a : ℕ) (d : ℕ → Way) where
   -- on the wanted way it moves the balance by all that remains there, and never the other way
   wholly-moves : (o : Order) (i : ℕ) → toward (d i) (fillMoves unit a i o (wholly d o)) ≡ amount unit (sideTo (d i)) a i o (remaining o)
-  wholly-moves o i =
-      omega (
-        signed,
-        fill-amounts unit a i o n (d i),
-        all,
-        nothing,
-        difference-parts (amount unit (sideTo (d i)) a i o n) (amount unit (sideTo (opposite (d i))) a i o n),
-      )
+  wholly-moves o i = omega (linear, fill-amounts unit a i o n (d i), all, nothing)
     where
       n : ℕ
       n = wholly d o
@@ -74,24 +68,14 @@ module _ (unit : Order → ℕ) (a : ℕ) (d : ℕ → Way) where
       → toward (d i) (balanceAfter unit a S (fillingTo d orders) i) ≡ ofInstrument unit orders a S i (d i)
   unfolding balanceAfter ofInstrument fillingTo
   reached-instrument S [] i =
-      omega (signed, open-none unit (sideTo (d i)) a i, sum-parts (toward (d i) (S i)) (openOn unit [] (sideTo (d i)) a i))
+      omega (linear, open-none unit (sideTo (d i)) a i)
   reached-instrument S (o ∷ orders) i =
-      let s = toward (d i) (S i) in
-      let x = balanceAfter unit a S (fillingTo d orders) i in
-      let y = fillMoves unit a i o (wholly d o) in
-      let whole = amount unit (sideTo (d i)) a i o (remaining o) in
-      let rest = openOn unit orders (sideTo (d i)) a i in
-      let all = openOn unit (o ∷ orders) (sideTo (d i)) a i in
       omega (
-        signed,
+        linear,
         reached-instrument S orders i,
-        toward-sum (d i) x y,
+        toward-sum (d i) (balanceAfter unit a S (fillingTo d orders) i) (fillMoves unit a i o (wholly d o)),
         wholly-moves o i,
         open-cons unit (sideTo (d i)) a i o orders,
-        sum-parts (toward (d i) x) (toward (d i) y),
-        sum-parts s rest,
-        sum-parts whole rest,
-        sum-parts s all,
       )
 
 module _ (unit : Order → ℕ) (r : Roster) (orders : List Order) (a : ℕ) (S : ℕ → ℤ) (p : Scope) (w : Way) where

@@ -117,13 +117,3 @@ module _ (unit : Order → ℕ) (r : Roster) (a : ℕ) (orders orders′ : List 
       rw (potential-weighted unit r orders a S (group g) w, potential-weighted unit r orders′ a S′ (group g) w)
       (group-change r g _ _ i (K *ℤ d) (numbered, refl) (λ j apart. rw (same j apart (wayBy (r .weight j) w)))
       (ap (λ (z : ℤ). K *ℤ z) moved ∙ *ℤ-+ℤ K (ofInstrument unit orders a S i (wayBy (r .weight i) w)) d))
-
--- ---- and positions follow the balances
-module _ (r : Roster) (S S′ : ℕ → ℤ) (p : Scope) (w : Way) where
-  pub position-≤ : ((i : ℕ) → Bears r p i → toward (wayTo r p w i) (S i) ≤ℤ toward (wayTo r p w i) (S′ i))
-      → position r S p w ≤ℤ position r S′ p w
-  position-≤ le = rw (position-weighted r S p w, position-weighted r S′ p w) (weighted-mono r _ _ p le)
-
-  pub position-< : (k : ℕ) → Bears r p k → ((i : ℕ) → Bears r p i → toward (wayTo r p w i) (S i) ≤ℤ toward (wayTo r p w i) (S′ i))
-      → toward (wayTo r p w k) (S k) <ℤ toward (wayTo r p w k) (S′ k) → position r S p w <ℤ position r S′ p w
-  position-< k b le lt = rw (position-weighted r S p w, position-weighted r S′ p w) (figure-strict r _ _ p k b le lt)

@@ -12,6 +12,7 @@ use Rattle.ledger.specs.declared.order.Side.{Side}
 use Rattle.ledger.specs.Orders.{remaining}
 use Rattle.ledger.specs.Positions.{openOn}
 use Rattle.ledger.proofs.Amounts.{amount, Stands, amount-apart, amount-nonneg}
+use Rattle.ledger.proofs.Linear.{linear}
 
 -- ---- how two lists of orders may differ
 -- orders′ is orders with o joined to it, at any place; read the other way, o has left
@@ -45,18 +46,7 @@ joined-between o xs ys h =
 
 pub changed-between : (o o′ : Order) (xs ys : List Order) → Changed o o′ (xs ++ (o ∷ ys)) (xs ++ (o′ ∷ ys))
 changed-between o o′ xs ys h =
-    let x = sumOver h (xs ++ (o ∷ ys)) in
-    let y = sumOver h (xs ++ (o′ ∷ ys)) in
-    let z = sumOver h (xs ++ ys) in
-    omega (
-      signed,
-      joined-between o xs ys h,
-      joined-between o′ xs ys h,
-      sum-parts (h o) z,
-      sum-parts (h o′) z,
-      sum-parts y (h o),
-      sum-parts (h o′) x,
-    )
+    omega (linear, joined-between o xs ys h, joined-between o′ xs ys h)
 
 -- ---- the sums
 module _ (unit : Order → ℕ) (s : Side) (a i : ℕ) where

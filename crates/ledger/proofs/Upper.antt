@@ -1,47 +1,34 @@
 -- No filling passes a potential position, of any instrument or group and on any side.
 use Prim.Native.Nat.{ℕ}
-use mathlib.Core.List.{List, [], _∷_}
+use mathlib.Core.List.{List}
 use native.Mathlib.Omega.{arith}
 use lib.IntN.{ℤ}
 use lib.Signed.{_≤ℤ_}
-use Rattle.integers.specs.Parts.{signed, sum-parts, difference-parts}
 use Rattle.ledger.specs.declared.order.Order.{Order}
 use Rattle.ledger.specs.Orders.{remaining}
 use Rattle.ledger.specs.Roster.{Roster}
-use Rattle.ledger.specs.Positions.{Way, Scope, opposite, toward, sideTo, openOn, ofInstrument, potential, position}
+use Rattle.ledger.specs.Positions.{Way, Scope, opposite, toward, sideTo, ofInstrument, potential, position}
 use Rattle.ledger.specs.Fillings.{Filling, none, fill, fillMoves, balanceAfter}
 use Rattle.ledger.proofs.Ways.{toward-sum}
-use Rattle.ledger.proofs.Amounts.{amount, amount-≤, amount-nonneg, fill-amounts}
+use Rattle.ledger.proofs.Amounts.{amount-≤, amount-nonneg, fill-amounts}
 use Rattle.ledger.proofs.Sums.{open-none, open-cons, open-nonneg}
 use Rattle.ledger.proofs.Scopes.{wayTo, potential-weighted, position-weighted, weighted-mono}
+use Rattle.ledger.proofs.Linear.{linear}
 
 module _ (unit : Order → ℕ) (a : ℕ) (S : ℕ → ℤ) where
   pub upper-instrument : {orders : List Order} (f : Filling orders) (i : ℕ) (w : Way)
       → toward w (balanceAfter unit a S f i) ≤ℤ ofInstrument unit orders a S i w
   unfolding balanceAfter ofInstrument
-  upper-instrument none i w = omega (signed, open-none unit (sideTo w) a i, sum-parts (toward w (S i)) (openOn unit [] (sideTo w) a i))
+  upper-instrument none i w = omega (linear, open-none unit (sideTo w) a i)
   upper-instrument (fill {o} {orders} n most f) i w =
-      let s = toward w (S i) in
-      let x = balanceAfter unit a S f i in
-      let y = fillMoves unit a i o n in
-      let here = amount unit (sideTo w) a i o n in
-      let there = amount unit (sideTo (opposite w)) a i o n in
-      let whole = amount unit (sideTo w) a i o (remaining o) in
-      let rest = openOn unit orders (sideTo w) a i in
-      let all = openOn unit (o ∷ orders) (sideTo w) a i in
       omega (
-        signed,
+        linear,
         upper-instrument f i w,
-        toward-sum w x y,
+        toward-sum w (balanceAfter unit a S f i) (fillMoves unit a i o n),
         fill-amounts unit a i o n w,
         amount-≤ unit (sideTo w) a i o n (remaining o) (omega arith),
         amount-nonneg unit (sideTo (opposite w)) a i o n,
         open-cons unit (sideTo w) a i o orders,
-        sum-parts (toward w x) (toward w y),
-        difference-parts here there,
-        sum-parts s rest,
-        sum-parts whole rest,
-        sum-parts s all,
       )
 
   pub upper : {orders : List Order} (f : Filling orders) (r : Roster) (p : Scope) (w : Way)
@@ -57,8 +44,4 @@ module _ (unit : Order → ℕ) (a : ℕ) (S : ℕ → ℤ) where
   upper-standing orders r p w =
       rw (position-weighted r S p w, potential-weighted unit r orders a S p w)
       (weighted-mono r (λ i. toward (wayTo r p w i) (S i)) (λ i. ofInstrument unit orders a S i (wayTo r p w i)) p
-      (λ i _. let v = wayTo r p w i in omega (
-        signed,
-        open-nonneg unit (sideTo v) a i orders,
-        sum-parts (toward v (S i)) (openOn unit orders (sideTo v) a i),
-      )))
+      (λ i _. omega (linear, open-nonneg unit (sideTo (wayTo r p w i)) a i orders)))

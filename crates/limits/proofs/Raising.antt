@@ -6,17 +6,17 @@ use mathlib.Core.List.{List}
 use native.Mathlib.Nat.{one-mul}
 use native.Mathlib.Omega.{arith}
 use lib.IntN.{ℤ, pos, natAbs, _+ℤ_, _*ℤ_}
-use Rattle.integers.specs.Parts.{signed, sum-parts}
 use Rattle.ledger.specs.declared.order.Order.{Order}
 use Rattle.ledger.specs.declared.order.Side.{Side}
 use Rattle.ledger.specs.Orders.{remaining, replacedTotal}
 use Rattle.ledger.specs.Roster.{Roster, Numbered, groupOfInstrument}
-use Rattle.ledger.specs.Positions.{Way, group, wayOf, wayBy, standsIn, openOn, ofInstrument, potential}
+use Rattle.ledger.specs.Positions.{Way, group, wayOf, wayBy, standsIn, ofInstrument, potential}
 use Rattle.ledger.specs.Derivatives.{one}
 use Rattle.ledger.proofs.Amounts.{amount, amount-none, amount-sum}
 use Rattle.ledger.proofs.Sums.{Joined, Changed}
 use Rattle.ledger.proofs.Groups.{Of}
 use Rattle.ledger.proofs.Changes.{CountChanged, entered, replaced, shift-by, shift-group}
+use Rattle.ledger.proofs.Linear.{linear}
 use Rattle.limits.specs.Raised.{addedOn, Raised}
 
 -- ---- shifts
@@ -28,48 +28,22 @@ module _ (n : ℕ) (o : Order) (before after : List Order) where
   raised-shift : Raised n o before after → CountChanged one o 0 n before after
   raised-shift raised =
       record {
-        sums = λ s a i.
-            let x = openOn one after s a i in
-            let y = openOn one before s a i in
-            omega (
-              signed,
-              raised .sums s a i,
-              amount-added s a i o n,
-              amount-none one s a i o,
-              sum-parts x (amount one s a i o 0),
-              sum-parts y (amount one s a i o n),
-              sum-parts y (addedOn n o s a i),
-            );
+        sums = λ s a i. omega (linear, raised .sums s a i, amount-added s a i o n, amount-none one s a i o);
       }
 
   shift-raised : (m : ℕ) → CountChanged one o m (m + n) before after → Raised n o before after
   shift-raised m shift =
       record {
-        sums = λ s a i.
-            let x = openOn one after s a i in
-            let y = openOn one before s a i in
-            let u = amount one s a i o m in
-            let v = amount one s a i o n in
-            omega (
-              signed,
-              shift .sums s a i,
-              amount-sum one s a i o m n,
-              amount-added s a i o n,
-              sum-parts u v,
-              sum-parts x u,
-              sum-parts y (amount one s a i o (m + n)),
-              sum-parts y (addedOn n o s a i),
-            );
+        sums = λ s a i. omega (linear, shift .sums s a i, amount-sum one s a i o m n, amount-added s a i o n);
       }
 
 -- ---- the events
 module _ (o : Order) (before after : List Order) where
   -- NEW: order o joins
   pub raised-by-new : Joined o before after → Raised (remaining o) o before after
-  raised-by-new joined = shift-raised (remaining o) o before after 0 (rw e (entered one o before after joined))
-    where
-      e : 0 + remaining o ≡ remaining o
-      e = omega arith
+  raised-by-new joined =
+      let e : 0 + remaining o ≡ remaining o = omega arith in
+      shift-raised (remaining o) o before after 0 (rw e (entered one o before after joined))
 
   -- REPLACE: order o gets a larger total
   pub raised-by-replace : (total : ℕ) → o .filled ≤ o .total → o .total ≤ total → Changed o (replacedTotal o total) before after

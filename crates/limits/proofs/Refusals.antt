@@ -111,7 +111,16 @@ module _ (unit : Order → ℕ) (r : Roster) (ls : Lines) (orders : List Order) 
       all-within (both-ways instrumentPasses (yes 21) (yes 22)) (both-ways groupPasses (yes 23) (yes 24))
 
   pub refused-iff : PositionNumber (firstNo (positionQuestions unit r ls orders S o)) ↔ SomePasses
-  refused-iff = (there, back)
+  refused-iff = (
+    λ n. ⊎-elim (instrument-no long) (⊎-elim (instrument-no short) (⊎-elim (group-no long) (group-no short)))
+        (one-fails (instrumentPasses long) (instrumentPasses short) (groupPasses long) (groupPasses short) (rw questions-four at n)),
+    λ h. rw questions-four
+        (fails-one (instrumentPasses long) (instrumentPasses short) (groupPasses long) (groupPasses short)
+        (λ il is gl gs.
+        let past = past-iff unit r orders (o .account) S (h .0) (h .1) (limit r ls (h .0) (h .1)) .1 (h .3) in
+        let le = all-within (both-ways _ il is) (both-ways _ gl gs) (h .0) (h .1) (h .2) in
+        omega signed)),
+  )
     where
       some-past : (p : Scope) (w : Way) → Moves r o p w × Past p w → SomePasses
       some-past p w h = (p, w, h .0, past-iff unit r orders (o .account) S p w (limit r ls p w) .0 (h .1))
@@ -121,17 +130,3 @@ module _ (unit : Order → ℕ) (r : Roster) (ls : Lines) (orders : List Order) 
 
       group-no : (w : Way) → groupPasses w ≡ false → SomePasses
       group-no w e = some-past ownGroup w (no-past (movesGroup r o w) ownGroup w (moves-group r o w .0) e)
-
-      there : PositionNumber (firstNo (positionQuestions unit r ls orders S o)) → SomePasses
-      there n =
-          ⊎-elim (instrument-no long) (⊎-elim (instrument-no short) (⊎-elim (group-no long) (group-no short)))
-          (one-fails (instrumentPasses long) (instrumentPasses short) (groupPasses long) (groupPasses short) (rw questions-four at n))
-
-      back : SomePasses → PositionNumber (firstNo (positionQuestions unit r ls orders S o))
-      back h =
-          rw questions-four
-          (fails-one (instrumentPasses long) (instrumentPasses short) (groupPasses long) (groupPasses short)
-          (λ il is gl gs.
-          let past = past-iff unit r orders (o .account) S (h .0) (h .1) (limit r ls (h .0) (h .1)) .1 (h .3) in
-          let le = all-within (both-ways _ il is) (both-ways _ gl gs) (h .0) (h .1) (h .2) in
-          omega signed))

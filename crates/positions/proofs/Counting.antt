@@ -8,7 +8,7 @@ use native.Mathlib.Nat.{one-mul}
 use native.Mathlib.Omega.{arith}
 use lib.IntN.{ℤ, pos, natAbs, _+ℤ_}
 use borrow.Author.Tests.{eq-eqb, ne-eqb}
-use Rattle.integers.specs.Parts.{signed, sum-parts, magnitude-parts}
+use Rattle.integers.specs.Parts.{magnitude-parts}
 use Rattle.integers.specs.Magnitude.{magnitude-sum}
 use Rattle.ledger.specs.declared.order.Order.{Order}
 use Rattle.ledger.specs.declared.order.Side.{Side}
@@ -19,6 +19,7 @@ use Rattle.ledger.specs.Derivatives.{one, counted}
 use Rattle.ledger.proofs.Ways.{by-test}
 use Rattle.ledger.proofs.Amounts.{amount}
 use Rattle.ledger.proofs.Sums.{open-none, open-cons, open-nonneg}
+use Rattle.ledger.proofs.Linear.{linear}
 
 module _ (o : Order) (s : Side) (a i : ℕ) where
   pub counted-other-account : o .account ≢ a → counted o s a i ≡ 0
@@ -64,21 +65,21 @@ module _ (m : List ℕ) (n : ℕ) (s : Side) (a i : ℕ) where
       → pos (x + r) +ℤ left (p + 1) ≡ left 0
   counted-more x p r o h here e whole =
       let turn : left p ≡ pos r +ℤ left (p + 1) = rw (e, here) (left-turn p h) in
-      omega (signed, sum-parts (pos x) (left p), sum-parts (pos r) (left (p + 1)), sum-parts (pos (x + r)) (left (p + 1)))
+      omega linear
 
   pub counted-all : (x p : ℕ) → n ≤ p → pos x +ℤ left p ≡ left 0 → pos x ≡ openOn one (ordersFrom m 0 n) s a i
   unfolding left ordersFrom
   counted-all x p h whole =
       let none : n - p ≡ 0 = omega arith in
       let end : left p ≡ pos 0 = rw none (open-none one s a i) in
-      omega (signed, left-all, sum-parts (pos x) (left p))
+      omega (linear, left-all)
 
   -- and is no more than the whole
   pub counted-small : (x p most : ℕ) → pos x +ℤ left p ≡ left 0 → natAbs (openOn one (ordersFrom m 0 n) s a i) ≤ most → x ≤ most
   unfolding left
   counted-small x p most whole small =
       let more = open-nonneg one s a i (ordersFrom m p (n - p)) in
-      omega (signed, left-all, sum-parts (pos x) (left p), magnitude-parts (openOn one (ordersFrom m 0 n) s a i))
+      omega (linear, left-all, magnitude-parts (openOn one (ordersFrom m 0 n) s a i))
 
 counted-most : (o : Order) (s : Side) (a i : ℕ) → counted o s a i ≤ remaining o
 unfolding counted

@@ -16,19 +16,13 @@ module _ (w : Width) where
   twice = rw bits-suc (omega arith)
 
   module _ (n : ℕ) (upper : 2 ^ hbits w ≤ n) (below : n < 2 ^ bits w) where
-    rest : ℕ
-    rest = 2 ^ bits w - 1 - n
-
-    rest-read : toZ w rest ≡ pos rest
-    unfolding rest
+    rest-read : toZ w (2 ^ bits w - 1 - n) ≡ pos (2 ^ bits w - 1 - n)
     rest-read = toZ-pos w (2 ^ bits w - 1 - n) (omega (arith, twice))
 
     pub complement-fits : SFits w (negsuc 0 -ℤ toZ w (2 ^ bits w - 1 - n))
-    unfolding rest
     complement-fits = rw rest-read (omega (signed, twice, difference-parts (negsuc 0) (pos (2 ^ bits w - 1 - n))))
 
     pub complement-read : toZ w (ofZ w (negsuc 0 -ℤ toZ w (2 ^ bits w - 1 - n))) ≡ signedOf (bits w) n
-    unfolding rest
     complement-read =
         let half : 2 ^ (bits w - 1) ≡ 2 ^ hbits w = ap (λ (k : ℕ). 2 ^ k) (omega (arith, bits-suc w)) in
         toZ-ofZ w (negsuc 0 -ℤ toZ w (2 ^ bits w - 1 - n)) complement-fits

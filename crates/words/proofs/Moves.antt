@@ -46,14 +46,6 @@ module _ (to from n : ℕ) where
   pub falling : List ℕ → ℕ → List ℕ
   falling m i = putWords m (to + i) (wordsAt m (from + i) (n - i))
 
-  falling-start : (m : List ℕ) → falling m 0 ≡ putWords m to (wordsAt m from n)
-  unfolding falling
-  falling-start m =
-      let e : to + 0 ≡ to = omega arith in
-      let f : from + 0 ≡ from = omega arith in
-      let g : n - 0 ≡ n = omega arith in
-      rw (e, f, g)
-
   -- the word v of place j is stored in place k
   falling-turn : (m next : List ℕ) (i j k v : ℕ) → to ≤ from → i < n → j ≡ from + i → k ≡ to + i → v ≡ wordAt m j → next ≡ putWord m k v
       → falling next (i + 1) ≡ falling m i
@@ -74,10 +66,6 @@ module _ (to from n : ℕ) where
             (λ j low e. omega arith),
       )
 
-  falling-end : (m : List ℕ) (i : ℕ) → n ≤ i → falling m i ≡ m
-  unfolding falling putWords wordsAt
-  falling-end m i h = let e : n - i ≡ 0 = omega arith in rw e
-
   -- before turn i the length is m₀'s, and what is left to store is what was to be stored from the start
   pub record Falls (m₀ m : List ℕ) (i : ℕ) : Type 0 where
     pub within : i ≤ n
@@ -97,4 +85,11 @@ module _ (to from n : ℕ) where
       }
 
   pub falls-end : {m₀ m : List ℕ} {i : ℕ} → Falls m₀ m i → n ≤ i → m ≡ putWords m₀ to (wordsAt m₀ from n)
-  falls-end {m₀} {m} {i} f h = sym (falling-end m i h) ∙ f .left ∙ falling-start m₀
+  unfolding falling putWords wordsAt
+  falls-end {m₀} {m} {i} f h =
+      let none : n - i ≡ 0 = omega arith in
+      let last : falling m i ≡ m = rw none in
+      let d : to + 0 ≡ to = omega arith in
+      let e : from + 0 ≡ from = omega arith in
+      let all : n - 0 ≡ n = omega arith in
+      sym last ∙ f .left ∙ rw (d, e, all)

@@ -6,7 +6,6 @@ use borrow.Author.Needs.{needs}
 use mir.Syntax.{w64}
 use mir.ValLaws.{toZ-ofZ}
 use Rattle.words.specs.Words.{signedAt}
-use Rattle.ledger.specs.declared.order.Side.{Side}
 use Rattle.ledger.specs.declared.order.Side.the-variants.{Buy, Sell}
 use Rattle.ledger.specs.Positions.{ofInstrument, openOn}
 use Rattle.ledger.specs.Records.{ordersFrom}

@@ -1,6 +1,6 @@
 -- An instrument outside the group adds nothing; one inside adds its part on either side (`part-inside`), read by the roster's words for
 -- contract, group and weight. Weights and positions are bounded, so the sums fit 64 bits.
-use Prim.Native.Nat.{_≤_}
+use Prim.Native.Nat.{_≤_, _+_}
 use mathlib.Core.Path.{_≡_, _∙_, sym, ap}
 use native.Mathlib.Omega.{arith}
 use borrow.Author.Needs.{needs}
@@ -8,9 +8,9 @@ use lib.IntN.{ℤ, natAbs, _+ℤ_}
 use mir.Syntax.{w64}
 use mir.ValLaws.{toZ-ofZ}
 use Rattle.words.specs.Words.{signedAt}
-use Rattle.ledger.specs.Positions.{long, short}
+use Rattle.ledger.specs.Positions.{long, short, Way, groupPart}
 use Rattle.ledger.specs.Records.{rosterIn}
-use Rattle.positions.specs.Gathered.{partByCells}
+use Rattle.positions.specs.Gathered.{partByCells, onWay}
 use Rattle.ledger.proofs.Fits.{again}
 use Rattle.positions.proofs.Weighing.{by-cells-magnitude, part-outside, part-inside, part-small, on-way-sum}
 use Rattle.positions.proofs.with_part.Statement.{statement}
@@ -39,58 +39,43 @@ small c =
       rw (c .by-cells .ensures short) (by-cells short (cells .balance) (cells .unfilled)),
     )
 
-long-part : (c : tie.After-group-part) → let a =
-    c .before .before .before .before .before .before .before .before .args in
-    c .group-part .result .0 ≡ partByCells (a .cells .now) (signedAt (a .balances .now)) (rosterIn (a .roster .now)) (a .group) (a .i) long
-long-part c =
-    let at = c .before .before .before in
-    part-inside _ _ _ _ _ long (sym (at .before .instrument-group-in .ensures) ∙ at .if1 .left) _ _ _ _ (weight (c .before .before))
-    (c .before .by-cells .ensures) (c .group-part .ensures)
+-- what `group_part` finds of a side is the instrument's part there, and with the sum it fits
+module _ (c : tie.After-by-cells) (w : Way) (z : ℤ)
+    (found : z ≡ groupPart w (again (c .before .weight-in .result))
+    (λ v. onWay v (c .by-cells .result .long .0) (c .by-cells .result .short .0))) where
+  part : let a = c .before .before .before .before .before .before .before .args in
+      z ≡ partByCells (a .cells .now) (signedAt (a .balances .now)) (rosterIn (a .roster .now)) (a .group) (a .i) w
+  part =
+      let at = c .before .before in
+      part-inside _ _ _ _ _ w (sym (at .before .instrument-group-in .ensures) ∙ at .if1 .left) _ _ _ _ (weight (c .before))
+      (c .by-cells .ensures) found
 
-short-part : (c : tie.After-group-part2) → let a =
-    c .before .before .before .before .before .before .before .before .before .args in
-    c .group-part2 .result .0 ≡ partByCells (a .cells .now) (signedAt (a .balances .now)) (rosterIn (a .roster .now)) (a .group)
-    (a .i) short
-short-part c =
-    let at = c .before .before .before .before in
-    part-inside _ _ _ _ _ short (sym (at .before .instrument-group-in .ensures) ∙ at .if1 .left) _ _ _ _
-    (weight (c .before .before .before))
-    (c .before .before .by-cells .ensures) (c .group-part2 .ensures)
-
-plus-requires : tie.Need-plus-requires
-plus-requires c κs =
-    let s = c .before .before .before .before .before .before .before .before .before in
-    let a = s .args in
-    let part = part-small (a .cells .now) (signedAt (a .balances .now)) (a .i) (rosterIn (a .roster .now)) (a .group) in
-    omega (
-      arith,
-      s .pre .3 long,
-      ap natAbs (long-part (c .before)),
-      part long (s .pre .1 .weight (a .i) (s .pre .2)) (s .pre .0 .balance) (s .pre .0 .unfilled),
-    )
-
-plus-requires-2 : tie.Need-plus-requires-2
-plus-requires-2 c κs =
-    let s = c .before .before .before .before .before .before .before .before .before .before in
-    let a = s .args in
-    let part = part-small (a .cells .now) (signedAt (a .balances .now)) (a .i) (rosterIn (a .roster .now)) (a .group) in
-    omega (
-      arith,
-      s .pre .3 short,
-      ap natAbs (short-part (c .before)),
-      part short (s .pre .1 .weight (a .i) (s .pre .2)) (s .pre .0 .balance) (s .pre .0 .unfilled),
-    )
+  fits : let a = c .before .before .before .before .before .before .before .args in
+      natAbs (onWay w (a .sum .long .0) (a .sum .short .0)) + natAbs z ≤ 9000000000000000000
+  fits =
+      let s = c .before .before .before .before .before .before .before in
+      let a = s .args in
+      omega (
+        arith,
+        s .pre .3 w,
+        ap natAbs part,
+        part-small (a .cells .now) (signedAt (a .balances .now)) (a .i) (rosterIn (a .roster .now)) (a .group) w
+            (s .pre .1 .weight (a .i) (s .pre .2)) (s .pre .0 .balance) (s .pre .0 .unfilled),
+      )
 
 returns-2 : tie.Need-returns-2
 returns-2 c =
-    let a = c .before .before .before .before .before .before .before .before .before .before .before .args in
+    let by = c .before .before .before .before in
+    let a = by .before .before .before .before .before .before .before .args in
     on-way-sum _ _ (a .sum .long .0) (a .sum .short .0)
     (partByCells (a .cells .now) (signedAt (a .balances .now)) (rosterIn (a .roster .now)) (a .group) (a .i))
-    (c .before .plus .ensures ∙ ap (λ (z : ℤ). a .sum .long .0 +ℤ z) (long-part (c .before .before .before)))
-    (c .plus2 .ensures ∙ ap (λ (z : ℤ). a .sum .short .0 +ℤ z) (short-part (c .before .before)))
+    (c .before .plus .ensures ∙ ap (λ (z : ℤ). a .sum .long .0 +ℤ z) (part by long _ (c .before .before .before .group-part .ensures)))
+    (c .plus2 .ensures ∙ ap (λ (z : ℤ). a .sum .short .0 +ℤ z) (part by short _ (c .before .before .group-part2 .ensures)))
 
 pub with-part-spec : {M : Type 1} → statement M
 with-part-spec =
     tie.close (tie.spec instrument-group-in-requires
-    (λ c w. part-outside _ _ _ _ _ w (λ e. c .if1 .taken (c .before .instrument-group-in .ensures ∙ e)) _) (λ c κs. search needs)
-    (λ c κs. search needs) (λ c κs. small c) (λ c κs. small (c .before)) plus-requires plus-requires-2 returns-2)
+    (λ c w. part-outside _ _ _ _ _ w (λ e. c .if1 .taken (c .before .instrument-group-in .ensures ∙ e)) _)
+    (λ c κs. search needs) (λ c κs. search needs) (λ c κs. small c) (λ c κs. small (c .before))
+    (λ c κs. fits (c .before .before) long _ (c .before .group-part .ensures))
+    (λ c κs. fits (c .before .before .before) short _ (c .before .group-part2 .ensures)) returns-2)
