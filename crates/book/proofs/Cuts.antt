@@ -1,8 +1,7 @@
 -- Where an order joins the open orders, where it stands in them, and what changing it changes: the list cut in two.
 use Prim.Native.Nat.{ℕ, suc, _+_, _<_}
-use mathlib.Core.Path.{_≡_, refl, ap}
+use mathlib.Core.Path.{_≡_, refl, ap, sym}
 use mathlib.Core.Logic.{_↔_, _⊎_, inl, inr, ⊎-elim}
-use mathlib.Core.Bool.{Bool, true, false, cond}
 use mathlib.Core.List.{List, [], _∷_, _++_, List·Memᴰ, List·Memᴰ·head, List·Memᴰ·tail, List·Memᴰ·cases-cons, List·Memᴰ·append-cases}
 use mathlib.Core.List.{Memᴰ·append-left, Memᴰ·append-right}
 use mathlib.Core.Option.{none, some}
@@ -12,6 +11,8 @@ use lib.ListN.{length, length-append}
 use borrow.Author.Tests.{eqb-true, eqb-false, ltb-true, ltb-false}
 use Rattle.ledger.specs.declared.order.Order.{Order}
 use Rattle.ledger.proofs.Sums.{Joined, Changed, joined-between, changed-between}
+use Rattle.ledger.proofs.Ways.{by-test}
+use Rattle.limits.proofs.LineLaws.{none-some}
 use Rattle.book.specs.OpenOrders.{find, insert, change}
 use Rattle.book.specs.Sound.{Ascending, nothing, next}
 
@@ -21,18 +22,13 @@ pub insert-ascending : {least : ℕ} {os : List Order} → Ascending least os �
     → Ascending least (insert o os)
 unfolding insert find
 insert-ascending nothing o l e = next l nothing
-insert-ascending (next {least} {o = x} {os} h a) o l e =
-    by (ltb (o .id) (x .id)) refl (eqb (x .id) (o .id)) refl e (insert-ascending a o)
-  where
-    by : (t : Bool) → ltb (o .id) (x .id) ≡ t → (u : Bool) → eqb (x .id) (o .id) ≡ u → cond u (some x) (find (o .id) os) ≡ none
-        → (x .id < o .id → find (o .id) os ≡ none → Ascending (x .id) (insert o os))
-        → Ascending least (cond t (o ∷ (x ∷ os)) (x ∷ insert o os))
-    by t d true f e rest = absurd (let z : _≡_ {A = ℕ} 0 1 = cc in omega arith)
-    by true d false f e rest = next l (next (ltb-true (o .id) (x .id) d) a)
-    by false d false f e rest =
-        let le = ltb-false (o .id) (x .id) d in
-        let apart = eqb-false (x .id) (o .id) f in
-        next h (rest (omega arith) e)
+insert-ascending (next {o = x} h a) o l e =
+    by-test (ltb (o .id) (x .id)) (λ d. rw d (next l (next (ltb-true (o .id) (x .id) d) a)))
+    (λ d. by-test (eqb (x .id) (o .id)) (λ f. none-some x (sym (rw f at e)))
+    (λ f.
+    let le = ltb-false (o .id) (x .id) d in
+    let apart = eqb-false (x .id) (o .id) f in
+    rw d (next h (insert-ascending a o (omega arith) (rw f at e)))))
 
 pub record Joins (o : Order) (os : List Order) : Type 0 where
   pub front : List Order
@@ -43,31 +39,25 @@ pub record Joins (o : Order) (os : List Order) : Type 0 where
 pub joins : (o : Order) (os : List Order) → Joins o os
 unfolding insert
 joins o [] = record { front = []; back = []; whole = refl; joined = refl }
-joins o (x ∷ os) = by (ltb (o .id) (x .id)) refl (joins o os)
-  where
-    by : (t : Bool) → ltb (o .id) (x .id) ≡ t → Joins o os → Joins o (x ∷ os)
-    by true e j = record { front = []; back = x ∷ os; whole = refl; joined = rw e }
-    by false e j =
-        record { front = x ∷ j .front; back = j .back; whole = ap (λ xs. x ∷ xs) (j .whole); joined = rw e (ap (λ xs. x ∷ xs) (j .joined)) }
+joins o (x ∷ os) =
+    let j = joins o os in
+    by-test (ltb (o .id) (x .id)) (λ e. record { front = []; back = x ∷ os; whole = refl; joined = rw e })
+    (λ e. record { front = x ∷ j .front; back = j .back; whole = rw (← j .whole); joined = rw (e, j .joined) })
 
 module _ {o : Order} {os : List Order} (j : Joins o os) where
   joined-sums : Joined o os (insert o os)
   joined-sums = rw (j .joined, j .whole) (joined-between o (j .front) (j .back))
 
   joined-members : (x : Order) → List·Memᴰ x (insert o os) ↔ ((x ≡ o) ⊎ List·Memᴰ x os)
-  joined-members x = rw (j .joined, j .whole) (there, back)
-    where
-      there : List·Memᴰ x (j .front ++ (o ∷ j .back)) → (x ≡ o) ⊎ List·Memᴰ x (j .front ++ j .back)
-      there m =
-          ⊎-elim (λ k. inr (Memᴰ·append-left (j .back) k))
-          (λ k. ⊎-elim (λ e. inl e) (λ h. inr (Memᴰ·append-right (j .front) h)) (List·Memᴰ·cases-cons k))
-          (List·Memᴰ·append-cases (j .front) m)
-
-      back : (x ≡ o) ⊎ List·Memᴰ x (j .front ++ j .back) → List·Memᴰ x (j .front ++ (o ∷ j .back))
-      back =
-          ⊎-elim (λ e. Memᴰ·append-right (j .front) (List·Memᴰ·head e))
-          (λ m. ⊎-elim (λ k. Memᴰ·append-left (o ∷ j .back) k) (λ k. Memᴰ·append-right (j .front) (List·Memᴰ·tail k))
-          (List·Memᴰ·append-cases (j .front) m))
+  joined-members x =
+      rw (j .joined, j .whole) (
+        λ m. ⊎-elim (λ k. inr (Memᴰ·append-left (j .back) k))
+            (λ k. ⊎-elim (λ e. inl e) (λ h. inr (Memᴰ·append-right (j .front) h)) (List·Memᴰ·cases-cons k))
+            (List·Memᴰ·append-cases (j .front) m),
+        ⊎-elim (λ e. Memᴰ·append-right (j .front) (List·Memᴰ·head e))
+            (λ m. ⊎-elim (λ k. Memᴰ·append-left (o ∷ j .back) k) (λ k. Memᴰ·append-right (j .front) (List·Memᴰ·tail k))
+            (List·Memᴰ·append-cases (j .front) m)),
+      )
 
   joined-length : length (insert o os) ≡ suc (length os)
   joined-length =
@@ -95,23 +85,22 @@ pub record Standing (id : ℕ) (os : List Order) (o : Order) : Type 0 where
 pub standing : (id : ℕ) (os : List Order) (o : Order) → find id os ≡ some o → Standing id os o
 unfolding find change
 standing id [] o e = absurd (let z : _≡_ {A = ℕ} 0 1 = cc in omega arith)
-standing id (x ∷ os) o e = by (eqb (x .id) id) refl e (standing id os o)
-  where
-    by : (t : Bool) → eqb (x .id) id ≡ t → cond t (some x) (find id os) ≡ some o → (find id os ≡ some o → Standing id os o)
-        → Standing id (x ∷ os) o
-    by true d e rest =
-        let same : x ≡ o = cc in
-        record { front = []; back = os; whole = rw same; named = rw (← same) (eqb-true (x .id) id d); changed = λ f. rw (d, same) }
-    by false d e rest =
-        let s = rest e in
-        record {
-          front = x ∷ s .front;
-          back = s .back;
-          whole = ap (λ xs. x ∷ xs) (s .whole);
-          named = s .named;
-          changed =
-              λ f. rw d (ap (λ xs. x ∷ xs) (s .changed f));
-        }
+standing id (x ∷ os) o e =
+    by-test (eqb (x .id) id)
+    (λ d.
+    let there = rw d at e in
+    let same : x ≡ o = cc in
+    record { front = []; back = os; whole = rw same; named = rw (← same) (eqb-true (x .id) id d); changed = λ f. rw (d, same) })
+    (λ d.
+    let s = standing id os o (rw d at e) in
+    record {
+      front = x ∷ s .front;
+      back = s .back;
+      whole = ap (λ xs. x ∷ xs) (s .whole);
+      named = s .named;
+      changed =
+          λ f. rw d (ap (λ xs. x ∷ xs) (s .changed f));
+    })
 
 module _ {id : ℕ} {os : List Order} {o : Order} (s : Standing id os o) where
   pub standing-member : List·Memᴰ o os

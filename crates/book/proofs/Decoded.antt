@@ -7,6 +7,7 @@ use mathlib.Core.List.{List}
 use native.Mathlib.Omega.{arith}
 use lib.Dec.{eqb}
 use lib.ListN.{length}
+use Rattle.ledger.proofs.Ways.{by-test}
 use Rattle.limits.proofs.Answers.{both-true}
 use Rattle.book.specs.declared.Event.{Event}
 use Rattle.book.specs.declared.Event.the-variants.{Limit, Balance, Block, New, Change, Junk}
@@ -46,13 +47,10 @@ kind-by-kind Q k a b c d e f g s t u v w x y h₁ h₂ h₃ h₄ h₅ h₆ h₇ 
 
 pub decoded-id : (e : List ℕ) → HasId (decode e)
 unfolding decode wellFormed eventOf named
-decoded-id e = by (wellFormed e) (λ w. each (both-true (eqb (length e) 48 && between 1 7 (kindOf e)) _ w .1))
+decoded-id e =
+    by-test (wellFormed e) (λ w. rw w (each (both-true (eqb (length e) 48 && between 1 7 (kindOf e)) _ w .1))) (λ w. rw w tt)
   where
     each : fieldsFit (named (kindOf e) (levelField e)) e ≡ true → HasId (eventOf e)
     each =
         kind-by-kind {A = Named} (λ n x. fieldsFit n e ≡ true → HasId x) (kindOf e) _ _ _ _ _ _ _ _ _ _ _ _ _ _
         (λ _. tt) (λ _. tt) (λ _. tt) (named-id newNames e refl) (λ _. tt) (λ _. tt) (λ _. tt)
-
-    by : (t : Bool) → (t ≡ true → HasId (eventOf e)) → HasId (cond t (eventOf e) Junk)
-    by true h = h refl
-    by false h = tt

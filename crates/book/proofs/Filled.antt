@@ -3,24 +3,21 @@
 use Prim.Native.Nat.{ℕ, _+_, _*_, _≤_}
 use mathlib.Core.Path.{_≡_, refl, sym, _∙_, ap, subst, fun-ext}
 use mathlib.Core.Logic.{by-cases}
-use mathlib.Core.Bool.{Bool, true, false, cond}
 use mathlib.Core.List.{List, [], _∷_, _++_, List·Memᴰ, List·Memᴰ·head, List·Memᴰ·tail}
 use mathlib.Core.Option.{some}
 use native.Mathlib.Decide.{ℕ-discrete}
 use native.Mathlib.Omega.{arith}
 use lib.Dec.{eqb}
-use lib.IntN.{ℤ, pos, negℤ, natAbs, _+ℤ_, +ℤ-idr}
+use lib.IntN.{ℤ, pos, natAbs, _+ℤ_, +ℤ-idr}
 use borrow.Author.Tests.{leb-true}
-use Rattle.integers.specs.Parts.{signed, sum-parts, negation-parts}
+use Rattle.integers.specs.Parts.{signed, sum-parts}
 use Rattle.ledger.specs.declared.order.Order.{Order}
-use Rattle.ledger.specs.declared.order.Side.{Side}
-use Rattle.ledger.specs.declared.order.Side.the-variants.{Buy, Sell}
 use Rattle.ledger.specs.Orders.{remaining, filledBy}
-use Rattle.ledger.specs.Positions.{toward, wayOf, standsIn}
+use Rattle.ledger.specs.Positions.{wayOf, standsIn}
 use Rattle.ledger.specs.Fillings.{Filling, none, fill, fillMoves, balanceAfter}
+use Rattle.ledger.proofs.Ways.{by-test, toward-sum}
 use Rattle.book.specs.declared.OrderChange.the-variants.{Fill}
 use Rattle.book.specs.declared.Event.{Event}
-use Rattle.book.specs.Market.{Market}
 use Rattle.book.specs.OpenOrders.{find, change, kept}
 use Rattle.book.specs.Books.{changed, bookAfter}
 use Rattle.book.specs.States.{State, work}
@@ -55,26 +52,22 @@ module _ (unit : Order → ℕ) where
   unfolding balanceAfter leaves find change
   of-one [] open-each id n o found most = absurd (let z : _≡_ {A = ℕ} 0 1 = cc in omega arith)
   of-one (x ∷ os) open-each id n o found most =
-      by (eqb (x .id) id) found (λ e. of-one os (λ y m. open-each y (List·Memᴰ·tail m)) id n o e most)
-    where
-      by : (t : Bool) → cond t (some x) (find id os) ≡ some o
-          → (find id os ≡ some o → Makes unit os (λ a i. fillMoves unit a i o n) (change id (λ y. kept (filledBy y n)) os))
-          → Makes unit (x ∷ os) (λ a i. fillMoves unit a i o n)
-          (cond t (kept (filledBy x n) ++ os) (x ∷ change id (λ y. kept (filledBy y n)) os))
-      by true e rest =
-          let same : x ≡ o = cc in
-          let h = by-nothing os (λ y m. open-each y (List·Memᴰ·tail m)) in (
-            fill {o = x} n (rw same most) (h .0),
-            λ a S i. ap (λ z. z +ℤ fillMoves unit a i x n) (h .1 a S i ∙ +ℤ-idr (S i)) ∙ ap (λ y. S i +ℤ fillMoves unit a i y n) same,
-            ap (λ xs. kept (filledBy x n) ++ xs) (h .2),
-          )
-      by false e rest =
-          let h = rest e in (
-            fill {o = x} 0 (omega arith) (h .0),
-            λ a S i. ap (λ z. balanceAfter unit a S (h .0) i +ℤ z) (no-fill unit a i x) ∙ +ℤ-idr (balanceAfter unit a S (h .0) i)
-                ∙ h .1 a S i,
-            rw (kept-whole x (open-each x (List·Memᴰ·head refl)), h .2),
-          )
+      by-test (eqb (x .id) id)
+      (λ t.
+      let there = rw t at found in
+      let same : x ≡ o = cc in
+      let h = by-nothing os (λ y m. open-each y (List·Memᴰ·tail m)) in (
+        fill {o = x} n (rw same most) (h .0),
+        λ a S i. ap (λ z. z +ℤ fillMoves unit a i x n) (h .1 a S i ∙ +ℤ-idr (S i)) ∙ ap (λ y. S i +ℤ fillMoves unit a i y n) same,
+        rw (t, h .2),
+      ))
+      (λ t.
+      let h = of-one os (λ y m. open-each y (List·Memᴰ·tail m)) id n o (rw t at found) most in (
+        fill {o = x} 0 (omega arith) (h .0),
+        λ a S i. ap (λ z. balanceAfter unit a S (h .0) i +ℤ z) (no-fill unit a i x) ∙ +ℤ-idr (balanceAfter unit a S (h .0) i)
+            ∙ h .1 a S i,
+        rw (t, kept-whole x (open-each x (List·Memᴰ·head refl)), h .2),
+      ))
 
 -- ---- a filling after a filling
 -- an order that closes is gone, another stays
@@ -90,20 +83,10 @@ stays? o =
 fill-more : (unit : Order → ℕ) (a i : ℕ) (o : Order) (n m : ℕ) → unit (filledBy o n) ≡ unit o
     → fillMoves unit a i o (n + m) ≡ fillMoves unit a i o n +ℤ fillMoves unit a i (filledBy o n) m
 unfolding fillMoves filledBy standsIn
-fill-more unit a i o n m same = rw same (by (standsIn a i o) (o .side) (unit o))
-  where
-    by : (t : Bool) (s : Side) (u : ℕ) → cond t (toward (wayOf s) (pos (u * (n + m)))) (pos 0) ≡ cond t (toward (wayOf s) (pos (u * n)))
-        (pos 0) +ℤ cond t (toward (wayOf s) (pos (u * m))) (pos 0)
-    by true Buy u = omega signed
-    by true Sell u =
-        omega (
-          signed,
-          negation-parts (pos (u * (n + m))),
-          negation-parts (pos (u * n)),
-          negation-parts (pos (u * m)),
-          sum-parts (negℤ (pos (u * n))) (negℤ (pos (u * m))),
-        )
-    by false s u = refl
+fill-more unit a i o n m same =
+    let sum : pos (unit o * (n + m)) ≡ pos (unit o * n) +ℤ pos (unit o * m) = ap pos (omega arith) in
+    rw same (by-test (standsIn a i o)
+    (λ t. rw (t, sum) (toward-sum (wayOf (o .side)) (pos (unit o * n)) (pos (unit o * m)))) (λ t. rw t))
 
 filled-twice : (o : Order) (n m : ℕ) → filledBy (filledBy o n) m ≡ filledBy o (n + m)
 unfolding filledBy
@@ -179,18 +162,16 @@ fill-filling k sound id n zero =
       orders = sym (h .2);
     }
 
-joined-to : (mk : Market) {os : List Order} (f : Filling os) (rest : List Order) → leaves f ≡ rest → (g : Filling rest)
-    → Joins (mk .unit) f g
-joined-to mk f rest e = subst (λ l. (g : Filling l) → Joins (mk .unit) f g) e (joined (mk .unit) (mk .unit-filled) f)
-
 then-filled : (k : State) (e : Event) (k′ : State) → FilledTo k (work k e) → FilledTo (work k e) k′ → FilledTo k k′
 then-filled k e k′ first second =
-    let h = joined-to (k .market) (first .filling) (work k e .book .orders) (sym (first .orders)) (second .filling) in
+    let unit = k .market .unit in
+    let join = joined unit (k .market .unit-filled) (first .filling) in
+    let h = subst (λ l. (g : Filling l) → Joins unit (first .filling) g) (sym (first .orders)) join (second .filling) in
     record {
       filling = h .0;
       balances = λ a i.
           second .balances a i
-          ∙ ap (λ S. balanceAfter (k .market .unit) a S (second .filling) i) (fun-ext (first .balances a))
+          ∙ ap (λ S. balanceAfter unit a S (second .filling) i) (fun-ext (first .balances a))
           ∙ sym (h .1 a (k .book .balanceOf a) i);
       orders = second .orders ∙ sym (h .2);
     }

@@ -1,5 +1,5 @@
 -- Every filling of a sound book's open orders is worked by FILLs that the table accepts one after the other.
-use Prim.Native.Nat.{ℕ, _≤_}
+use Prim.Native.Nat.{ℕ, _≤_, _+_}
 use mathlib.Core.Path.{_≡_, refl, sym, _∙_, ap}
 use mathlib.Core.Logic.{_≢_, by-cases}
 use mathlib.Core.Bool.{true}
@@ -35,18 +35,9 @@ unfoldable pub leaves : {os : List Order} → Filling os → List Order
 leaves none = []
 leaves (fill {o} n most f) = kept (filledBy o n) ++ leaves f
 
-filled-none : (o : Order) → filledBy o 0 ≡ o
-unfolding filledBy
-filled-none o =
-    ap (λ n. record { id = o .id; account = o .account; instrument = o .instrument; side = o .side; total = o .total; filled = n })
-    (omega arith)
-
-remaining-total : (o : Order) → remaining o ≤ o .total
-unfolding remaining
-remaining-total o = omega arith
-
 pub kept-whole : (o : Order) → 1 ≤ remaining o → kept (filledBy o 0) ≡ o ∷ []
-kept-whole o l = rw (filled-none o) (kept-some o (omega arith))
+unfolding filledBy
+kept-whole o l = let none : o .filled + 0 ≡ o .filled = omega arith in rw none (kept-some o (omega arith))
 
 -- balances that differ by d differ by d after the same filling
 pub after-moved : (unit : Order → ℕ) (a : ℕ) (S S′ d : ℕ → ℤ) {os : List Order} (f : Filling os) (i : ℕ) → S′ i ≡ S i +ℤ d i
@@ -94,7 +85,7 @@ pub record Worked (k : State) (front : List Order) {os : List Order} (f : Fillin
 -- the orders in front are done
 fills-behind : {os : List Order} (f : Filling os) (front : List Order) (k : State) → Sound k → k .book .orders ≡ front ++ os
     → Worked k front f
-unfolding balanceAfter leaves bookAfter changed
+unfolding balanceAfter leaves bookAfter changed remaining
 fills-behind none front k sound whole = record { state = k; fills = done; balances = λ a i. refl; orders = whole }
 fills-behind (fill {o} {orders} n most f) front k sound whole =
     by-cases (ℕ-discrete n 0)
@@ -115,7 +106,7 @@ fills-behind (fill {o} {orders} n most f) front k sound whole =
 
     accepted₁ : n ≢ 0 → answer k (fillOf (o .id) (pos n)) ≡ 0
     accepted₁ h =
-        let small = remaining-total o in
+        let small : remaining o ≤ o .total = omega arith in
         fill-accepted k (o .id) n o found (omega arith) (omega (arith, fits .total)) most
 
     sound₁ : n ≢ 0 → Sound (work k (fillOf (o .id) (pos n)))

@@ -13,7 +13,7 @@ use lib.IntN.{natAbs}
 use borrow.Author.Tests.{eqb-true, eqb-false, eq-eqb, ne-eqb}
 use Rattle.ledger.specs.declared.order.Order.{Order}
 use Rattle.ledger.specs.Orders.{filledBy, replacedTotal, closes}
-use Rattle.ledger.proofs.Ways.{by-number}
+use Rattle.ledger.proofs.Ways.{by-number, by-test}
 use Rattle.book.specs.declared.OrderChange.{OrderChange}
 use Rattle.book.specs.declared.OrderChange.the-variants.{Replace, Cancel, Fill}
 use Rattle.book.specs.OpenOrders.{find, change, kept}
@@ -25,19 +25,11 @@ pub data Became (o : Order) : List Order → Type 0 where
   gone : Became o []
   became : {o′ : Order} → o′ .id ≡ o .id → Became o (o′ ∷ [])
 
-kept-became : (o o′ : Order) → o′ .id ≡ o .id → Became o (kept o′)
-unfolding kept
-kept-became o o′ e = by (closes o′)
-  where
-    by : (t : Bool) → Became o (cond t [] (o′ ∷ []))
-    by true = gone
-    by false = became e
-
 pub changed-became : (c : OrderChange) (o : Order) → Became o (changed c o)
-unfolding changed replacedTotal filledBy
+unfolding changed replacedTotal filledBy kept
 changed-became (Replace n) o = became refl
 changed-became Cancel o = gone
-changed-became (Fill n) o = kept-became o (filledBy o (natAbs n)) refl
+changed-became (Fill n) o = by-test (closes (filledBy o (natAbs n))) (λ t. rw t gone) (λ t. rw t (became refl))
 
 -- ---- ascending
 pub ascending-from : {m n : ℕ} {os : List Order} → m ≤ n → Ascending n os → Ascending m os
@@ -90,27 +82,27 @@ pub change-exactly : {least : ℕ} {os : List Order} → Ascending least os → 
     → find id os ≡ some o → (x : Order) → List·Memᴰ x (change id f os) ↔ (List·Memᴰ x (f o) ⊎ (List·Memᴰ x os × (x .id ≢ id)))
 unfolding change find
 change-exactly nothing id f o e x = absurd (let z : _≡_ {A = ℕ} 0 1 = cc in omega arith)
-change-exactly (next {o = y} {os} h a) id f o e x = by (eqb (y .id) id) refl e (λ d. change-exactly a id f o d x)
-  where
-    by : (t : Bool) → eqb (y .id) id ≡ t → cond t (some y) (find id os) ≡ some o
-        → (find id os ≡ some o → List·Memᴰ x (change id f os) ↔ (List·Memᴰ x (f o) ⊎ (List·Memᴰ x os × (x .id ≢ id))))
-        → List·Memᴰ x (cond t (f y ++ os) (y ∷ change id f os)) ↔ (List·Memᴰ x (f o) ⊎ (List·Memᴰ x (y ∷ os) × (x .id ≢ id)))
-    by true d e rest =
-        let here = eqb-true (y .id) id d in
-        let same : y ≡ o = cc in
-        rw (← same) (
-          λ m. ⊎-elim (λ k. inl k) (λ k. let l = ascending-above a x k in inr (List·Memᴰ·tail k, λ c. omega arith))
-              (List·Memᴰ·append-cases (f y) m),
-          ⊎-elim (λ k. Memᴰ·append-left os k)
-              (λ k. ⊎-elim (λ c. absurd (k .1 (rw c here))) (λ m. Memᴰ·append-right (f y) m) (List·Memᴰ·cases-cons (k .0))),
-        )
-    by false d e rest =
-        let apart = eqb-false (y .id) id d in (
-          λ m. ⊎-elim (λ c. inr (List·Memᴰ·head c, rw c apart))
-              (λ k. ⊎-elim (λ u. inl u) (λ u. inr (List·Memᴰ·tail (u .0), u .1)) (rest e .0 k)) (List·Memᴰ·cases-cons m),
-          ⊎-elim (λ k. List·Memᴰ·tail (rest e .1 (inl k)))
-              (λ k. ⊎-elim (λ c. List·Memᴰ·head c) (λ u. List·Memᴰ·tail (rest e .1 (inr (u, k .1)))) (List·Memᴰ·cases-cons (k .0))),
-        )
+change-exactly (next {o = y} {os} h a) id f o e x =
+    by-test (eqb (y .id) id)
+    (λ d.
+    let here = eqb-true (y .id) id d in
+    let there = rw d at e in
+    let same : y ≡ o = cc in
+    rw (d, ← same) (
+      λ m. ⊎-elim (λ k. inl k) (λ k. let l = ascending-above a x k in inr (List·Memᴰ·tail k, λ c. omega arith))
+          (List·Memᴰ·append-cases (f y) m),
+      ⊎-elim (λ k. Memᴰ·append-left os k)
+          (λ k. ⊎-elim (λ c. absurd (k .1 (rw c here))) (λ m. Memᴰ·append-right (f y) m) (List·Memᴰ·cases-cons (k .0))),
+    ))
+    (λ d.
+    let apart = eqb-false (y .id) id d in
+    let rest = change-exactly a id f o (rw d at e) x in
+    rw d (
+      λ m. ⊎-elim (λ c. inr (List·Memᴰ·head c, rw c apart))
+          (λ k. ⊎-elim (λ u. inl u) (λ u. inr (List·Memᴰ·tail (u .0), u .1)) (rest .0 k)) (List·Memᴰ·cases-cons m),
+      ⊎-elim (λ k. List·Memᴰ·tail (rest .1 (inl k)))
+          (λ k. ⊎-elim (λ c. List·Memᴰ·head c) (λ u. List·Memᴰ·tail (rest .1 (inr (u, k .1)))) (List·Memᴰ·cases-cons (k .0))),
+    ))
 
 -- ---- a list whose cut is known
 pub ascending-before : {least : ℕ} (front : List Order) (o : Order) (back : List Order) → Ascending least (front ++ (o ∷ back))

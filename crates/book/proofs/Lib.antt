@@ -1,4 +1,5 @@
 -- Laws of the plain book: sound books stay sound, positions stay within limits, demand 3 of any desk; and days that are computed.
+pub mod MarketLaws
 pub mod Edges
 pub mod Rosters
 pub mod Listing

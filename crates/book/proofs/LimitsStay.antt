@@ -1,14 +1,15 @@
 -- "Set again", by lines; and a limit stays as it is unless it is set again.
 use Prim.Native.Nat.{ℕ}
 use mathlib.Core.Path.{_≡_, refl, sym, _∙_, ap}
-use mathlib.Core.Logic.{_↔_, ⊎-elim, _≢_, _⊎_, inl, inr, by-cases}
-use mathlib.Core.Bool.{Bool, true, false}
-use mathlib.Core.Option.{Option, none, some}
+use mathlib.Core.Logic.{_↔_, ⊎-elim, inl, inr, by-cases}
+use mathlib.Core.Bool.{true, false}
+use mathlib.Core.Option.{some}
 use native.Mathlib.Decide.{ℕ-discrete}
 use Rattle.ledger.specs.Roster.{Roster}
 use Rattle.ledger.specs.Positions.{Way, Scope, instrument, group}
-use Rattle.limits.specs.Lines.{Line, Lines, isSet, orElse, lineInForce, figure, largestPosition, limit}
-use Rattle.limits.proofs.LineLaws.{unset-none}
+use Rattle.ledger.proofs.Ways.{by-test}
+use Rattle.limits.specs.Lines.{Lines, isSet, lineInForce, limit}
+use Rattle.limits.proofs.LineLaws.{unset-none, set-some}
 use Rattle.book.specs.declared.Figures.{Figures}
 use Rattle.book.specs.declared.LimitLine.{LimitLine}
 use Rattle.book.specs.declared.LimitLine.the-variants.{Own, Default, OfGroup}
@@ -47,15 +48,7 @@ module _ (k : State) (a : ℕ) where
   unfolding bookAfter
   lines-own l = at-here a (setLine l (k .book .linesOf a)) (k .book .linesOf) a refl
 
-  pub lines-other : (c : ℕ) (l : LimitLine) → a ≢ c → work k (Limit c l) .book .linesOf a ≡ k .book .linesOf a
-  unfolding bookAfter
-  lines-other c l other = at-elsewhere c (setLine l (k .book .linesOf c)) (k .book .linesOf) a other
-
 -- ---- a limit stays unless it is set again
-pub test : (t : Bool) → (t ≡ true) ⊎ (t ≡ false)
-test true = inl refl
-test false = inr refl
-
 module _ (k : State) (a : ℕ) (w : Way) where
   abbrev r : Roster
   r = k .roster
@@ -67,37 +60,22 @@ module _ (k : State) (a : ℕ) (w : Way) where
   own-line-stays : (i : ℕ) (f : Figures) → ¬ SetsAgain k (Limit a (Own i f)) a (instrument i)
       → limit r (setLine (Own i f) ls) (instrument i) w ≡ limit r ls (instrument i) w
   unfolding limit setLine lineInForce lineSet
-  own-line-stays i f out = by (test (isSet (ls .ownOf i))) (test (isSet (lineOf f)))
+  own-line-stays i f out =
+      by-test (isSet (ls .ownOf i)) (λ set. absurd (out (inl (rw (under-own r (k .book) a i set)))))
+      (λ not-set. by-test (isSet (lineOf f))
+      (λ set. absurd (out (inr (rw (under-own r (work k (Limit a (Own i f)) .book) a i (ap isSet after-own ∙ set))))))
+      (λ unset. rw (at-here i (lineOf f) (ls .ownOf) i refl, unset-none (lineOf f) unset, unset-none (ls .ownOf i) not-set)))
     where
       after-own : work k (Limit a (Own i f)) .book .linesOf a .ownOf i ≡ lineOf f
       after-own = ap (λ (x : Lines). x .ownOf i) (lines-own k a (Own i f)) ∙ at-here i (lineOf f) (ls .ownOf) i refl
-
-      default : Option Line
-      default = ls .defaultOf (r .contractOf i)
-
-      by : (isSet (ls .ownOf i) ≡ true) ⊎ (isSet (ls .ownOf i) ≡ false)
-          → (isSet (lineOf f) ≡ true) ⊎ (isSet (lineOf f) ≡ false)
-          → figure (largestPosition w) (orElse (at i (lineOf f) (ls .ownOf) i) (ls .defaultOf (r .contractOf i)))
-          ≡ figure (largestPosition w) (orElse (ls .ownOf i) (ls .defaultOf (r .contractOf i)))
-      by (inl set) t = absurd (out (inl (rw (under-own r (k .book) a i set))))
-      by (inr not-set) (inl set) =
-          absurd (out (inr (rw (under-own r (work k (Limit a (Own i f)) .book) a i (ap isSet after-own ∙ set)))))
-      by (inr not-set) (inr unset) =
-          ap (λ own. figure (largestPosition w) (orElse own default)) (at-here i (lineOf f) (ls .ownOf) i refl
-          ∙ unset-none (lineOf f) unset ∙ sym (unset-none (ls .ownOf i) not-set))
 
   -- the default line of the instrument's contract: under an own line it is not in force
   default-line-stays : (i : ℕ) (f : Figures) → ¬ SetsAgain k (Limit a (Default (r .contractOf i) f)) a (instrument i)
       → limit r (setLine (Default (r .contractOf i) f) ls) (instrument i) w ≡ limit r ls (instrument i) w
   unfolding limit setLine lineInForce lineSet
   default-line-stays i f out =
-      by (ls .ownOf i) (λ unset. out (inl (rw (under-default r (k .book) a i unset))))
-    where
-      by : (own : Option Line) → ¬ (isSet own ≡ false)
-          → figure (largestPosition w) (orElse own (at (r .contractOf i) (lineOf f) (ls .defaultOf) (r .contractOf i))) ≡ figure
-          (largestPosition w) (orElse own (ls .defaultOf (r .contractOf i)))
-      by (some l) set = refl
-      by none set = absurd (set refl)
+      by-test (isSet (ls .ownOf i)) (λ set. rw (set-some (ls .ownOf i) set .1))
+      (λ unset. absurd (out (inl (rw (under-default r (k .book) a i unset)))))
 
   own-stays : (l : LimitLine) (p : Scope) → ¬ SetsAgain k (Limit a l) a p
       → limit r (setLine l ls) p w ≡ limit r ls p w
@@ -122,7 +100,7 @@ module _ (k : State) (a : ℕ) (w : Way) where
   unfolding bookAfter
   limit-stays (Limit c l) p out =
       by-cases (ℕ-discrete c a) (λ e. rw e (ap (λ (x : Lines). limit r x p w) (lines-own k a l) ∙ own-stays l p (rw e at out)))
-      (λ other. ap (λ (x : Lines). limit r x p w) (lines-other k a c l (λ e. other (sym e))))
+      (λ other. rw (at-elsewhere c (setLine l (k .book .linesOf c)) (k .book .linesOf) a (λ e. other (sym e))))
   limit-stays (Balance c i z) p out = refl
   limit-stays (Block what z) p out = refl
   limit-stays (New s c i id n) p out = refl

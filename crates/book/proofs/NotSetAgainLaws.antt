@@ -49,25 +49,20 @@ module _ (D : Desk) (a : ℕ) (p : Scope) where
   )
 
 -- ---- a test that computes, for lists written out
+abbrev parts : LineName → ℕ × (ℕ × ℕ)
+parts (ownLine a i) = (0, (a, i))
+parts (defaultLine a c) = (1, (a, c))
+parts (groupLine a g) = (2, (a, g))
+
 abbrev sameLine : LineName → LineName → Bool
-sameLine (ownLine a i) (ownLine b j) = eqb a b && eqb i j
-sameLine (ownLine a i) (defaultLine b j) = false
-sameLine (ownLine a i) (groupLine b j) = false
-sameLine (defaultLine a i) (ownLine b j) = false
-sameLine (defaultLine a i) (defaultLine b j) = eqb a b && eqb i j
-sameLine (defaultLine a i) (groupLine b j) = false
-sameLine (groupLine a i) (ownLine b j) = false
-sameLine (groupLine a i) (defaultLine b j) = false
-sameLine (groupLine a i) (groupLine b j) = eqb a b && eqb i j
+sameLine m n = eqb (parts m .0) (parts n .0) && eqb (parts m .1 .0) (parts n .1 .0) && eqb (parts m .1 .1) (parts n .1 .1)
 
 abbrev isLine : Option LineName → LineName → Bool
 isLine none n = false
 isLine (some x) n = sameLine x n
 
 same-as-itself : (n : LineName) → sameLine n n ≡ true
-same-as-itself (ownLine a i) = rw (eq-eqb a a refl, eq-eqb i i refl)
-same-as-itself (defaultLine a i) = rw (eq-eqb a a refl, eq-eqb i i refl)
-same-as-itself (groupLine a i) = rw (eq-eqb a a refl, eq-eqb i i refl)
+same-as-itself n = simp (eq-eqb (parts n .0) _ refl, eq-eqb (parts n .1 .0) _ refl, eq-eqb (parts n .1 .1) _ refl)
 
 is-not-line : (x : Option LineName) (n : LineName) → not (isLine x n) ≡ true → x ≡ some n → ⊥
 is-not-line x n test e = true≢false (sym (rw (e, same-as-itself n) at test))

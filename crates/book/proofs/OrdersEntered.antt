@@ -1,14 +1,15 @@
 -- The event that N is: it enters or raises one order, of a marked account, and leaves every line as it is.
-use Prim.Native.Nat.{ℕ, _<_}
+use Prim.Native.Nat.{_<_}
 use mathlib.Core.Path.{_≡_, refl}
-use mathlib.Core.Bool.{Bool, true, false, cond}
+use mathlib.Core.Bool.{true}
 use mathlib.Core.Option.{Option, none, some}
-use native.Mathlib.Omega.{arith}
 use lib.Dec.{ltb}
 use lib.IntN.{ℤ, natAbs}
 use borrow.Author.Tests.{ltb-true}
 use Rattle.ledger.specs.declared.order.Order.{Order}
 use Rattle.ledger.specs.Orders.{replacedTotal}
+use Rattle.ledger.proofs.Ways.{by-test}
+use Rattle.limits.proofs.LineLaws.{none-some}
 use Rattle.book.specs.declared.Event.{Event}
 use Rattle.book.specs.declared.OrderChange.{OrderChange}
 use Rattle.book.specs.declared.OrderChange.the-variants.{Replace, Cancel, Fill}
@@ -21,12 +22,9 @@ use Rattle.book.specs.Sound.{Sound}
 use Rattle.book.proofs.Cuts.{standing, standing-member}
 use Rattle.book.proofs.Tables.{at-here}
 
-pub none-enters : {P : Type 0} (o : Order) → _≡_ {A = Option Order} none (some o) → P
-none-enters o e = absurd (let z : _≡_ {A = ℕ} 0 1 = cc in omega arith)
-
 pub enters-lines : (k : State) (e : Event) (o : Order) → entered (k .book) e ≡ some o → work k e .book .linesOf ≡ k .book .linesOf
 unfolding entered bookAfter
-enters-lines k (Limit c l) o enters = none-enters o enters
+enters-lines k (Limit c l) o enters = none-some o enters
 enters-lines k (Balance c i z) o enters = refl
 enters-lines k (Block what z) o enters = refl
 enters-lines k (New s c i id n) o enters = refl
@@ -36,28 +34,23 @@ enters-lines k Junk o enters = refl
 -- the order raised is one that was found, at the new total, by a REPLACE
 pub raised-found : (c : OrderChange) (x : Option Order) (o : Order) → raised c x ≡ some o
     → (n : ℤ) × (y : Order) × (c ≡ Replace n) × (x ≡ some y) × (y .total < natAbs n) × (o ≡ replacedTotal y (natAbs n))
-raised-found (Replace n) none o e = none-enters o e
+raised-found (Replace n) none o e = none-some o e
 raised-found (Replace n) (some y) o e =
-    let h = by (ltb (y .total) (natAbs n)) refl e in
-    (n, y, refl, refl, h .0, h .1)
-  where
-    by : (t : Bool) → ltb (y .total) (natAbs n) ≡ t → cond t (some (replacedTotal y (natAbs n))) none ≡ some o
-        → (y .total < natAbs n) × (o ≡ replacedTotal y (natAbs n))
-    by true test e = (ltb-true (y .total) (natAbs n) test, cc)
-    by false test e = none-enters o e
-raised-found Cancel x o e = none-enters o e
-raised-found (Fill n) x o e = none-enters o e
+    by-test (ltb (y .total) (natAbs n))
+    (λ t. let same = rw t at e in (n, y, refl, refl, ltb-true (y .total) (natAbs n) t, cc)) (λ t. none-some o (rw t at e))
+raised-found Cancel x o e = none-some o e
+raised-found (Fill n) x o e = none-some o e
 
 pub enters-marked : (k : State) → Sound k → (e : Event) (o : Order) → entered (k .book) e ≡ some o
     → work k e .beside .trading (o .account) ≡ true
 unfolding entered mark newOrder replacedTotal
-enters-marked k sound (Limit c l) o enters = none-enters o enters
-enters-marked k sound (Balance c i z) o enters = none-enters o enters
-enters-marked k sound (Block what z) o enters = none-enters o enters
+enters-marked k sound (Limit c l) o enters = none-some o enters
+enters-marked k sound (Balance c i z) o enters = none-some o enters
+enters-marked k sound (Block what z) o enters = none-some o enters
 enters-marked k sound (New s c i id n) o enters =
     let same : newOrder s c i id n ≡ o = cc in
     rw (← same) (at-here c true (k .beside .trading) c refl)
 enters-marked k sound (Change id c) o enters =
     let h = raised-found c (find id (k .book .orders)) o enters in
     rw (h .5) (sound .marked (h .1) (standing-member (standing id (k .book .orders) (h .1) (h .3))))
-enters-marked k sound Junk o enters = none-enters o enters
+enters-marked k sound Junk o enters = none-some o enters

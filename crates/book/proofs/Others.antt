@@ -4,11 +4,9 @@ use mathlib.Core.Path.{_≡_, refl, sym, _∙_, ap}
 use mathlib.Core.Logic.{_↔_, _≢_, inr, ⊎-elim, Iff·rfl}
 use mathlib.Core.List.{List, List·Memᴰ}
 use mathlib.Core.Option.{some}
-use lib.IntN.{pos, _+ℤ_, +ℤ-idr}
-use borrow.Author.Tests.{ne-eqb}
+use lib.IntN.{_+ℤ_, +ℤ-idr}
 use Rattle.ledger.specs.declared.order.Order.{Order}
-use Rattle.ledger.specs.Positions.{standsIn}
-use Rattle.ledger.specs.Fillings.{fillMoves}
+use Rattle.ledger.proofs.Amounts.{fill-apart}
 use Rattle.book.specs.declared.Event.{Event}
 use Rattle.book.specs.declared.Event.the-variants.{Limit, Balance, Block, New, Change, Junk}
 use Rattle.book.specs.OpenOrders.{find, change}
@@ -53,10 +51,6 @@ changed-elsewhere {least} {os} asc a id f o found other same x own = (
         let one : x ≡ o = cc in
         other (sym own ∙ ap (λ y. y .account) one)
 
-fill-elsewhere : (unit : Order → ℕ) (a i : ℕ) (o : Order) (n : ℕ) → a ≢ o .account → fillMoves unit a i o n ≡ pos 0
-unfolding fillMoves standsIn
-fill-elsewhere unit a i o n other = rw (ne-eqb (o .account) a (λ e. other (sym e)))
-
 module _ (k : State) (sound : Sound k) (a : ℕ) where
   pub untouched : (e : Event) → Passed k e → OfAnother a (k .book) e → Untouched a (k .book) (work k e .book)
   unfolding bookAfter newOrder
@@ -90,7 +84,7 @@ module _ (k : State) (sound : Sound k) (a : ℕ) where
         orders = changed-elsewhere (sound .ids) a id (changed c) (f .order) (f .found) apart (changed-account c (f .order));
         balances =
             λ j. change-balances k id (f .order) (f .found) c a j
-            ∙ ap (λ z. k .book .balanceOf a j +ℤ z) (fill-elsewhere (k .market .unit) a j (f .order) (filledIn c) apart)
+            ∙ ap (λ z. k .book .balanceOf a j +ℤ z) (fill-apart (k .market .unit) a j (f .order) (filledIn c) (λ h. apart (sym (h .0))))
             ∙ +ℤ-idr (k .book .balanceOf a j);
         lines = refl;
       }

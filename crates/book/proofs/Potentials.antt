@@ -13,12 +13,13 @@ use Rattle.ledger.specs.declared.order.Side.{Side}
 use Rattle.ledger.specs.Orders.{remaining}
 use Rattle.ledger.specs.Positions.{Way, Scope, instrument, opposite, wayOf, ofInstrument, potential, position}
 use Rattle.ledger.specs.Moves.{Moves}
-use Rattle.ledger.proofs.Changes.{shift-down, shift-unmoved, shift-of-another, shift-own, fill-lowers, fill-kept, fill-opposite, idle}
-use Rattle.book.specs.declared.LimitLine.{LimitLine}
-use Rattle.book.specs.declared.Blocked.{Blocked}
+use Rattle.ledger.proofs.Changes.{shift-down, shift-unmoved, shift-of-another, shift-own, fill-lowers, fill-opposite, idle}
+use Rattle.ledger.proofs.Changes.{fill-level}
+use Rattle.ledger.proofs.Changes.{shift-by}
+use Rattle.ledger.proofs.Ways.{other-side, side-back}
 use Rattle.book.specs.declared.OrderChange.{OrderChange}
 use Rattle.book.specs.declared.OrderChange.the-variants.{Replace, Cancel, Fill}
-use Rattle.book.specs.declared.Event.the-variants.{Limit, Balance, Block, New, Change}
+use Rattle.book.specs.declared.Event.the-variants.{Balance, New, Change}
 use Rattle.book.specs.OpenOrders.{find}
 use Rattle.book.specs.Books.{at, newOrder, changedBalances, bookAfter}
 use Rattle.book.specs.States.{State, work}
@@ -27,15 +28,6 @@ use Rattle.book.proofs.Tables.{at-here, at-elsewhere}
 use Rattle.book.proofs.Shifts.{remainsAfter, filledIn, new-shift, change-shift, change-balances}
 
 module _ (k : State) (a : ℕ) (p : Scope) (w : Way) where
-  -- LIMIT and BLOCK move no position
-  pub limit-level : (c : ℕ) (l : LimitLine) → potentialOf (work k (Limit c l)) a p w ≡ potentialOf k a p w
-  unfolding bookAfter
-  limit-level c l = refl
-
-  pub block-level : (what : Blocked) (z : ℤ) → potentialOf (work k (Block what z)) a p w ≡ potentialOf k a p w
-  unfolding bookAfter
-  block-level what z = refl
-
   -- BALANCE moves none of another account
   pub balance-other : (c i : ℕ) (z : ℤ) → a ≢ c → potentialOf (work k (Balance c i z)) a p w ≡ potentialOf k a p w
   unfolding bookAfter
@@ -64,16 +56,6 @@ module _ (k : State) (a : ℕ) (p : Scope) (w : Way) where
     new-other = shift-of-another (new-shift k s c i id n) a (k .book .balanceOf a) (k .roster) p w
 
   module _ (id : ℕ) (o : Order) (found : find id (k .book .orders) ≡ some o) where
-    -- REPLACE moves none but those that its order's fills move, and none of another account
-    pub replace-unmoved : (n : ℤ) → ¬ Moves (k .roster) o p w
-        → potentialOf (work k (Change id (Replace n))) a p w ≡ potentialOf k a p w
-    unfolding bookAfter changedBalances
-    replace-unmoved n = shift-unmoved (change-shift k id o found (Replace n)) a (k .book .balanceOf a) (k .roster) p w
-
-    pub replace-other : (n : ℤ) → o .account ≢ a → potentialOf (work k (Change id (Replace n))) a p w ≡ potentialOf k a p w
-    unfolding bookAfter changedBalances
-    replace-other n = shift-of-another (change-shift k id o found (Replace n)) a (k .book .balanceOf a) (k .roster) p w
-
     -- a change that leaves no more to remain, with what it fills, than remained raises none: a REPLACE whose total does not rise, a
     -- CANCEL, a FILL
     pub change-lowers : (c : OrderChange) → remainsAfter c o + filledIn c ≤ remaining o
@@ -86,28 +68,18 @@ module _ (k : State) (a : ℕ) (p : Scope) (w : Way) where
         fill-lowers (change-shift k id o found (Fill n)) (natAbs n) (omega arith) a (k .book .balanceOf a)
         (work k (Change id (Fill n)) .book .balanceOf a) (change-balances k id o found (Fill n) a) (k .roster) p w
 
-new-remaining : (s : Side) (a i id : ℕ) (n : ℤ) → remaining (newOrder s a i id n) ≡ natAbs n
-unfolding newOrder remaining
-new-remaining s a i id n = omega arith
-
 -- ---- by how much: the order's own instrument, on the side to which its fills move it
 module _ (k : State) where
+  -- a new order counts for nothing before, and for its quantity after
+  pub new-counts : (s : Side) (a i id : ℕ) (n : ℤ) → let o = newOrder s a i id n in
+      pos (k .market .unit o * 0) +ℤ pos (k .market .unit o * natAbs n) ≡ pos (k .market .unit o * remaining o)
+  unfolding newOrder remaining
+  new-counts s a i id n = let e : natAbs n - 0 ≡ natAbs n = omega arith in rw e (ap pos (omega arith))
+
   pub new-own : (s : Side) (a i id : ℕ) (n : ℤ) → potentialOf (work k (New s a i id n)) a (instrument i) (wayOf s)
       ≡ potentialOf k a (instrument i) (wayOf s) +ℤ pos (k .market .unit (newOrder s a i id n) * natAbs n)
   unfolding bookAfter potential newOrder
-  new-own s a i id n =
-      let unit = k .market .unit in
-      let o = newOrder s a i id n in
-      let x = ofInstrument unit (k .book .orders) a (k .book .balanceOf a) i (wayOf s) in
-      let y = ofInstrument unit (work k (New s a i id n) .book .orders) a (k .book .balanceOf a) i (wayOf s) in
-      omega (
-        signed,
-        shift-own (new-shift k s a i id n) a (k .book .balanceOf a) refl (wayOf s) refl,
-        ap (λ m. pos (unit o * m)) (new-remaining s a i id n),
-        sum-parts y (pos (unit o * 0)),
-        sum-parts x (pos (unit o * remaining o)),
-        sum-parts x (pos (unit o * natAbs n)),
-      )
+  new-own s a i id n = shift-by (new-shift k s a i id n) a (k .book .balanceOf a) refl _ (new-counts s a i id n) (wayOf s) refl
 
   module _ (id : ℕ) (o : Order) (found : find id (k .book .orders) ≡ some o) where
     -- the position of the order's account and instrument on side w, and what m contracts of the order count for
@@ -140,8 +112,9 @@ module _ (k : State) where
     unfolding potential
     fill-own n most =
         let a = o .account in
-        fill-kept (change-shift k id o found (Fill n)) (natAbs n) (omega arith) a (k .book .balanceOf a)
-        (work k (Change id (Fill n)) .book .balanceOf a) (change-balances k id o found (Fill n) a) (o .instrument) (wayOf (o .side)) refl
+        fill-level (change-shift k id o found (Fill n)) (natAbs n) (omega arith) a (k .book .balanceOf a)
+        (work k (Change id (Fill n)) .book .balanceOf a) (change-balances k id o found (Fill n) a) (o .instrument) (wayOf (o .side))
+        (λ h. other-side (wayOf (o .side)) (cc (side-back (o .side), h .0)))
 
     pub fill-other-side : (n : ℤ) → natAbs n ≤ remaining o → (v : Way) → wayOf (o .side) ≡ opposite v
         → ownAt (work k (Change id (Fill n))) v ≡ ownAt k v -ℤ counts (natAbs n)

@@ -63,16 +63,10 @@ morning-accepted = (refl, refl)
 
 -- tables 12 to 14: a buy of 1,000 K8D5, a put, fails the group's short limit; a sell of 1,000 K888 its own; a buy of 1,000
 -- K885 passes
-abbrev putBought : Event
-putBought = New Buy 1 3 5 (pos 1000)
-
-abbrev callSold : Event
-callSold = New Sell 1 13 6 (pos 1000)
-
 abbrev callBought : Event
 callBought = New Buy 1 10 7 (pos 1000)
 
-tables : (answersTo (endOf opened morning) (putBought ∷ callSold ∷ callBought ∷ []) ≡ 24 ∷ 22 ∷ 0 ∷ [])
+tables : (answersTo (endOf opened morning) (New Buy 1 3 5 (pos 1000) ∷ New Sell 1 13 6 (pos 1000) ∷ callBought ∷ []) ≡ 24 ∷ 22 ∷ 0 ∷ [])
     × (groupIn (endOf (endOf opened morning) (callBought ∷ [])) 1 1 ≡ minus 13800000 ∷ pos 43200000 ∷ [])
 unfolding computes
 tables = (refl, refl)

@@ -3,40 +3,35 @@ use Prim.Native.Nat.{ℕ}
 use mathlib.Core.Path.{_≡_, refl, sym, _∙_, ap}
 use mathlib.Core.Logic.{_↔_, Iff·trans, _⊎_, inl, inr, ⊎-elim}
 use mathlib.Core.Bool.{true, false}
-use mathlib.Core.Option.{Option, none, some}
+use mathlib.Core.Option.{some}
 use native.Mathlib.Omega.{arith}
 use lib.IntN.{ℤ}
 use Rattle.ledger.specs.Positions.{instrument, group}
+use Rattle.ledger.proofs.Ways.{by-test}
 use Rattle.limits.specs.Lines.{isSet}
+use Rattle.limits.proofs.LineLaws.{none-some}
 use Rattle.book.specs.declared.Figures.{Figures}
 use Rattle.book.specs.declared.LimitLine.{LimitLine}
 use Rattle.book.specs.declared.LimitLine.the-variants.{Own, Default, OfGroup}
 use Rattle.book.specs.declared.Event.{Event}
 use Rattle.book.specs.declared.Event.the-variants.{Limit, Balance, Block, New, Change, Junk}
-use Rattle.book.specs.Books.{setLine, bookAfter}
+use Rattle.book.specs.Books.{setLine}
 use Rattle.book.specs.States.{State, work}
-use Rattle.book.specs.SetAgain.{LineName, nameOf, ownLine, defaultLine, groupLine, lineSet, lineOver, SetsAgain}
-use Rattle.book.proofs.Tables.{at-each}
-use Rattle.book.proofs.LimitsStay.{test, under-own, under-default, group-set-again}
+use Rattle.book.specs.SetAgain.{LineName, nameOf, ownLine, defaultLine, groupLine, lineSet, SetsAgain}
+use Rattle.book.proofs.LimitsStay.{under-own, under-default, group-set-again, lines-own}
 
 -- ---- "by an accepted LIMIT": no other event sets a line, and a LIMIT sets the one that it names
 pub set-by-that-limit : (e : Event) (n : LineName) → (lineSet e ≡ some n) ↔ ((a : ℕ) × (l : LimitLine) × (e ≡ Limit a l) × (n ≡ nameOf a l))
 unfolding lineSet
-set-by-that-limit e n = (there e, λ h. rw (h .2, h .3) (sets-its-line (h .0) (h .1)))
+set-by-that-limit e n = (there e, λ h. rw (h .2, h .3))
   where
-    sets-its-line : (a : ℕ) (l : LimitLine) → lineSet (Limit a l) ≡ some (nameOf a l)
-    sets-its-line a l = refl
-
-    nothing : {P : Type 0} → _≡_ {A = Option LineName} none (some n) → P
-    nothing h = absurd (let z : _≡_ {A = ℕ} 0 1 = cc in omega arith)
-
     there : (e : Event) → lineSet e ≡ some n → (a : ℕ) × (l : LimitLine) × (e ≡ Limit a l) × (n ≡ nameOf a l)
     there (Limit a l) h = (a, l, refl, cc)
-    there (Balance a i z) h = nothing h
-    there (Block what z) h = nothing h
-    there (New s a i id q) h = nothing h
-    there (Change id c) h = nothing h
-    there Junk h = nothing h
+    there (Balance a i z) h = none-some n h
+    there (Block what z) h = none-some n h
+    there (New s a i id q) h = none-some n h
+    there (Change id c) h = none-some n h
+    there Junk h = none-some n h
 
 -- an instrument's own line, a contract's default line, a group's line: each by a LIMIT of the account on it
 pub own-line-set : (e : Event) (a i : ℕ) → (lineSet e ≡ some (ownLine a i)) ↔ ((f : Figures) × (e ≡ Limit a (Own i f)))
@@ -71,17 +66,10 @@ group-line-set e a g =
 -- an event that sets a default line leaves every own line
 default-keeps-own : (k : State) (e : Event) (a c i : ℕ) → lineSet e ≡ some (defaultLine a c)
     → work k e .book .linesOf a .ownOf i ≡ k .book .linesOf a .ownOf i
-unfolding bookAfter lineSet setLine
-default-keeps-own k (Limit d (Own j f)) a c i e = absurd (let z : _≡_ {A = ℕ} 0 1 = cc in omega arith)
-default-keeps-own k (Limit d (Default j f)) a c i e =
-    at-each d (setLine (Default j f) (k .book .linesOf d)) (k .book .linesOf) (λ ls. ls .ownOf i ≡ k .book .linesOf a .ownOf i) a
-    (λ own. rw own) (λ _. refl)
-default-keeps-own k (Limit d (OfGroup g x y)) a c i e = absurd (let z : _≡_ {A = ℕ} 0 1 = cc in omega arith)
-default-keeps-own k (Balance d j z) a c i e = refl
-default-keeps-own k (Block what z) a c i e = refl
-default-keeps-own k (New s d j id n) a c i e = refl
-default-keeps-own k (Change id d) a c i e = refl
-default-keeps-own k Junk a c i e = refl
+unfolding setLine
+default-keeps-own k e a c i h =
+    let that = default-line-set e a c .0 h in
+    rw (that .1, lines-own k a (Default c (that .0)))
 
 module _ (k : State) (e : Event) (a : ℕ) where
   -- an instrument's limit is set again by a LIMIT on its own line where that is set before or after it, or on its contract's default
@@ -90,39 +78,22 @@ module _ (k : State) (e : Event) (a : ℕ) where
       ↔ (((lineSet e ≡ some (ownLine a i)) × ((isSet (k .book .linesOf a .ownOf i) ≡ true)
       ⊎ (isSet (work k e .book .linesOf a .ownOf i) ≡ true)))
       ⊎ ((lineSet e ≡ some (defaultLine a (k .roster .contractOf i))) × (isSet (k .book .linesOf a .ownOf i) ≡ false)))
-  instrument-set-again i = (⊎-elim before after, ⊎-elim own-back default-back)
-    where
-      before : lineSet e ≡ some (lineOver (k .roster) (k .book) a (instrument i))
-          → ((lineSet e ≡ some (ownLine a i)) × ((isSet (k .book .linesOf a .ownOf i) ≡ true) ⊎
-          (isSet (work k e .book .linesOf a .ownOf i) ≡ true))) ⊎ ((lineSet e ≡ some (defaultLine a (k .roster .contractOf i)))
-          × (isSet (k .book .linesOf a .ownOf i) ≡ false))
-      before h =
-          ⊎-elim (λ set. inl (h ∙ ap some (under-own (k .roster) (k .book) a i set), inl set))
-          (λ unset. inr (h ∙ ap some (under-default (k .roster) (k .book) a i unset), unset))
-          (test (isSet (k .book .linesOf a .ownOf i)))
-
-      after : lineSet e ≡ some (lineOver (k .roster) (work k e .book) a (instrument i))
-          → ((lineSet e ≡ some (ownLine a i)) × ((isSet (k .book .linesOf a .ownOf i) ≡ true) ⊎
-          (isSet (work k e .book .linesOf a .ownOf i) ≡ true))) ⊎ ((lineSet e ≡ some (defaultLine a (k .roster .contractOf i)))
-          × (isSet (k .book .linesOf a .ownOf i) ≡ false))
-      after h =
-          ⊎-elim (λ set. inl (h ∙ ap some (under-own (k .roster) (work k e .book) a i set), inr set))
-          (λ unset.
-          let d = h ∙ ap some (under-default (k .roster) (work k e .book) a i unset) in
-          inr (d, ap isSet (sym (default-keeps-own k e a (k .roster .contractOf i) i d)) ∙ unset))
-          (test (isSet (work k e .book .linesOf a .ownOf i)))
-
-      own-back : (lineSet e ≡ some (ownLine a i))
-          × ((isSet (k .book .linesOf a .ownOf i) ≡ true) ⊎ (isSet (work k e .book .linesOf a .ownOf i) ≡ true))
-          → SetsAgain k e a (instrument i)
-      own-back h =
-          ⊎-elim (λ set. inl (h .0 ∙ ap some (sym (under-own (k .roster) (k .book) a i set))))
-          (λ set. inr (h .0 ∙ ap some (sym (under-own (k .roster) (work k e .book) a i set))))
-          (h .1)
-
-      default-back : (lineSet e ≡ some (defaultLine a (k .roster .contractOf i))) × (isSet (k .book .linesOf a .ownOf i) ≡ false)
-          → SetsAgain k e a (instrument i)
-      default-back h = inl (h .0 ∙ ap some (sym (under-default (k .roster) (k .book) a i (h .1))))
+  instrument-set-again i =
+      let r = k .roster in
+      let b = k .book in
+      let b′ = work k e .book in (
+        ⊎-elim
+            (λ h. by-test (isSet (b .linesOf a .ownOf i)) (λ set. inl (h ∙ ap some (under-own r b a i set), inl set))
+            (λ unset. inr (h ∙ ap some (under-default r b a i unset), unset)))
+            (λ h. by-test (isSet (b′ .linesOf a .ownOf i)) (λ set. inl (h ∙ ap some (under-own r b′ a i set), inr set))
+            (λ unset.
+            let d = h ∙ ap some (under-default r b′ a i unset) in
+            inr (d, ap isSet (sym (default-keeps-own k e a (r .contractOf i) i d)) ∙ unset))),
+        ⊎-elim
+            (λ h. ⊎-elim (λ set. inl (h .0 ∙ ap some (sym (under-own r b a i set))))
+            (λ set. inr (h .0 ∙ ap some (sym (under-own r b′ a i set)))) (h .1))
+            (λ h. inl (h .0 ∙ ap some (sym (under-default r b a i (h .1))))),
+      )
 
   -- ---- the same with the events written out
   pub group-again : (g : ℕ) → SetsAgain k e a (group g) ↔ ((x : ℤ) × (y : ℤ) × (e ≡ Limit a (OfGroup g x y)))

@@ -3,7 +3,6 @@
 use Prim.Native.Nat.{ℕ, _*_, _-_}
 use mathlib.Core.Path.{_≡_, refl, sym, _∙_, ap}
 use mathlib.Core.Logic.{_≢_, by-cases}
-use mathlib.Core.Bool.{Bool, true, false, cond}
 use mathlib.Core.List.{List, [], _∷_}
 use mathlib.Core.Option.{some}
 use native.Mathlib.Decide.{ℕ-discrete}
@@ -13,12 +12,12 @@ use borrow.Author.Tests.{ne-eqb}
 use Rattle.integers.specs.Parts.{signed}
 use Rattle.ledger.specs.declared.order.Order.{Order}
 use Rattle.ledger.specs.declared.order.Side.{Side}
-use Rattle.ledger.specs.declared.order.Side.the-variants.{Buy, Sell}
 use Rattle.ledger.specs.Orders.{remaining, filledBy, replacedTotal, closes}
-use Rattle.ledger.specs.Positions.{toward, wayOf, standsIn}
+use Rattle.ledger.specs.Positions.{wayOf, standsIn}
 use Rattle.ledger.specs.Fillings.{fillMoves}
 use Rattle.ledger.proofs.Sums.{Joined, Changed}
 use Rattle.ledger.proofs.Changes.{CountChanged, entered, replaced, filled, left}
+use Rattle.ledger.proofs.Ways.{by-test, zero-toward}
 use Rattle.book.specs.declared.OrderChange.{OrderChange}
 use Rattle.book.specs.declared.OrderChange.the-variants.{Replace, Cancel, Fill}
 use Rattle.book.specs.declared.Event.the-variants.{New, Change}
@@ -42,18 +41,9 @@ kept-some o h = rw (ne-eqb (remaining o) 0 h)
 -- a fill of nothing moves nothing
 pub no-fill : (unit : Order → ℕ) (a i : ℕ) (o : Order) → fillMoves unit a i o 0 ≡ pos 0
 unfolding fillMoves
-no-fill unit a i o = by (standsIn a i o) (o .side)
-  where
-    nought : pos (unit o * 0) ≡ pos 0
-    nought = omega signed
-
-    by : (t : Bool) (s : Side) → cond t (toward (wayOf s) (pos (unit o * 0))) (pos 0) ≡ pos 0
-    by true s = rw nought (zero-toward s)
-      where
-        zero-toward : (s : Side) → toward (wayOf s) (pos 0) ≡ pos 0
-        zero-toward Buy = refl
-        zero-toward Sell = refl
-    by false s = refl
+no-fill unit a i o =
+    let nought : pos (unit o * 0) ≡ pos 0 = omega signed in
+    by-test (standsIn a i o) (λ t. rw (t, nought) (zero-toward (wayOf (o .side)))) (λ t. rw t)
 
 -- what remains of an order after a change, and how many contracts the change fills
 abbrev pub remainsAfter : OrderChange → Order → ℕ

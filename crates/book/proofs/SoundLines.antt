@@ -1,30 +1,30 @@
 -- Lines stay in range: the figures that pass question 9 make a line in range, and a line in range gives limits in range.
 use Prim.Native.Nat.{ℕ, _≤_}
 use mathlib.Core.Path.{_≡_, refl}
-use mathlib.Core.Bool.{Bool, true, false, _&&_, _||_, cond}
+use mathlib.Core.Bool.{Bool, true, _&&_, _||_}
 use mathlib.Core.Option.{Option, none, some}
-use native.Mathlib.Omega.{arith}
 use lib.IntN.{ℤ, pos, natAbs}
 use lib.Signed.{_≤ℤ_}
 use Rattle.integers.specs.Parts.{signed, magnitude-parts}
 use Rattle.ledger.specs.Roster.{Roster}
 use Rattle.ledger.specs.Positions.{Way, long, short, instrument}
+use Rattle.ledger.proofs.Ways.{by-test}
 use Rattle.limits.specs.Lines.{Line, GroupLine, Lines, orElse, lineInForce, figure, largestPosition, limit}
 use Rattle.limits.proofs.Answers.{both-true}
+use Rattle.limits.proofs.LineLaws.{none-some}
 use Rattle.book.specs.declared.Figures.{Figures}
 use Rattle.book.specs.declared.LimitLine.{LimitLine}
 use Rattle.book.specs.declared.LimitLine.the-variants.{Own, Default, OfGroup}
-use Rattle.book.specs.Market.{Market}
 use Rattle.book.specs.Books.{isMinusOne, unsets, lineOf, groupLineOf, setLine}
 use Rattle.book.specs.Table.{isLimit, figuresOfLineFit, lineFits}
 use Rattle.book.specs.Sound.{LineFits, GroupLineFits, LinesFit}
 use Rattle.book.proofs.Tables.{at-each, betweenℤ-both}
 
 -- ---- figures that pass question 9
-module _ (mk : Market) where
-  figure-fits : (z : ℤ) → isLimit mk z ≡ true → natAbs z ≤ mk .largest
+module _ (largest : ℕ) where
+  figure-fits : (z : ℤ) → isLimit largest z ≡ true → natAbs z ≤ largest
   figure-fits z e =
-      let h = betweenℤ-both (pos 0) (pos (mk .largest)) z e in
+      let h = betweenℤ-both (pos 0) (pos largest) z e in
       omega (signed, magnitude-parts z)
 
   four-true : (x y z t : Bool) → x && y && z && t ≡ true → (x ≡ true) × (y ≡ true) × (z ≡ true) × (t ≡ true)
@@ -34,50 +34,39 @@ module _ (mk : Market) where
       let l = both-true x y (k .0) in
       (l .0, l .1, k .1, h .1)
 
-  pub line-fits : (f : Figures) → figuresOfLineFit mk f ≡ true → (l : Line) → lineOf f ≡ some l → LineFits (mk .largest) l
+  pub line-fits : (f : Figures) → figuresOfLineFit largest f ≡ true → (l : Line) → lineOf f ≡ some l → LineFits largest l
   unfolding lineOf
-  line-fits f fit l e = by (unsets f) fit e
-    where
-      made : Line
-      made = record { tci = natAbs (f .tci); tvi = natAbs (f .tvi); lci = natAbs (f .lci); lvi = natAbs (f .lvi) }
+  line-fits f fit l e =
+      by-test (unsets f) (λ t. none-some l (rw t at e))
+      (λ t.
+      let made = rw t at e in
+      let h = four-true (isLimit largest (f .tci)) (isLimit largest (f .tvi)) (isLimit largest (f .lci)) (isLimit largest (f .lvi)) (rw t at fit) in
+      let same : l ≡ record { tci = natAbs (f .tci); tvi = natAbs (f .tvi); lci = natAbs (f .lci); lvi = natAbs (f .lvi) } = cc in
+      rw same (record {
+        tci = figure-fits (f .tci) (h .0);
+        tvi = figure-fits (f .tvi) (h .1);
+        lci = figure-fits (f .lci) (h .2);
+        lvi =
+            figure-fits (f .lvi) (h .3);
+      }))
 
-      by : (t : Bool) → t || (isLimit mk (f .tci) && isLimit mk (f .tvi) && isLimit mk (f .lci) && isLimit mk (f .lvi)) ≡ true
-          → cond t none (some (record { tci = natAbs (f .tci); tvi = natAbs (f .tvi); lci = natAbs (f .lci); lvi = natAbs (f .lvi) }))
-          ≡ some l → LineFits (mk .largest) l
-      by true fit e = absurd (let z : _≡_ {A = ℕ} 0 1 = cc in omega arith)
-      by false fit e =
-          let h = four-true (isLimit mk (f .tci)) (isLimit mk (f .tvi)) (isLimit mk (f .lci)) (isLimit mk (f .lvi)) fit in
-          let same : l ≡ made = cc in
-          rw same (record {
-            tci = figure-fits (f .tci) (h .0);
-            tvi = figure-fits (f .tvi) (h .1);
-            lci = figure-fits (f .lci) (h .2);
-            lvi =
-                figure-fits (f .lvi) (h .3);
-          })
-
-  pub group-line-fits : (x y : ℤ) → (isMinusOne x && isMinusOne y) || (isLimit mk x && isLimit mk y) ≡ true → (l : GroupLine)
-      → groupLineOf x y ≡ some l → GroupLineFits (mk .largest) l
+  pub group-line-fits : (x y : ℤ) → (isMinusOne x && isMinusOne y) || (isLimit largest x && isLimit largest y) ≡ true → (l : GroupLine)
+      → groupLineOf x y ≡ some l → GroupLineFits largest l
   unfolding groupLineOf
-  group-line-fits x y fit l e = by (isMinusOne x && isMinusOne y) fit e
-    where
-      made : GroupLine
-      made = record { lcc = natAbs x; lvc = natAbs y }
+  group-line-fits x y fit l e =
+      by-test (isMinusOne x && isMinusOne y) (λ t. none-some l (rw t at e))
+      (λ t.
+      let made = rw t at e in
+      let h = both-true (isLimit largest x) (isLimit largest y) (rw t at fit) in
+      let same : l ≡ record { lcc = natAbs x; lvc = natAbs y } = cc in
+      rw same (record { lcc = figure-fits x (h .0); lvc = figure-fits y (h .1) }))
 
-      by : (t : Bool) → t || (isLimit mk x && isLimit mk y) ≡ true → cond t none (some (record { lcc = natAbs x; lvc = natAbs y })) ≡ some l
-          → GroupLineFits (mk .largest) l
-      by true fit e = absurd (let z : _≡_ {A = ℕ} 0 1 = cc in omega arith)
-      by false fit e =
-          let h = both-true (isLimit mk x) (isLimit mk y) fit in
-          let same : l ≡ made = cc in
-          rw same (record { lcc = figure-fits x (h .0); lvc = figure-fits y (h .1) })
-
-  pub set-fits : (l : LimitLine) (ls : Lines) → lineFits mk l ≡ true → LinesFit (mk .largest) ls → LinesFit (mk .largest) (setLine l ls)
+  pub set-fits : (l : LimitLine) (ls : Lines) → lineFits largest l ≡ true → LinesFit largest ls → LinesFit largest (setLine l ls)
   unfolding setLine
   set-fits (Own i f) ls fit was =
       record {
         own =
-            λ j l. at-each i (lineOf f) (ls .ownOf) (λ x. x ≡ some l → LineFits (mk .largest) l) j (λ _. line-fits f fit l)
+            λ j l. at-each i (lineOf f) (ls .ownOf) (λ x. x ≡ some l → LineFits largest l) j (λ _. line-fits f fit l)
             (λ _. was .own j l);
         default = was .default;
         ofGroup = was .ofGroup;
@@ -86,7 +75,7 @@ module _ (mk : Market) where
       record {
         own = was .own;
         default =
-            λ j l. at-each c (lineOf f) (ls .defaultOf) (λ x. x ≡ some l → LineFits (mk .largest) l) j (λ _. line-fits f fit l)
+            λ j l. at-each c (lineOf f) (ls .defaultOf) (λ x. x ≡ some l → LineFits largest l) j (λ _. line-fits f fit l)
             (λ _. was .default j l);
         ofGroup = was .ofGroup;
       }
@@ -95,7 +84,7 @@ module _ (mk : Market) where
         own = was .own;
         default = was .default;
         ofGroup =
-            λ j l. at-each g (groupLineOf x y) (ls .lineOfGroup) (λ k. k ≡ some l → GroupLineFits (mk .largest) l) j
+            λ j l. at-each g (groupLineOf x y) (ls .lineOfGroup) (λ k. k ≡ some l → GroupLineFits largest l) j
             (λ _. group-line-fits x y fit l) (λ _. was .ofGroup j l);
       }
 

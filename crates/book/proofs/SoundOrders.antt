@@ -51,10 +51,6 @@ module _ (id : ℕ) (f : Order → List Order) (os : List Order) (o : Order) (fo
       → List·Memᴰ x (change id f os) → P x
   change-each P old new x m = ⊎-elim (new x) (old x) (change-members (standing id os o found) f x m)
 
-  pub change-count : ((x : Order) → Became x (f x)) → (most : ℕ) → length os ≤ most → length (change id f os) ≤ most
-  change-count b most l =
-      omega (arith, change-length (standing id os o found) f, became-length o (f o) (b o))
-
 -- ---- orders in range
 module _ (r : Roster) where
   pub new-fits : (s : Side) (a i id : ℕ) (n : ℤ) → Numbered (r .accounts) a → Numbered (r .instruments) i → Numbered 1000000 (natAbs n)
@@ -68,11 +64,6 @@ module _ (r : Roster) where
   replaced-fits o n was quantity above =
       record { account = was .account; instrument = was .instrument; total = quantity; remains = omega arith }
 
-  filled-fits : (o : Order) (n : ℕ) → OrderFits r o → remaining (filledBy o n) ≢ 0 → OrderFits r (filledBy o n)
-  unfolding filledBy
-  filled-fits o n was rest =
-      record { account = was .account; instrument = was .instrument; total = was .total; remains = omega arith }
-
 -- what a change makes of an order that it fits is an order of the same account, and in range
 pub changed-account : (c : OrderChange) (o x : Order) → List·Memᴰ x (changed c o) → x .account ≡ o .account
 unfolding changed replacedTotal filledBy
@@ -82,14 +73,15 @@ changed-account (Fill n) o x m = ap (λ y. y .account) (kept-member (filledBy o 
 
 changed-fits : (r : Roster) (c : OrderChange) (o : Order) → OrderFits r o → changeInRange c ≡ true → fitsOrder c o ≡ true → (x : Order)
     → List·Memᴰ x (changed c o) → OrderFits r x
-unfolding changed
+unfolding changed filledBy
 changed-fits r (Replace n) o was figures fits x m =
     rw (List·Memᴰ·eq-of-singleton m)
     (replaced-fits r o (natAbs n) was (quantity-numbered n figures) (ltb-true (o .filled) (natAbs n) fits))
 changed-fits r Cancel o was figures fits x m = absurd (List·Memᴰ·not-nil m)
 changed-fits r (Fill n) o was figures fits x m =
     let h = kept-member (filledBy o (natAbs n)) x m in
-    rw (h .0) (filled-fits r o (natAbs n) was (h .1))
+    let rest = h .1 in
+    rw (h .0) (record { account = was .account; instrument = was .instrument; total = was .total; remains = omega arith })
 
 -- ---- what each kind leaves
 module _ (k : State) (sound : Sound k) where
@@ -123,7 +115,13 @@ module _ (k : State) (sound : Sound k) where
       omega (arith, insert-length (newOrder s a i id n) (k .book .orders))
   count-after (Change id c) ok =
       let f = named-order k id c ok in
-      change-count id (changed c) (k .book .orders) (f .order) (f .found) (changed-became c) 256 (sound .count)
+      let o = f .order in
+      omega (
+        arith,
+        sound .count,
+        change-length (standing id (k .book .orders) o (f .found)) (changed c),
+        became-length o (changed c o) (changed-became c o),
+      )
   count-after Junk ok = sound .count
 
   pub ids-after : (e : Event) → HasId e → Passed k e → Ascending 0 (work k e .book .orders)

@@ -1,11 +1,10 @@
 -- The empty book is sound, and every accepted event keeps a sound book sound. So question 5 is never answered no after an
 -- accepted opening.
 use Prim.Native.Nat.{ℕ}
-use mathlib.Core.Path.{_≡_, refl, sym, _∙_}
+use mathlib.Core.Path.{_≡_, sym, _∙_}
 use mathlib.Core.Logic.{_≢_, by-cases}
-use mathlib.Core.Bool.{false, true≢false}
+use mathlib.Core.Bool.{true≢false}
 use mathlib.Core.List.{[], List·Memᴰ, List·Memᴰ·not-nil}
-use mathlib.Core.Option.{Option, none, some}
 use native.Mathlib.Decide.{ℕ-discrete}
 use native.Mathlib.Omega.{arith}
 use lib.IntN.{ℤ, pos, negℤ}
@@ -17,6 +16,8 @@ use Rattle.ledger.specs.Roster.{Roster}
 use Rattle.ledger.specs.Positions.{Way, long, short, instrument, toward, sideTo, openOn, ofInstrument, potential, position}
 use Rattle.ledger.proofs.Sums.{open-none}
 use Rattle.ledger.proofs.Changes.{idle}
+use Rattle.ledger.proofs.Ways.{zero-toward}
+use Rattle.limits.proofs.LineLaws.{none-some}
 use Rattle.book.specs.declared.Event.{Event}
 use Rattle.book.specs.declared.Event.the-variants.{Limit, Balance, Block, New, Change, Junk}
 use Rattle.book.specs.Market.{Market}
@@ -34,13 +35,6 @@ use Rattle.book.proofs.SoundLines.{set-fits, limit-fits}
 use Rattle.book.proofs.SoundOrders.{fits-after, count-after, ids-after, marked-after}
 
 -- ---- the empty book
-zero-toward : (w : Way) → toward w (pos 0) ≡ pos 0
-zero-toward long = refl
-zero-toward short = refl
-
-none-some : {A : Type 0} {P : Type 0} (l : A) → _≡_ {A = Option A} none (some l) → P
-none-some l e = absurd (let z : _≡_ {A = ℕ} 0 1 = cc in omega arith)
-
 pub sound-empty : (mk : Market) (r : Roster) → RosterFits r → Sound (begun mk r)
 unfolding emptyBook ofInstrument
 sound-empty mk r fits =
@@ -70,24 +64,21 @@ module _ (k : State) (sound : Sound k) where
   unfolding bookAfter figuresFit
   lines-after (Limit c l) ok a =
       at-each c (setLine l (k .book .linesOf c)) (k .book .linesOf) (LinesFit (k .market .largest)) a
-      (λ _. set-fits (k .market) l (k .book .linesOf c) (ok .figures) (sound .lines c)) (λ _. sound .lines a)
+      (λ _. set-fits (k .market .largest) l (k .book .linesOf c) (ok .figures) (sound .lines c)) (λ _. sound .lines a)
   lines-after (Balance c i z) ok a = sound .lines a
   lines-after (Block what z) ok a = sound .lines a
   lines-after (New s c i id n) ok a = sound .lines a
   lines-after (Change id c) ok a = sound .lines a
   lines-after Junk ok a = sound .lines a
 
-  -- an account that is not marked has no open order
-  pub unmarked-idle : (a : ℕ) → k .beside .trading a ≡ false → (o : Order) → List·Memᴰ o (k .book .orders) → o .account ≢ a
-  unmarked-idle a unmarked o m own = true≢false (sym (sound .marked o m) ∙ (rw (← own) at unmarked))
-
-  -- so where a BALANCE is accepted, the positions that it leaves are in range
+  -- where a BALANCE is accepted, the account is not marked and has no open order, so the positions that it leaves are in range
   balance-bounded : (a i : ℕ) (z : ℤ) → Passed k (Balance a i z) → (j : ℕ) (w : Way)
       → potentialOf (work k (Balance a i z)) a (instrument j) w ≤ℤ pos (k .market .largest)
   unfolding figuresFit notYetTrading position potential
   balance-bounded a i z ok j w =
       let largest = k .market .largest in
-      let free = unmarked-idle a (not-true (k .beside .trading a) (ok .idle)) in
+      let free : (o : Order) → List·Memᴰ o (k .book .orders) → o .account ≢ a =
+      (λ o m own. true≢false (sym (sound .marked o m) ∙ (rw (← own) at (not-true (k .beside .trading a) (ok .idle))))) in
       rw (balance-own k a (instrument j) w i z free)
       (at-each i z (k .book .balanceOf a) (λ x. toward w x ≤ℤ pos (k .market .largest)) j
       (λ _. let h = betweenℤ-both (negℤ (pos largest)) (pos largest) z (ok .figures) in

@@ -1,13 +1,14 @@
 -- "The plain book is kept from the roster, the events and their answers": what is kept after a list, event by event.
 use Prim.Native.Nat.{ℕ, _<_}
 use mathlib.Core.Path.{_≡_, refl, _∙_}
-use mathlib.Core.Bool.{Bool, true, false, cond}
+use mathlib.Core.Bool.{false}
 use mathlib.Core.List.{List, [], _∷_, _++_}
 use mathlib.Core.Option.{none}
 use lib.Dec.{eqb}
 use lib.IntN.{pos}
 use lib.ListN.{getD}
 use Rattle.ledger.specs.Roster.{Roster}
+use Rattle.ledger.proofs.Ways.{by-test}
 use Rattle.book.specs.declared.Event.{Event}
 use Rattle.book.specs.Market.{Market}
 use Rattle.book.specs.Books.{emptyBook}
@@ -44,11 +45,7 @@ state-at-an-acceptance k e = refl
 kept-alike : {A : Type 0} (part : State → A) → ((k : State) (e : Event) → part (work k e) ≡ part k)
     → (k : State) (e : Event) (n : ℕ) → part (keep k e n) ≡ part k
 unfolding keep
-kept-alike part same k e n = by (eqb n 0)
-  where
-    by : (t : Bool) → part (cond t (work k e) k) ≡ part k
-    by true = same k e
-    by false = refl
+kept-alike part same k e n = by-test (eqb n 0) (λ t. rw t (same k e)) (λ t. rw t)
 
 -- market and roster stay
 pub market-kept : (k : State) (e : Event) (n : ℕ) → keep k e n .market ≡ k .market
@@ -63,16 +60,15 @@ module _ (D : Desk) where
   unfolding memoryAfter
   memory-of-none m = refl
 
-  pub memory-of-more : (m : D .Memory) (es : List RawEvent) (e : RawEvent)
-      → memoryAfter D m (es ++ (e ∷ [])) ≡ D .next (memoryAfter D m es) e
-  unfolding memoryAfter
-  memory-of-more m [] e = refl
-  memory-of-more m (x ∷ es) e = memory-of-more (D .next m x) es e
-
   pub memory-joined : (m : D .Memory) (xs ys : List RawEvent) → memoryAfter D m (xs ++ ys) ≡ memoryAfter D (memoryAfter D m xs) ys
   unfolding memoryAfter
   memory-joined m [] ys = refl
   memory-joined m (x ∷ xs) ys = memory-joined (D .next m x) xs ys
+
+  pub memory-of-more : (m : D .Memory) (es : List RawEvent) (e : RawEvent)
+      → memoryAfter D m (es ++ (e ∷ [])) ≡ D .next (memoryAfter D m es) e
+  unfolding memoryAfter
+  memory-of-more m es e = memory-joined m es (e ∷ [])
 
   -- a list cut at one of its events
   pub memory-past : (m : D .Memory) (xs : List RawEvent) (n : RawEvent) (ys : List RawEvent)
@@ -84,18 +80,17 @@ module _ (D : Desk) where
   unfolding stateAfter
   state-of-none m k = refl
 
-  -- the book is kept by the answer that the event gets there
-  pub state-of-more : (m : D .Memory) (k : State) (es : List RawEvent) (e : RawEvent)
-      → stateAfter D m k (es ++ (e ∷ [])) ≡ keep (stateAfter D m k es) (asEvent e) (D .answerTo (memoryAfter D m es) e)
-  unfolding stateAfter memoryAfter
-  state-of-more m k [] e = refl
-  state-of-more m k (x ∷ es) e = state-of-more (D .next m x) (keep k (asEvent x) (D .answerTo m x)) es e
-
   pub state-joined : (m : D .Memory) (k : State) (xs ys : List RawEvent)
       → stateAfter D m k (xs ++ ys) ≡ stateAfter D (memoryAfter D m xs) (stateAfter D m k xs) ys
   unfolding stateAfter memoryAfter
   state-joined m k [] ys = refl
   state-joined m k (x ∷ xs) ys = state-joined (D .next m x) (keep k (asEvent x) (D .answerTo m x)) xs ys
+
+  -- the book is kept by the answer that the event gets there
+  pub state-of-more : (m : D .Memory) (k : State) (es : List RawEvent) (e : RawEvent)
+      → stateAfter D m k (es ++ (e ∷ [])) ≡ keep (stateAfter D m k es) (asEvent e) (D .answerTo (memoryAfter D m es) e)
+  unfolding stateAfter
+  state-of-more m k es e = state-joined m k es (e ∷ [])
 
   pub state-past : (m : D .Memory) (k : State) (xs : List RawEvent) (n : RawEvent) (ys : List RawEvent)
       → stateAfter D m k (xs ++ (n ∷ ys)) ≡ stateAfter D (D .next (memoryAfter D m xs) n)

@@ -11,6 +11,7 @@ use Rattle.ledger.specs.declared.order.Order.{Order}
 use Rattle.ledger.specs.Orders.{replacedTotal}
 use Rattle.limits.specs.Questions.{numbersOf}
 use Rattle.limits.specs.Asked.{positionQuestions}
+use Rattle.limits.proofs.LineLaws.{none-some}
 use Rattle.book.specs.declared.Event.{Event}
 use Rattle.book.specs.declared.OrderChange.the-variants.{Replace}
 use Rattle.book.specs.declared.Event.the-variants.{Limit, Balance, Block, New, Change, Junk}
@@ -18,7 +19,7 @@ use Rattle.book.specs.OpenOrders.{find}
 use Rattle.book.specs.Books.{Book, newOrder}
 use Rattle.book.specs.States.{State, work}
 use Rattle.book.specs.Table.{entered, questionsBefore, positionsAfter, limitQuestions, questions}
-use Rattle.book.proofs.OrdersEntered.{none-enters, raised-found}
+use Rattle.book.proofs.OrdersEntered.{raised-found}
 
 -- 21 to 24 are asked where an order is entered or raised
 abbrev pub positionNumbers : Option Order → List ℕ
@@ -55,30 +56,27 @@ Raises b e o =
 
 pub entered-iff : (b : Book) (e : Event) (o : Order) → (entered b e ≡ some o) ↔ (IsNew e o ⊎ Raises b e o)
 unfolding entered newOrder replacedTotal
-entered-iff b e o = (there e, ⊎-elim by-new by-replace)
+entered-iff b e o = (
+  there e,
+  ⊎-elim (λ h. rw (h .1)
+      (λ i. some (record {
+        id = o .id;
+        account = o .account;
+        instrument = o .instrument;
+        side = o .side;
+        total = sym (h .2) i;
+        filled =
+            sym (h .3) i;
+      })))
+      (λ h. rw (h .3, h .4, lt-ltb (h .2 .total) (natAbs (h .1)) (h .5), h .6)),
+)
   where
     there : (e : Event) → entered b e ≡ some o → IsNew e o ⊎ Raises b e o
-    there (Limit a l) h = none-enters o h
-    there (Balance a i z) h = none-enters o h
-    there (Block what z) h = none-enters o h
+    there (Limit a l) h = none-some o h
+    there (Balance a i z) h = none-some o h
+    there (Block what z) h = none-some o h
     there (New s a i id n) h = inl (n, cc, cc, cc)
     there (Change id c) h =
         let found = raised-found c (find id (b .orders)) o h in
         inr (id, found .0, found .1, ap (Change id) (found .2), found .3, found .4, found .5)
-    there Junk h = none-enters o h
-
-    by-new : IsNew e o → entered b e ≡ some o
-    by-new h =
-        rw (h .1)
-        (λ i. some (record {
-          id = o .id;
-          account = o .account;
-          instrument = o .instrument;
-          side = o .side;
-          total = sym (h .2) i;
-          filled =
-              sym (h .3) i;
-        }))
-
-    by-replace : Raises b e o → entered b e ≡ some o
-    by-replace h = rw (h .3, h .4, lt-ltb (h .2 .total) (natAbs (h .1)) (h .5), h .6)
+    there Junk h = none-some o h

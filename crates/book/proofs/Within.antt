@@ -3,8 +3,8 @@
 use Prim.Native.Nat.{ℕ, _+_, _≤_, _<_}
 use mathlib.Core.Path.{_≡_, refl}
 use mathlib.Core.Logic.{_≢_, by-cases}
-use mathlib.Core.Bool.{Bool, true, false}
-use mathlib.Core.Option.{Option, none, some}
+use mathlib.Core.Bool.{true}
+use mathlib.Core.Option.{none, some}
 use native.Mathlib.Decide.{ℕ-discrete}
 use native.Mathlib.Omega.{arith}
 use lib.Dec.{ltb}
@@ -18,6 +18,8 @@ use Rattle.ledger.specs.Roster.{Roster}
 use Rattle.ledger.specs.Positions.{Way, Scope, instrument, group}
 use Rattle.ledger.specs.Moves.{Moves}
 use Rattle.ledger.proofs.Movement.{moves?}
+use Rattle.ledger.proofs.Ways.{by-test}
+use Rattle.ledger.proofs.Changes.{shift-unmoved, shift-of-another}
 use Rattle.limits.specs.Lines.{isSet}
 use Rattle.limits.proofs.LineLaws.{set-some}
 use Rattle.book.specs.declared.Event.{Event}
@@ -25,14 +27,14 @@ use Rattle.book.specs.declared.OrderChange.{OrderChange}
 use Rattle.book.specs.declared.OrderChange.the-variants.{Replace, Cancel, Fill}
 use Rattle.book.specs.declared.Event.the-variants.{Limit, Balance, Block, New, Change, Junk}
 use Rattle.book.specs.OpenOrders.{find}
-use Rattle.book.specs.Books.{Book, newOrder, bookAfter}
+use Rattle.book.specs.Books.{Book, newOrder, bookAfter, changedBalances}
 use Rattle.book.specs.States.{State, work}
-use Rattle.book.specs.Table.{figuresFit, changeInRange, idOpen, fitsOrder, quantityFits, whereSome, entered}
+use Rattle.book.specs.Table.{figuresFit, changeInRange, idOpen, fitsOrder, quantityFits, entered}
 use Rattle.book.specs.Positions.{potentialOf}
 use Rattle.book.specs.Demand3.{limitOf}
 use Rattle.book.proofs.Accepted.{Passed, Accepted}
-use Rattle.book.proofs.Shifts.{remainsAfter, filledIn}
-use Rattle.book.proofs.Potentials.{limit-level, block-level, balance-other, new-unmoved, new-other, replace-unmoved, replace-other}
+use Rattle.book.proofs.Shifts.{remainsAfter, filledIn, change-shift}
+use Rattle.book.proofs.Potentials.{balance-other, new-unmoved, new-other}
 use Rattle.book.proofs.Potentials.{change-lowers}
 
 -- the event sets no balance of account a
@@ -48,10 +50,6 @@ SetsNoBalance a Junk = Unit
 pub found-order : (id : ℕ) (b : Book) → isSet (find id (b .orders)) ≡ true → (o : Order) × (find id (b .orders) ≡ some o)
 found-order id b e = set-some (find id (b .orders)) e
 
--- a test of the order found
-pub test-found : (test : Order → Bool) (x : Option Order) (o : Order) → x ≡ some o → whereSome test x ≡ true → test o ≡ true
-test-found test x o e h = rw e at h
-
 -- the order that an accepted change names, and that the change fits it
 pub record Named (k : State) (id : ℕ) (c : OrderChange) : Type 0 where
   pub order : Order
@@ -66,7 +64,7 @@ named-order k id c ok =
     record {
       order = f .0;
       found = f .1;
-      fits = test-found (fitsOrder c) (find id (k .book .orders)) (f .0) (f .1) (ok .quantity);
+      fits = rw (f .1) at (ok .quantity);
       figures = ok .figures;
     }
 
@@ -107,28 +105,25 @@ module _ (k : State) (a : ℕ) (p : Scope) (w : Way) (bound : ℤ) where
   raised-within : (id : ℕ) (n : ℤ) → Accepted k (Change id (Replace n)) → (o : Order) → find id (k .book .orders) ≡ some o
       → o .total < natAbs n → limitOf k a p w ≤ℤ bound → potentialOf k a p w ≤ℤ bound
       → potentialOf (work k (Change id (Replace n))) a p w ≤ℤ bound
-  unfolding bookAfter replacedTotal
+  unfolding bookAfter changedBalances replacedTotal
   raised-within id n acc o found up le h =
+      let shift = change-shift k id o found (Replace n) in
       by-cases (ℕ-discrete (o .account) a)
       (λ own. by-cases (moves? (k .roster) o p w)
       (λ m. entered-within (Change id (Replace n)) acc (replacedTotal o (natAbs n)) (enters-raised (k .book) id n o found up) refl le own
       (replaced-moves (k .roster) o (natAbs n) w p m))
-      (λ m. let same = replace-unmoved k a p w id o found n m in omega signed))
-      (λ other. let same = replace-other k a p w id o found n other in omega signed)
+      (λ m. rw (shift-unmoved shift a (k .book .balanceOf a) (k .roster) p w m) h))
+      (λ other. rw (shift-of-another shift a (k .book .balanceOf a) (k .roster) p w other) h)
 
   changed-within : (id : ℕ) (c : OrderChange) → Accepted k (Change id c) → limitOf k a p w ≤ℤ bound → potentialOf k a p w ≤ℤ bound
       → potentialOf (work k (Change id c)) a p w ≤ℤ bound
   unfolding remaining
   changed-within id (Replace n) acc le h =
       let x = named-order k id (Replace n) (acc .passed) in
-      by (x .order) (x .found) (ltb (x .order .total) (natAbs n)) refl
-    where
-      by : (o : Order) → find id (k .book .orders) ≡ some o → (t : Bool) → ltb (o .total) (natAbs n) ≡ t
-          → potentialOf (work k (Change id (Replace n))) a p w ≤ℤ bound
-      by o found true up = raised-within id n acc o found (ltb-true (o .total) (natAbs n) up) le h
-      by o found false up =
-          let down = ltb-false (o .total) (natAbs n) up in
-          lowered-within id (Replace n) o found (omega arith) h
+      let o = x .order in
+      by-test (ltb (o .total) (natAbs n))
+      (λ up. raised-within id n acc o (x .found) (ltb-true (o .total) (natAbs n) up) le h)
+      (λ up. let down = ltb-false (o .total) (natAbs n) up in lowered-within id (Replace n) o (x .found) (omega arith) h)
   changed-within id Cancel acc le h =
       let x = named-order k id Cancel (acc .passed) in
       lowered-within id Cancel (x .order) (x .found) (omega arith) h
@@ -140,9 +135,9 @@ module _ (k : State) (a : ℕ) (p : Scope) (w : Way) (bound : ℤ) where
   pub kept-within : (e : Event) → Accepted k e → SetsNoBalance a e → limitOf k a p w ≤ℤ bound → potentialOf k a p w ≤ℤ bound
       → potentialOf (work k e) a p w ≤ℤ bound
   unfolding entered newOrder bookAfter
-  kept-within (Limit c l) acc out le h = let same = limit-level k a p w c l in omega signed
+  kept-within (Limit c l) acc out le h = h
   kept-within (Balance c i z) acc out le h = let same = balance-other k a p w c i z out in omega signed
-  kept-within (Block what z) acc out le h = let same = block-level k a p w what z in omega signed
+  kept-within (Block what z) acc out le h = h
   kept-within (New s c i id n) acc out le h =
       let o = newOrder s c i id n in
       by-cases (ℕ-discrete c a)

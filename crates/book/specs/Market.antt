@@ -1,6 +1,8 @@
 -- What a desk's figures run to, and what its orders count for.
 use Prim.Native.Nat.{ℕ}
 use mathlib.Core.Path.{_≡_, refl}
+use mathlib.Core.Bool.{cond}
+use lib.Dec.{eqb}
 use Rattle.ledger.specs.declared.order.Order.{Order}
 use Rattle.ledger.specs.Orders.{filledBy, replacedTotal}
 use Rattle.ledger.specs.Derivatives.{one}
@@ -14,7 +16,16 @@ pub record Market : Type 0 where
   pub unit-filled : (o : Order) (n : ℕ) → unit (filledBy o n) ≡ unit o
   pub unit-replaced : (o : Order) (n : ℕ) → unit (replacedTotal o n) ≡ unit o
 
+-- the largest figure by the kind of desk: 1 is the derivatives desk. Of a kind that is no desk's no figure fits but 0
+unfoldable pub largestOf : ℕ → ℕ
+largestOf kind = cond (eqb kind 1) 1000000000 0
+
+-- the market by the kind of desk: contracts are counted
+unfoldable pub marketOfKind : ℕ → Market
+unfolding one
+marketOfKind kind = record { unit = one; largest = largestOf kind; unit-filled = λ o n. refl; unit-replaced = λ o n. refl }
+
 -- the derivatives desk: contracts are counted, and figures run to 1,000,000,000
 unfoldable pub derivatives : Market
-unfolding one
-derivatives = record { unit = one; largest = 1000000000; unit-filled = λ o n. refl; unit-replaced = λ o n. refl }
+unfolding marketOfKind largestOf
+derivatives = marketOfKind 1

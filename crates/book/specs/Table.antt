@@ -61,17 +61,17 @@ itemKnown r e = whereSome (isListed r) (namedItem e)
 abbrev pub betweenℤ : ℤ → ℤ → ℤ → Bool
 betweenℤ low high z = leZ low z && leZ z high
 
-abbrev pub isLimit : Market → ℤ → Bool
-isLimit mk z = betweenℤ (pos 0) (pos (mk .largest)) z
+abbrev pub isLimit : ℕ → ℤ → Bool
+isLimit largest z = betweenℤ (pos 0) (pos largest) z
 
-abbrev pub figuresOfLineFit : Market → Figures → Bool
-figuresOfLineFit mk f =
-    unsets f || (isLimit mk (f .tci) && isLimit mk (f .tvi) && isLimit mk (f .lci) && isLimit mk (f .lvi))
+abbrev pub figuresOfLineFit : ℕ → Figures → Bool
+figuresOfLineFit largest f =
+    unsets f || (isLimit largest (f .tci) && isLimit largest (f .tvi) && isLimit largest (f .lci) && isLimit largest (f .lvi))
 
-abbrev pub lineFits : Market → LimitLine → Bool
-lineFits mk (Own i f) = figuresOfLineFit mk f
-lineFits mk (Default c f) = figuresOfLineFit mk f
-lineFits mk (OfGroup g x y) = (isMinusOne x && isMinusOne y) || (isLimit mk x && isLimit mk y)
+abbrev pub lineFits : ℕ → LimitLine → Bool
+lineFits largest (Own i f) = figuresOfLineFit largest f
+lineFits largest (Default c f) = figuresOfLineFit largest f
+lineFits largest (OfGroup g x y) = (isMinusOne x && isMinusOne y) || (isLimit largest x && isLimit largest y)
 
 abbrev pub isQuantity : ℤ → Bool
 isQuantity n = betweenℤ (pos 1) (pos 1000000) n
@@ -82,7 +82,7 @@ changeInRange Cancel = true
 changeInRange (Fill n) = isQuantity n
 
 unfoldable pub figuresFit : Market → Event → Bool
-figuresFit mk (Limit a l) = lineFits mk l
+figuresFit mk (Limit a l) = lineFits (mk .largest) l
 figuresFit mk (Balance a i z) = betweenℤ (negℤ (pos (mk .largest))) (pos (mk .largest)) z
 figuresFit mk (Block what z) = betweenℤ (pos 0) (pos 1) z
 figuresFit mk (New s a i id n) = isQuantity n

@@ -1,4 +1,6 @@
 // Events as plain data. The crate's definitions and laws are in specs/ and proofs/.
+pub mod market;
+
 ghost use mathlib.Core.Path.{_≡_};
 ghost use Rattle.book.specs.Books.{isMinusOne, unsets};
 use ledger::order::Side;

@@ -15,7 +15,7 @@ use Rattle.limits.specs.Questions.{Question, numbersOf, firstNo}
 use Rattle.limits.specs.Asked.{positionQuestions}
 use Rattle.limits.proofs.Answers.{Counted}
 use Rattle.book.specs.Decoding.{decode}
-use Rattle.book.specs.Market.{derivatives}
+use Rattle.book.specs.Market.{marketOfKind, derivatives}
 use Rattle.book.specs.States.{begun, work}
 use Rattle.book.specs.Table.{q, entered, questionsBefore, positionsAfter, limitQuestions, questions}
 use Rattle.book.specs.EventLists.{RawEvent, asEvent, stateAfter}
@@ -106,7 +106,7 @@ demand-1 =
     }
 
 pub demand-2 : Demand2
-unfolding instrumentAnswer groupAnswer instrumentReport groupReport positionIn potential ofInstrument derivatives
+unfolding instrumentAnswer groupAnswer instrumentReport groupReport positionIn potential ofInstrument marketOfKind
 demand-2 =
     record {
       roster = opening-answers;

@@ -43,7 +43,7 @@ module _ (m s : List ℕ) (zero : openingAnswer m s ≡ 0) where
       (and-true (sizesFit r) (namesFit r) sizes (yes 3)) (yes 4))))
 
   -- the figures of every line are 0
-  line-blank : (k : ℕ) → 77 ≤ k → k + 1 < 8192 → LineFits 1000000000 (lineAt (opened m s) k)
+  line-blank : (k : ℕ) → 77 ≤ k → k + 1 < 8192 → {largest : ℕ} → LineFits largest (lineAt (opened m s) k)
   unfolding lineAt
   line-blank k low high =
       let z = blank-opened m s ok in
@@ -51,7 +51,7 @@ module _ (m s : List ℕ) (zero : openingAnswer m s ≡ 0) where
       let second = z (k + 1) (omega arith) (omega arith) in
       record { tci = omega arith; tvi = omega arith; lci = omega arith; lvi = omega arith }
 
-  group-line-blank : (k : ℕ) → 77 ≤ k → k < 8192 → GroupLineFits 1000000000 (groupLineAt (opened m s) k)
+  group-line-blank : (k : ℕ) → 77 ≤ k → k < 8192 → {largest : ℕ} → GroupLineFits largest (groupLineAt (opened m s) k)
   unfolding groupLineAt
   group-line-blank k low high =
       let word = blank-opened m s ok k (omega arith) (omega arith) in

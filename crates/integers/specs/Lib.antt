@@ -1,4 +1,5 @@
 -- Laws of ℤ beside those of the kit: magnitudes, parts, products, ring identities, sums, two's complement; and examples of their use.
+pub mod Basics
 pub mod Examples
 pub mod Magnitude
 pub mod Parts

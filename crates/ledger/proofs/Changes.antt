@@ -5,21 +5,24 @@ use mathlib.Core.Path.{_≡_, refl, sym, ap, _∙_}
 use mathlib.Core.Logic.{_≢_}
 use mathlib.Core.List.{List, List·Memᴰ}
 use native.Mathlib.Omega.{arith}
-use lib.IntN.{ℤ, pos, _+ℤ_, _-ℤ_, +ℤ-comm, +ℤ-assoc}
+use lib.IntN.{ℤ, pos, _+ℤ_, _-ℤ_, +ℤ-comm, +ℤ-assoc, natAbs, _*ℤ_}
 use lib.Signed.{_≤ℤ_}
 use Rattle.integers.specs.Parts.{signed, sum-parts, difference-parts}
 use Rattle.ledger.specs.declared.order.Order.{Order}
 use Rattle.ledger.specs.declared.order.Side.{Side}
 use Rattle.ledger.specs.Orders.{remaining, filledBy, replacedTotal}
-use Rattle.ledger.specs.Roster.{Roster}
+use Rattle.ledger.specs.Roster.{Roster, Numbered, groupOfInstrument}
 use Rattle.ledger.specs.Positions.{Way, Scope, opposite, toward, wayOf, sideTo, openOn, ofInstrument, potential, position}
+use Rattle.ledger.specs.Positions.{group, wayBy}
 use Rattle.ledger.specs.Fillings.{fillMoves}
 use Rattle.ledger.specs.Moves.{Moves}
-use Rattle.ledger.proofs.Ways.{side-back, other-side}
+use Rattle.ledger.proofs.Ways.{side-back}
 use Rattle.ledger.proofs.Amounts.{amount, Stands, Alike, amount-alike, amount-here, amount-apart, amount-none, amount-nonneg}
 use Rattle.ledger.proofs.Amounts.{amount-sum, amount-≤}
-use Rattle.ledger.proofs.Sums.{Joined, Changed, Permuted, open-joined, open-changed, open-permuted, open-nowhere}
+use Rattle.ledger.proofs.Sums.{Joined, Changed, Permuted, open-joined, open-changed, open-nowhere}
+use Rattle.ledger.proofs.Sums.{open-sum, sum-permuted, adds}
 use Rattle.ledger.proofs.Scopes.{wayTo, potential-≤, potential-same, potential-weighted, position-weighted, weighted-same}
+use Rattle.ledger.proofs.Scopes.{weight-way, group-moved}
 use Rattle.ledger.proofs.Movement.{fill-moves, unmoved-amount}
 
 -- what counts of order o goes from m contracts to m′
@@ -88,19 +91,19 @@ module _ {unit : Order → ℕ} {o : Order} {m m′ : ℕ} {orders orders′ : L
       )
       (ap (λ x. toward v (S i) +ℤ x) (shift .sums (sideTo v) a i))
 
-  -- where the order does not stand nothing changes
-  pub shift-apart : (i : ℕ) (v : Way) → ¬ Stands (sideTo v) a i o → ofInstrument unit orders′ a S i v ≡ ofInstrument unit orders a S i v
-  shift-apart i v out =
-      let x = ofInstrument unit orders′ a S i v in
-      let y = ofInstrument unit orders a S i v in
+  -- where it counts for nothing, before and after, nothing changes
+  shift-level : (i : ℕ) (v : Way) → amount unit (sideTo v) a i o m ≡ pos 0 → amount unit (sideTo v) a i o m′ ≡ pos 0
+      → ofInstrument unit orders′ a S i v ≡ ofInstrument unit orders a S i v
+  shift-level i v before after =
       omega (
         signed,
         shift-instrument i v,
-        amount-apart unit (sideTo v) a i o m out,
-        amount-apart unit (sideTo v) a i o m′ out,
-        sum-parts x (amount unit (sideTo v) a i o m),
-        sum-parts y (amount unit (sideTo v) a i o m′),
+        sum-parts (ofInstrument unit orders′ a S i v) (amount unit (sideTo v) a i o m),
+        sum-parts (ofInstrument unit orders a S i v) (amount unit (sideTo v) a i o m′),
       )
+
+  pub shift-apart : (i : ℕ) (v : Way) → ¬ Stands (sideTo v) a i o → ofInstrument unit orders′ a S i v ≡ ofInstrument unit orders a S i v
+  shift-apart i v out = shift-level i v (amount-apart unit (sideTo v) a i o m out) (amount-apart unit (sideTo v) a i o m′ out)
 
   -- and where it stands
   pub shift-own : o .account ≡ a → (v : Way) → wayOf (o .side) ≡ v
@@ -112,6 +115,26 @@ module _ {unit : Order → ℕ} {o : Order} {m m′ : ℕ} {orders orders′ : L
         amount-here unit (sideTo v) a (o .instrument) o m stands,
         amount-here unit (sideTo v) a (o .instrument) o m′ stands,
       ) at (shift-instrument (o .instrument) v)
+
+  -- so that its instrument moves by what it counts for more, and its group by the weight's magnitude times that
+  module _ (own : o .account ≡ a) (d : ℤ) (more : pos (unit o * m) +ℤ d ≡ pos (unit o * m′)) where
+    pub shift-by : (v : Way) → wayOf (o .side) ≡ v
+        → ofInstrument unit orders′ a S (o .instrument) v ≡ ofInstrument unit orders a S (o .instrument) v +ℤ d
+    shift-by v way =
+        let x = ofInstrument unit orders a S (o .instrument) v in
+        let y = ofInstrument unit orders′ a S (o .instrument) v in
+        let c = pos (unit o * m) in
+        omega (signed, shift-own own v way, sum-parts y c, sum-parts x (pos (unit o * m′)), sum-parts c d, sum-parts x d)
+
+    pub shift-group : (r : Roster) (w : Way) → Numbered (r .instruments) (o .instrument)
+        → wayBy (r .weight (o .instrument)) (wayOf (o .side)) ≡ w
+        → potential unit r orders′ a S (group (groupOfInstrument r (o .instrument))) w
+        ≡ potential unit r orders a S (group (groupOfInstrument r (o .instrument))) w +ℤ pos (natAbs (r .weight (o .instrument))) *ℤ d
+    shift-group r w numbered way =
+        let K = r .weight (o .instrument) in
+        group-moved unit r a orders orders′ S S w (o .instrument) numbered
+        (λ j apart v. sym (shift-apart j v (λ h. apart (sym (h .2))))) d
+        (shift-by (wayBy K w) (cc (weight-way K (wayOf (o .side)))))
 
   module _ (r : Roster) (p : Scope) (w : Way) where
     pub shift-up : m ≤ m′ → potential unit r orders a S p w ≤ℤ potential unit r orders′ a S p w
@@ -130,18 +153,7 @@ module _ {unit : Order → ℕ} {o : Order} {m m′ : ℕ} {orders orders′ : L
     pub shift-unmoved : ¬ Moves r o p w → potential unit r orders′ a S p w ≡ potential unit r orders a S p w
     shift-unmoved out =
         potential-same unit r a orders′ orders S S p w
-        (λ i b.
-        let v = wayTo r p w i in
-        let x = ofInstrument unit orders′ a S i v in
-        let y = ofInstrument unit orders a S i v in
-        omega (
-          signed,
-          shift-instrument i v,
-          unmoved-amount r o w p unit a m i out b,
-          unmoved-amount r o w p unit a m′ i out b,
-          sum-parts x (amount unit (sideTo v) a i o m),
-          sum-parts y (amount unit (sideTo v) a i o m′),
-        ))
+        (λ i b. shift-level i (wayTo r p w i) (unmoved-amount r o w p unit a m i out b) (unmoved-amount r o w p unit a m′ i out b))
 
     pub shift-of-another : o .account ≢ a → potential unit r orders′ a S p w ≡ potential unit r orders a S p w
     shift-of-another other = potential-same unit r a orders′ orders S S p w (λ i _. shift-apart i (wayTo r p w i) (λ h. other (h .1)))
@@ -191,9 +203,6 @@ module _ {unit : Order → ℕ} {o : Order} {m m′ : ℕ} {orders orders′ : L
       let y = amount unit (sideTo (opposite v)) a i o n in
       omega (signed, fill-instrument i v, amount-apart unit (sideTo (opposite v)) a i o n out, difference-parts x y)
 
-  pub fill-kept : (i : ℕ) (v : Way) → wayOf (o .side) ≡ v → ofInstrument unit orders′ a S′ i v ≡ ofInstrument unit orders a S i v
-  fill-kept i v along = fill-level i v (λ h. other-side v (cc (side-back (o .side), h .0)))
-
   pub fill-opposite : o .account ≡ a → (v : Way) → wayOf (o .side) ≡ opposite v
       → ofInstrument unit orders′ a S′ (o .instrument) v ≡ ofInstrument unit orders a S (o .instrument) v -ℤ pos (unit o * n)
   fill-opposite own v against =
@@ -223,7 +232,7 @@ module _ (unit : Order → ℕ) (r : Roster) (a : ℕ) (orders : List Order) (S 
       → potential unit r orders′ a S p w ≡ potential unit r orders a S p w
   unfolding ofInstrument
   potential-permuted {orders′} permuted =
-      level orders′ S (λ i v. ap (λ x. toward v (S i) +ℤ x) (open-permuted unit (sideTo v) a i permuted))
+      level orders′ S (λ i v. ap (λ x. toward v (S i) +ℤ x) (simp open-sum (sum-permuted (adds unit (sideTo v) a i) permuted)))
 
   -- with no open order of the account the potential position is the position
   pub idle : ((o : Order) → List·Memᴰ o orders → o .account ≢ a) → potential unit r orders a S p w ≡ position r S p w

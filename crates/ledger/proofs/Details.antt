@@ -61,25 +61,15 @@ module _ (s : List ℕ) (p : ℕ) where
 
 -- ---- details joined
 module _ (all w : ℕ) where
-  filled-joined : detailFilled (bitOr all w) ≡ bitOr (detailFilled all) (detailFilled w)
-  filled-joined = ap (λ (x : ℕ). x % 134217728) (or-shr all w 10) ∙ or-mod (all / 1024) (w / 1024) 27
-
-  remaining-joined : detailRemaining (bitOr all w) ≡ bitOr (detailRemaining all) (detailRemaining w)
-  remaining-joined = or-shr all w 37
-
-  account-joined : packedAccount (bitOr all w) ≡ bitOr (all / 64 % 16) (w / 64 % 16) + 1
-  account-joined = ap (λ (x : ℕ). x % 16 + 1) (or-shr all w 6) ∙ ap (λ (x : ℕ). x + 1) (or-mod (all / 64) (w / 64) 4)
-
-  instrument-joined : packedInstrument (bitOr all w) ≡ bitOr (all % 32) (w % 32) + 1
-  instrument-joined = ap (λ (x : ℕ). x + 1) (or-mod all w 5)
-
   pub joined-before : (o : Order) → Within all o → Within (bitOr all w) o
   joined-before o h =
       record {
-        account = rw account-joined (omega (arith, h .account, or-left (all / 64 % 16) (w / 64 % 16)));
-        instrument = rw instrument-joined (omega (arith, h .instrument, or-left (all % 32) (w % 32)));
-        filled = rw filled-joined (omega (arith, h .filled, or-left (detailFilled all) (detailFilled w)));
-        remaining = rw remaining-joined (omega (arith, h .remaining, or-left (detailRemaining all) (detailRemaining w)));
+        account = rw (or-shr all w 6, or-mod (all / 64) (w / 64) 4) (omega (arith, h .account, or-left (all / 64 % 16) (w / 64 % 16)));
+        instrument = rw (or-mod all w 5) (omega (arith, h .instrument, or-left (all % 32) (w % 32)));
+        filled =
+            rw (or-shr all w 10, or-mod (all / 1024) (w / 1024) 27)
+            (omega (arith, h .filled, or-left (detailFilled all) (detailFilled w)));
+        remaining = rw (or-shr all w 37) (omega (arith, h .remaining, or-left (detailRemaining all) (detailRemaining w)));
       }
 
 -- an order is within its own detail

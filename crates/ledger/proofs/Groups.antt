@@ -7,6 +7,7 @@ use native.Mathlib.Omega.{arith}
 use lib.Dec.{eqb}
 use lib.IntN.{ℤ, pos, negℤ, _+ℤ_, _-ℤ_}
 use lib.Signed.{_≤ℤ_, _<ℤ_}
+use borrow.Author.Tests.{eq-eqb}
 use Rattle.integers.specs.Parts.{signed, sum-parts, difference-parts}
 use Rattle.integers.specs.Sum.{sumTo, below, sumTo-mono, sumTo-same, sumTo-change, sumOver-negated}
 use Rattle.ledger.specs.Roster.{Roster, groupOfInstrument, Numbered}
@@ -46,10 +47,6 @@ sumTo-strict f g n j b mono grows =
 abbrev pub groupTerm : Roster → ℕ → (ℕ → ℤ) → ℕ → ℤ
 groupTerm r g f j = cond (eqb (groupOfInstrument r (suc j)) g) (f (suc j)) (pos 0)
 
-pub group-sum : (r : Roster) (g : ℕ) (f : ℕ → ℤ) → sumGroup r g f ≡ sumTo (groupTerm r g f) (r .instruments)
-unfolding sumGroup
-group-sum r g f = refl
-
 module _ (r : Roster) (g : ℕ) where
   -- instrument i is of the group
   abbrev pub Of : ℕ → Type 0
@@ -77,6 +74,26 @@ module _ (r : Roster) (g : ℕ) where
       sumTo-strict (groupTerm r g f) (groupTerm r g h) (r .instruments) k (omega arith) (term-mono f h le)
       (by-number (groupOfInstrument r (suc k)) g (λ t. cond t (f (suc k)) (pos 0) <ℤ cond t (h (suc k)) (pos 0)) (λ _. lt)
       (λ apart. absurd (apart (b .1))))
+
+  -- where the term of instrument k alone moves, by d, so does the sum
+  pub group-change : (f h : ℕ → ℤ) (k : ℕ) (d : ℤ) → Of k → ((i : ℕ) → i ≢ k → f i ≡ h i) → h k ≡ f k +ℤ d
+      → sumGroup r g h ≡ sumGroup r g f +ℤ d
+  unfolding sumGroup
+  group-change f h zero d of same e = absurd (omega arith)
+  group-change f h (suc j) d of same e =
+      let s = sumTo (groupTerm r g f) (r .instruments) in
+      let here = eq-eqb (groupOfInstrument r (suc j)) g (of .1) in
+      let x : groupTerm r g f j ≡ f (suc j) = rw here in
+      let y : groupTerm r g h j ≡ h (suc j) = rw here in
+      let change = sumTo-change (groupTerm r g f) (groupTerm r g h) (r .instruments) j (omega arith)
+      (λ i _ apart. rw (same (suc i) (λ q. apart (omega arith)))) in
+      omega (
+        signed,
+        sum-parts (f (suc j)) d,
+        difference-parts (groupTerm r g h j) (groupTerm r g f j),
+        sum-parts s (groupTerm r g h j -ℤ groupTerm r g f j),
+        sum-parts s d,
+      )
 
   -- the short side of a sum is the sum of the short sides
   pub group-toward : (w : Way) (f : ℕ → ℤ) → toward w (sumGroup r g f) ≡ sumGroup r g (λ i. toward w (f i))

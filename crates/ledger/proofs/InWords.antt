@@ -41,23 +41,18 @@ nothing-filled = none
 abbrev pub BuyOrSell : Side → Way → Way → Way → Type 0
 BuyOrSell s w buys sells = ((s ≡ Buy) × (w ≡ buys)) ⊎ ((s ≡ Sell) × (w ≡ sells))
 
-bought-or-sold : (s : Side) (w : Way) → (wayOf s ≡ w) ↔ BuyOrSell s w long short
-bought-or-sold s w = (there s, ⊎-elim (λ h. rw (h .0, h .1)) (λ h. rw (h .0, h .1)))
+bought-or-sold : (way : Side → Way) (s : Side) (w : Way) → (way s ≡ w) ↔ BuyOrSell s w (way Buy) (way Sell)
+bought-or-sold way s w = (there s, ⊎-elim (λ h. rw (h .0, h .1)) (λ h. rw (h .0, h .1)))
   where
-    there : (s : Side) → wayOf s ≡ w → BuyOrSell s w long short
-    there Buy e = inl (refl, sym e)
-    there Sell e = inr (refl, sym e)
-
-turned : (s : Side) (w : Way) → (opposite (wayOf s) ≡ w) ↔ BuyOrSell s w short long
-turned s w = (there s, ⊎-elim (λ h. rw (h .0, h .1)) (λ h. rw (h .0, h .1)))
-  where
-    there : (s : Side) → opposite (wayOf s) ≡ w → BuyOrSell s w short long
+    there : (s : Side) → way s ≡ w → BuyOrSell s w (way Buy) (way Sell)
     there Buy e = inl (refl, sym e)
     there Sell e = inr (refl, sym e)
 
 pub moves-instrument : (r : Roster) (o : Order) (i : ℕ) (w : Way) → Moves r o (instrument i) w
     ↔ ((o .instrument ≡ i) × BuyOrSell (o .side) w long short)
-moves-instrument r o i w = (λ m. (m .0, bought-or-sold (o .side) w .0 (m .1)), λ h. (h .0, bought-or-sold (o .side) w .1 (h .1)))
+moves-instrument r o i w =
+    let sides = bought-or-sold wayOf (o .side) w in
+    (λ m. (m .0, sides .0 (m .1)), λ h. (h .0, sides .1 (h .1)))
 
 pub moves-group : (r : Roster) (o : Order) (g : ℕ) (w : Way) → Moves r o (group g) w ↔ ((groupOfInstrument r (o .instrument) ≡ g)
     × (((pos 0 <ℤ r .weight (o .instrument)) × BuyOrSell (o .side) w long short) ⊎ ((r .weight (o .instrument) <ℤ pos 0)
@@ -67,18 +62,21 @@ moves-group r o g w = (
   λ h. let b = back (r .weight (o .instrument)) (h .1) in (h .0, b .0, b .1),
 )
   where
+    turned : Side → Way
+    turned s = opposite (wayOf s)
+
     ByWeight : ℤ → Type 0
     ByWeight K = ((pos 0 <ℤ K) × BuyOrSell (o .side) w long short) ⊎ ((K <ℤ pos 0) × BuyOrSell (o .side) w short long)
 
     there : (K : ℤ) → K ≢ pos 0 → wayBy K (wayOf (o .side)) ≡ w → ByWeight K
-    there (pos n) apart e = let h : n ≢ 0 = (λ z. apart (ap pos z)) in inl (omega signed, bought-or-sold (o .side) w .0 e)
-    there (negsuc n) apart e = inr (omega signed, turned (o .side) w .0 e)
+    there (pos n) apart e = let h : n ≢ 0 = (λ z. apart (ap pos z)) in inl (omega signed, bought-or-sold wayOf (o .side) w .0 e)
+    there (negsuc n) apart e = inr (omega signed, bought-or-sold turned (o .side) w .0 e)
 
     back : (K : ℤ) → ByWeight K → (K ≢ pos 0) × (wayBy K (wayOf (o .side)) ≡ w)
-    back (pos n) (inl h) = ((λ e. omega (signed, h .0)), bought-or-sold (o .side) w .1 (h .1))
+    back (pos n) (inl h) = ((λ e. omega (signed, h .0)), bought-or-sold wayOf (o .side) w .1 (h .1))
     back (pos n) (inr h) = absurd (omega (signed, h .0))
     back (negsuc n) (inl h) = absurd (omega (signed, h .0))
-    back (negsuc n) (inr h) = ((λ e. omega (signed, h .0)), turned (o .side) w .1 (h .1))
+    back (negsuc n) (inr h) = ((λ e. omega (signed, h .0)), bought-or-sold turned (o .side) w .1 (h .1))
 
 -- ---- "After it an instrument's long position is its balance and a group's is the sum of K times the balances; the short position is the
 -- long one negated."

@@ -1,6 +1,7 @@
 -- Laws of an order's detail: what goes in is read back, and every number is the detail of what is read from it.
 use Prim.Native.Nat.{ℕ, _+_, _*_, _-_, _/_, _%_, _^_, _<_}
 use mathlib.Core.Path.{_≡_}
+use mathlib.Core.Logic.{by-cases}
 use native.Mathlib.Nat.{div-div-eq-div-mul}
 use native.Mathlib.Decide.{ℕ-discrete}
 use native.Mathlib.Omega.{arith}
@@ -15,11 +16,9 @@ use Rattle.ledger.specs.Records.{Storable, orderOf}
 -- ---- side, account and instrument
 pub packed-again : (w : ℕ) → packed (packedSide w) (packedAccount w) (packedInstrument w) ≡ w % 1024
 unfolding packedSide packed
-packed-again w = by (ℕ-discrete (w / 32 % 2) 0)
-  where
-    by : Dec (w / 32 % 2 ≡ 0) → packed (packedSide w) (packedAccount w) (packedInstrument w) ≡ w % 1024
-    by (yes buy) = rw (eq-eqb (w / 32 % 2) 0 buy) (omega (arith, div-div-eq-div-mul w 64 16))
-    by (no sell) = rw (ne-eqb (w / 32 % 2) 0 sell) (omega (arith, sell, div-div-eq-div-mul w 64 16))
+packed-again w =
+    by-cases (ℕ-discrete (w / 32 % 2) 0) (λ buy. rw (eq-eqb (w / 32 % 2) 0 buy) (omega (arith, div-div-eq-div-mul w 64 16)))
+    (λ sell. rw (ne-eqb (w / 32 % 2) 0 sell) (omega (arith, sell, div-div-eq-div-mul w 64 16)))
 
 pub packed-below : (a i : ℕ) → Packable a i → (s : Side) → packed s a i < 1024
 unfolding packed
@@ -68,10 +67,6 @@ module _ (o : Order) (fits : Storable o) where
   above : ℕ
   above = o .filled + remaining o * 134217728
 
-  parted : detail o ≡ low + above * 1024
-  unfolding detail above
-  parted = omega arith
-
   low-below : low < 1024
   low-below = packed-below (o .account) (o .instrument) (fits .packable) (o .side)
 
@@ -79,22 +74,19 @@ module _ (o : Order) (fits : Storable o) where
   unfolding detail
   detail-below = omega (arith, low-below, fits .filled, fits .remaining)
 
-  filled-back : detailFilled (detail o) ≡ o .filled
-  unfolding detail
-  filled-back = omega (arith, low-below, fits .filled)
-
-  total-back : detailFilled (detail o) + detailRemaining (detail o) ≡ o .total
+  numbers-back : (detailFilled (detail o) ≡ o .filled) × (detailFilled (detail o) + detailRemaining (detail o) ≡ o .total)
   unfolding detail remaining
-  total-back = omega (arith, low-below, fits .filled, fits .part)
+  numbers-back = omega (arith, low-below, fits .filled, fits .part)
 
   pub detail-back : orderOf (o .id) (detail o) ≡ o
-  unfolding orderOf
+  unfolding orderOf detail above
   detail-back =
+      let parted : detail o ≡ low + above * 1024 = omega arith in
       let a = o .account in
       let i = o .instrument in
       rw (
-        total-back,
-        filled-back,
+        numbers-back .1,
+        numbers-back .0,
         parted,
         account-back a i (fits .packable) above (o .side),
         instrument-back a i (fits .packable) above (o .side),

@@ -5,16 +5,16 @@ use Prim.Native.Nat.{ℕ, suc}
 use mathlib.Core.Path.{_≡_, refl, sym, ap, _∙_}
 use mathlib.Core.Logic.{_≢_, by-cases}
 use mathlib.Core.List.{List}
-use lib.IntN.{ℤ, pos, negsuc, negℤ, natAbs, _*ℤ_, negℤ-negℤ, ℤ-discrete}
+use lib.IntN.{ℤ, pos, negsuc, negℤ, natAbs, _*ℤ_, negℤ-negℤ, ℤ-discrete, _+ℤ_}
 use lib.Signed.{_≤ℤ_, _<ℤ_}
 use Rattle.integers.specs.Parts.{signed, scaled-parts, magnitude-parts, differs}
-use Rattle.integers.specs.Ring.{negℤ-*ℤ, *ℤ-negℤ}
+use Rattle.integers.specs.Ring.{negℤ-*ℤ, *ℤ-negℤ, *ℤ-+ℤ}
 use Rattle.integers.specs.Product.{times-≤, product-<}
 use Rattle.ledger.specs.declared.order.Order.{Order}
-use Rattle.ledger.specs.Roster.{Roster}
+use Rattle.ledger.specs.Roster.{Roster, Numbered, groupOfInstrument}
 use Rattle.ledger.specs.Positions.{Way, long, short, Scope, instrument, group, toward, wayBy, ofInstrument, groupPart, sumGroup}
 use Rattle.ledger.specs.Positions.{potential, position}
-use Rattle.ledger.proofs.Groups.{Of, group-mono, group-same, group-strict, group-toward}
+use Rattle.ledger.proofs.Groups.{Of, group-mono, group-same, group-strict, group-toward, group-change}
 
 -- ---- the one fact behind groups: a weight K is |K| times, the way that the sign of K says
 pub weight-toward : (w : Way) (K x : ℤ) → toward w (K *ℤ x) ≡ pos (natAbs K) *ℤ toward (wayBy K w) x
@@ -102,6 +102,21 @@ module _ (unit : Order → ℕ) (r : Roster) (a : ℕ) (orders orders′ : List 
       → potential unit r orders a S p w ≡ potential unit r orders′ a S′ p w
   potential-same p w same =
       rw (potential-weighted unit r orders a S p w, potential-weighted unit r orders′ a S′ p w) (weighted-same r _ _ p same)
+
+  -- where one instrument's moves by d, and no other's, its group's moves by |K| times d
+  pub group-moved : (w : Way) (i : ℕ) → Numbered (r .instruments) i
+      → ((j : ℕ) → j ≢ i → (v : Way) → ofInstrument unit orders a S j v ≡ ofInstrument unit orders′ a S′ j v)
+      → (d : ℤ)
+      → ofInstrument unit orders′ a S′ i (wayBy (r .weight i) w) ≡ ofInstrument unit orders a S i (wayBy (r .weight i) w) +ℤ d
+      → potential unit r orders′ a S′ (group (groupOfInstrument r i)) w
+      ≡ potential unit r orders a S (group (groupOfInstrument r i)) w +ℤ pos (natAbs (r .weight i)) *ℤ d
+  unfolding weightedAt
+  group-moved w i numbered same d moved =
+      let g = groupOfInstrument r i in
+      let K = pos (natAbs (r .weight i)) in
+      rw (potential-weighted unit r orders a S (group g) w, potential-weighted unit r orders′ a S′ (group g) w)
+      (group-change r g _ _ i (K *ℤ d) (numbered, refl) (λ j apart. rw (same j apart (wayBy (r .weight j) w)))
+      (ap (λ (z : ℤ). K *ℤ z) moved ∙ *ℤ-+ℤ K (ofInstrument unit orders a S i (wayBy (r .weight i) w)) d))
 
 -- ---- and positions follow the balances
 module _ (r : Roster) (S S′ : ℕ → ℤ) (p : Scope) (w : Way) where

@@ -1,7 +1,7 @@
 -- The search from record p on: what a turn of it finds, which records it may leave out, and what it says of the place that it answers.
 use Prim.Native.Nat.{ℕ, zero, suc, _+_, _-_, _≤_, _<_}
 use mathlib.Core.Path.{_≡_, refl, _∙_, sym, ap}
-use mathlib.Core.Logic.{_≢_}
+use mathlib.Core.Logic.{_≢_, by-cases}
 use mathlib.Core.Bool.{cond}
 use mathlib.Core.List.{List}
 use native.Mathlib.Decide.{ℕ-discrete}
@@ -65,12 +65,11 @@ module _ (m : List ℕ) (id n to : ℕ) (inside : to ≤ n) (after : NotIn m id 
   cut zero p e =
       let none = seek-nowhere m n id p (omega arith) (λ q low high. after q (omega arith) high) in
       seek-end m to id p (omega arith) ∙ sym none
-  cut (suc k) p e = by (ℕ-discrete (orderAt m p .id) id) (cut k (p + 1) (omega arith))
-    where
-      by : Dec (orderAt m p .id ≡ id) → seek m to id (p + 1) ≡ seek m n id (p + 1) → seek m to id p ≡ seek m n id p
-      by (yes same) later = seek-here m to id p _ (omega arith) refl same ∙ sym (seek-here m n id p _ (omega arith) refl same)
-      by (no other) later =
-          seek-on m to id p _ (omega arith) refl other ∙ later ∙ sym (seek-on m n id p _ (omega arith) refl other)
+  cut (suc k) p e =
+      by-cases (ℕ-discrete (orderAt m p .id) id)
+      (λ same. seek-here m to id p _ (omega arith) refl same ∙ sym (seek-here m n id p _ (omega arith) refl same))
+      (λ other. seek-on m to id p _ (omega arith) refl other ∙ cut k (p + 1) (omega arith)
+      ∙ sym (seek-on m n id p _ (omega arith) refl other))
 
   pub seek-between : (from : ℕ) → from ≤ to → NotIn m id 0 from → seek m to id from ≡ seek m n id 0
   seek-between from h before =
@@ -83,17 +82,10 @@ module _ (m : List ℕ) (id : ℕ) where
   from-place : (n q p : ℕ) → placeFrom q id (ordersFrom m q n) ≡ At p → (p < q + n) × (orderAt m p .id ≡ id)
   unfolding placeFrom ordersFrom
   from-place zero q p e = let z : _≡_ {A = ℕ} 0 1 = cc in absurd (omega arith)
-  from-place (suc n) q p e = by (ℕ-discrete (orderAt m q .id) id) (from-place n (q + 1) p)
-    where
-      by : Dec (orderAt m q .id ≡ id)
-          → (placeFrom (q + 1) id (ordersFrom m (q + 1) n) ≡ At p → (p < q + 1 + n) × (orderAt m p .id ≡ id))
-          → (p < q + suc n) × (orderAt m p .id ≡ id)
-      by (yes same) later =
-          let here : q ≡ p = cc (eq-eqb (orderAt m q .id) id same) in
-          (omega arith, rw (← here) same)
-      by (no other) later =
-          let found : (p < q + 1 + n) × (orderAt m p .id ≡ id) = later (simp (ne-eqb (orderAt m q .id) id other) at e) in
-          (omega arith, found .1)
+  from-place (suc n) q p e =
+      by-cases (ℕ-discrete (orderAt m q .id) id)
+      (λ same. let here : q ≡ p = cc (eq-eqb (orderAt m q .id) id same) in (omega arith, rw (← here) same))
+      (λ other. let found = from-place n (q + 1) p (simp (ne-eqb (orderAt m q .id) id other) at e) in (omega arith, found .1))
 
   -- the place is one of the n, and its order has the id
   pub found-place : (n p : ℕ) → placeFrom 0 id (ordersFrom m 0 n) ≡ At p → (p < n) × (orderAt m p .id ≡ id)

@@ -88,6 +88,3 @@ module _ (unit : Order → ℕ) (s : Side) (a i : ℕ) where
   pub open-changed : (o o′ : Order) (orders orders′ : List Order) → Changed o o′ orders orders′
       → openOn unit orders′ s a i +ℤ adds o ≡ adds o′ +ℤ openOn unit orders s a i
   open-changed o o′ orders orders′ c = simp open-sum (c adds)
-
-  pub open-permuted : {orders orders′ : List Order} → Permuted orders orders′ → openOn unit orders′ s a i ≡ openOn unit orders s a i
-  open-permuted p = simp open-sum (sum-permuted adds p)

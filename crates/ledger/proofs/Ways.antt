@@ -5,7 +5,7 @@ use mathlib.Core.Logic.{_≢_}
 use mathlib.Core.Bool.{Bool, true, false}
 use native.Mathlib.Omega.{arith}
 use lib.Dec.{eqb}
-use lib.IntN.{ℤ, _+ℤ_, negℤ-+ℤ}
+use lib.IntN.{ℤ, pos, _+ℤ_, negℤ-+ℤ}
 use borrow.Author.Tests.{eqb-true, eqb-false}
 use Rattle.ledger.specs.declared.order.Side.{Side}
 use Rattle.ledger.specs.declared.order.Side.the-variants.{Buy, Sell}
@@ -33,6 +33,10 @@ Way-discrete short long = no (opposite-apart long)
 Way-discrete short short = yes refl
 
 -- ---- by a test
+pub by-test : {P : Type 0} (t : Bool) → (t ≡ true → P) → (t ≡ false → P) → P
+by-test true holds fails = holds refl
+by-test false holds fails = fails refl
+
 pub by-side : (s t : Side) (P : Bool → Type 0) → (s ≡ t → P true) → (s ≢ t → P false) → P (sameSide s t)
 by-side Buy Buy P same apart = same refl
 by-side Buy Sell P same apart = apart (other-side short)
@@ -40,13 +44,14 @@ by-side Sell Buy P same apart = apart (other-side long)
 by-side Sell Sell P same apart = same refl
 
 pub by-number : (m n : ℕ) (P : Bool → Type 0) → (m ≡ n → P true) → (m ≢ n → P false) → P (eqb m n)
-by-number m n P same apart = go (eqb m n) (λ e. same (eqb-true m n e)) (λ e. apart (eqb-false m n e))
-  where
-    go : (t : Bool) → (t ≡ true → P true) → (t ≡ false → P false) → P t
-    go true f g = f refl
-    go false f g = g refl
+by-number m n P same apart =
+    by-test (eqb m n) (λ e. rw e (same (eqb-true m n e))) (λ e. rw e (apart (eqb-false m n e)))
 
 -- ---- a number on a side
+pub zero-toward : (w : Way) → toward w (pos 0) ≡ pos 0
+zero-toward long = refl
+zero-toward short = refl
+
 pub toward-sum : (w : Way) (x y : ℤ) → toward w (x +ℤ y) ≡ toward w x +ℤ toward w y
 toward-sum long x y = refl
 toward-sum short x y = negℤ-+ℤ x y

@@ -6,6 +6,7 @@ use mathlib.Core.Bool.{Bool, true, false, not, _&&_, _||_, cond, true≢false, f
 use mathlib.Core.List.{List, [], _∷_, _++_}
 use native.Mathlib.Omega.{arith}
 use lib.Dec.{eqb}
+use Rattle.ledger.proofs.Ways.{by-test, by-number}
 use Rattle.limits.specs.Questions.{Question, firstNo, allPass}
 
 -- ---- tests joined
@@ -30,18 +31,6 @@ abbrev pub Counted : List Question → Type 0
 Counted [] = Unit
 Counted (q ∷ qs) = (1 ≤ q .number) × Counted qs
 
--- every question is answered yes, by place
-abbrev pub Yes : List Question → Type 0
-Yes [] = Unit
-Yes (q ∷ qs) = (q .passes ≡ true) × Yes qs
-
-pub pass-each : (qs : List Question) → allPass qs ≡ true → Yes qs
-unfolding allPass
-pass-each [] e = tt
-pass-each (q ∷ qs) e =
-    let h = both-true (q .passes) (allPass qs) e in
-    (h .0, pass-each qs (h .1))
-
 -- a passed question is found by its number: the answer to question n, yes where no question has that number
 abbrev pub passesAt : ℕ → List Question → Bool
 passesAt n [] = true
@@ -52,11 +41,7 @@ unfolding allPass
 passed [] e n = refl
 passed (q ∷ qs) e n =
     let h = both-true (q .passes) (allPass qs) e in
-    by (eqb (q .number) n) (h .0) (passed qs (h .1) n)
-  where
-    by : (t : Bool) → q .passes ≡ true → passesAt n qs ≡ true → cond t (q .passes) (passesAt n qs) ≡ true
-    by true here later = here
-    by false here later = later
+    by-number (q .number) n (λ t. cond t (q .passes) (passesAt n qs) ≡ true) (λ _. h .0) (λ _. passed qs (h .1) n)
 
 pub pass-zero : (qs : List Question) → allPass qs ≡ true → firstNo qs ≡ 0
 unfolding firstNo allPass
@@ -68,22 +53,14 @@ pass-zero (q ∷ qs) e =
 pub zero-pass : (qs : List Question) → Counted qs → firstNo qs ≡ 0 → allPass qs ≡ true
 unfolding firstNo allPass
 zero-pass [] c e = refl
-zero-pass (q ∷ qs) c e = by (q .passes) e (zero-pass qs (c .1))
-  where
-    by : (t : Bool) → cond t (firstNo qs) (q .number) ≡ 0 → (firstNo qs ≡ 0 → allPass qs ≡ true) → t && allPass qs ≡ true
-    by true e rest = rest e
-    by false e rest = absurd (omega (arith, c .0))
+zero-pass (q ∷ qs) c e =
+    by-test (q .passes) (λ t. rw t (zero-pass qs (c .1) (rw t at e))) (λ t. absurd (omega (arith, c .0, rw t at e)))
 
 -- the first no of two lists of questions, one after the other
 pub append-first : (xs ys : List Question) → firstNo (xs ++ ys) ≡ cond (allPass xs) (firstNo ys) (firstNo xs)
 unfolding firstNo allPass
 append-first [] ys = refl
-append-first (q ∷ xs) ys = by (q .passes) (append-first xs ys)
-  where
-    by : (t : Bool) → firstNo (xs ++ ys) ≡ cond (allPass xs) (firstNo ys) (firstNo xs)
-        → cond t (firstNo (xs ++ ys)) (q .number) ≡ cond (t && allPass xs) (firstNo ys) (cond t (firstNo xs) (q .number))
-    by true e = e
-    by false e = refl
+append-first (q ∷ xs) ys = by-test (q .passes) (λ t. rw t (append-first xs ys)) (λ t. rw t)
 
 -- where the first list passes, the second answers
 pub append-passed : (xs ys : List Question) → allPass xs ≡ true → firstNo (xs ++ ys) ≡ firstNo ys
@@ -91,19 +68,14 @@ append-passed xs ys e = rw (append-first xs ys, e)
 
 -- where the first list refuses, it answers
 pub append-refused : (xs ys : List Question) → firstNo xs ≢ 0 → firstNo (xs ++ ys) ≡ firstNo xs
-append-refused xs ys refused = append-first xs ys ∙ by (allPass xs) (λ e. refused (pass-zero xs e))
-  where
-    by : (t : Bool) → (t ≡ true → ⊥) → cond t (firstNo ys) (firstNo xs) ≡ firstNo xs
-    by true never = absurd (never refl)
-    by false never = refl
+append-refused xs ys refused =
+    append-first xs ys ∙ by-test (allPass xs) (λ t. absurd (refused (pass-zero xs t))) (λ t. rw t)
 
 -- an answer of 0 passes both
 pub append-zero : (xs ys : List Question) → Counted xs → firstNo (xs ++ ys) ≡ 0 → (allPass xs ≡ true) × (firstNo ys ≡ 0)
-append-zero xs ys c e = by (allPass xs) refl (sym (append-first xs ys) ∙ e)
-  where
-    by : (t : Bool) → allPass xs ≡ t → cond t (firstNo ys) (firstNo xs) ≡ 0 → (allPass xs ≡ true) × (firstNo ys ≡ 0)
-    by true d z = (d, z)
-    by false d z = absurd (false≢true (sym d ∙ zero-pass xs c z))
+append-zero xs ys c e =
+    let z = sym (append-first xs ys) ∙ e in
+    by-test (allPass xs) (λ t. (t, rw t at z)) (λ t. absurd (false≢true (sym t ∙ zero-pass xs c (rw t at z))))
 
 -- ---- a number that no question has is no answer
 abbrev pub Without : ℕ → List Question → Type 0
@@ -113,8 +85,5 @@ Without n (q ∷ qs) = (q .number ≢ n) × Without n qs
 pub never-answered : (n : ℕ) (qs : List Question) → n ≢ 0 → Without n qs → firstNo qs ≢ n
 unfolding firstNo
 never-answered n [] some-number w = λ e. some-number (sym e)
-never-answered n (q ∷ qs) some-number w = by (q .passes) (never-answered n qs some-number (w .1))
-  where
-    by : (t : Bool) → firstNo qs ≢ n → cond t (firstNo qs) (q .number) ≢ n
-    by true rest = rest
-    by false rest = w .0
+never-answered n (q ∷ qs) some-number w =
+    by-test (q .passes) (λ t. rw t (never-answered n qs some-number (w .1))) (λ t. rw t (w .0))

@@ -1,9 +1,7 @@
 -- Which of questions 21 to 24 an order is asked: those of the sides to which its own fills move a position.
-use Prim.Native.Nat.{ℕ}
 use mathlib.Core.Path.{_≡_, refl}
 use mathlib.Core.Logic.{_↔_, _≢_}
-use mathlib.Core.Bool.{true, false, not}
-use native.Mathlib.Omega.{arith}
+use mathlib.Core.Bool.{true, false, not, true≢false}
 use lib.IntN.{ℤ, pos, negsuc}
 use borrow.Author.Tests.{ne-eqb, not-true}
 use Rattle.ledger.specs.declared.order.Order.{Order}
@@ -19,28 +17,20 @@ sameWay-true long short e = cc
 sameWay-true short long e = cc
 sameWay-true short short e = refl
 
-true-sameWay : (v w : Way) → v ≡ w → sameWay v w ≡ true
-true-sameWay long long e = refl
-true-sameWay long short e = cc
-true-sameWay short long e = cc
-true-sameWay short short e = refl
+same-itself : (w : Way) → sameWay w w ≡ true
+same-itself long = refl
+same-itself short = refl
 
 pub isZero-false : (z : ℤ) → z ≢ pos 0 → isZero z ≡ false
 isZero-false (pos n) h = ne-eqb n 0 (λ e. h (rw e))
 isZero-false (negsuc n) h = refl
-
-nonzero : (z : ℤ) → isZero z ≡ false → z ≢ pos 0
-nonzero z e d =
-    let f : isZero z ≡ true = rw d refl in
-    let c : _≡_ {A = ℕ} 0 1 = cc in
-    omega arith
 
 -- ---- the tests are `Moves` at the order's own instrument and at its group
 module _ (r : Roster) (o : Order) (w : Way) where
   pub moves-instrument : (movesInstrument o w ≡ true) ↔ Moves r o (instrument (o .instrument)) w
   unfolding movesInstrument
   moves-instrument =
-      (λ e. (refl, sameWay-true (wayOf (o .side)) w e), λ m. true-sameWay (wayOf (o .side)) w (m .1))
+      (λ e. (refl, sameWay-true (wayOf (o .side)) w e), λ m. rw (m .1) (same-itself w))
 
   pub moves-group : (movesGroup r o w ≡ true) ↔ Moves r o (group (groupOfInstrument r (o .instrument))) w
   unfolding movesGroup
@@ -49,6 +39,6 @@ module _ (r : Roster) (o : Order) (w : Way) where
       let v = wayBy k (wayOf (o .side)) in (
         λ e.
             let h = both-true (not (isZero k)) (sameWay v w) e in
-            (refl, nonzero k (not-true (isZero k) (h .0)), sameWay-true v w (h .1)),
-        λ m. and-true (not (isZero k)) (sameWay v w) (rw (isZero-false k (m .1))) (true-sameWay v w (m .2)),
+            (refl, (λ d. true≢false (rw d at (not-true (isZero k) (h .0)))), sameWay-true v w (h .1)),
+        λ m. and-true (not (isZero k)) (sameWay v w) (rw (isZero-false k (m .1))) (rw (m .2) (same-itself w)),
       )

@@ -50,104 +50,61 @@ judged ls S o = firstNo (positionQuestions (λ o. 1) roster ls (o ∷ []) (λ i.
 by-its-number : (t u : Bool) → allPass (record { number = 17; passes = t } ∷ record { number = 12; passes = u } ∷ []) ≡ true → u ≡ true
 by-its-number t u h = passed (record { number = 17; passes = t } ∷ record { number = 12; passes = u } ∷ []) h 12
 
--- ---- the line in force
--- the own line is taken whole: a figure of 0 in it is not filled from the default
-own-whole : lineInForce roster (linesOf (some (lineOf 0 5 0 7)) (some (lineOf 9 9 9 9)) 0 0) 1 ≡ some (lineOf 0 5 0 7)
-unfolding lineInForce
-own-whole = refl
+-- all that they compute with, as one name
+unfoldable computes : Unit {0}
+unfolding sumOver below remaining groupOfInstrument standsIn openOn ofInstrument groupPart sumGroup potential lineInForce limit firstNo
+    limitsSet sizeFits movesInstrument movesGroup within positionQuestions
+computes = tt
 
-default-whole : lineInForce roster (linesOf none (some (lineOf 9 8 7 6)) 0 0) 1 ≡ some (lineOf 9 8 7 6)
-unfolding lineInForce
-default-whole = refl
-
-none-in-force : lineInForce roster (linesOf none none 0 0) 1 ≡ none
-unfolding lineInForce
-none-in-force = refl
+-- ---- the line in force: the own line taken whole, where a figure of 0 is not filled from the default; else the default; else none
+in-force : (lineInForce roster (linesOf (some (lineOf 0 5 0 7)) (some (lineOf 9 9 9 9)) 0 0) 1 ≡ some (lineOf 0 5 0 7))
+    × (lineInForce roster (linesOf none (some (lineOf 9 8 7 6)) 0 0) 1 ≡ some (lineOf 9 8 7 6))
+    × (lineInForce roster (linesOf none none 0 0) 1 ≡ none)
+unfolding computes
+in-force = (refl, refl, refl)
 
 -- zeros are limits; no line is none
 zeros-are-set : limitsSet roster (linesOf (some (lineOf 0 0 0 0)) none 0 0) (order Buy 1 1) ≡ true
-unfolding limitsSet lineInForce groupOfInstrument
+unfolding computes
 zeros-are-set = refl
 
-unset-is-not : limitsSet roster (linesOf none none 0 0) (order Buy 1 1) ≡ false
-unfolding limitsSet lineInForce groupOfInstrument
-unset-is-not = refl
+-- a limit that is not set is below every position of 0 and more, and is not 0; a group limit counts in ten-thousandths
+limits : (limitsSet roster (linesOf none none 0 0) (order Buy 1 1) ≡ false)
+    × (limit roster (linesOf none none 0 0) (instrument 1) long ≡ negsuc 0)
+    × (limit roster (linesOf none none 60 7) (group 1) long ≡ pos 600000)
+unfolding computes
+limits = (refl, refl, refl)
 
--- a limit that is not set is below every position of 0 and more, and is not 0
-unset-limit : limit roster (linesOf none none 0 0) (instrument 1) long ≡ negsuc 0
-unfolding limit lineInForce
-unset-limit = refl
-
--- a group limit counts in ten-thousandths
-group-limit : limit roster (linesOf none none 60 7) (group 1) long ≡ pos 600000
-unfolding limit
-group-limit = refl
-
--- ---- the total is compared with TCI or TVI, on the order's own side; reaching it passes
-size-reached : sizeFits (λ o. 1) roster (linesOf none (some (lineOf 5 0 0 0)) 0 0) (order Buy 1 5) Buy ≡ true
-unfolding sizeFits lineInForce
-size-reached = refl
-
-size-passed : sizeFits (λ o. 1) roster (linesOf none (some (lineOf 5 9 0 0)) 0 0) (order Buy 1 6) Buy ≡ false
-unfolding sizeFits lineInForce
-size-passed = refl
-
-other-side : sizeFits (λ o. 1) roster (linesOf none (some (lineOf 9 5 0 0)) 0 0) (order Buy 1 6) Sell ≡ true
-unfolding sizeFits lineInForce
-other-side = refl
-
--- all of the total counts, also what is filled
-total-counts : sizeFits (λ o. 1) roster (linesOf none (some (lineOf 5 0 0 0)) 0 0)
-    (record { id = 1; account = 1; instrument = 1; side = Buy; total = 6; filled = 4 }) Buy ≡ false
-unfolding sizeFits lineInForce
-total-counts = refl
+-- ---- the total is compared with TCI or TVI, on the order's own side; reaching it passes, and all of it counts, also what is filled
+sizes : (sizeFits (λ o. 1) roster (linesOf none (some (lineOf 5 0 0 0)) 0 0) (order Buy 1 5) Buy ≡ true)
+    × (sizeFits (λ o. 1) roster (linesOf none (some (lineOf 5 9 0 0)) 0 0) (order Buy 1 6) Buy ≡ false)
+    × (sizeFits (λ o. 1) roster (linesOf none (some (lineOf 9 5 0 0)) 0 0) (order Buy 1 6) Sell ≡ true)
+    × (sizeFits (λ o. 1) roster (linesOf none (some (lineOf 5 0 0 0)) 0 0)
+    (record { id = 1; account = 1; instrument = 1; side = Buy; total = 6; filled = 4 }) Buy ≡ false)
+unfolding computes
+sizes = (refl, refl, refl, refl)
 
 -- ---- reaching a limit passes, and one past it does not
 limit-0-reached : judged (linesOf none (some (lineOf 9 9 0 0)) 99 99) (negsuc 1) (order Buy 1 2) ≡ 0
-unfolding sumOver below remaining groupOfInstrument standsIn openOn ofInstrument groupPart sumGroup potential lineInForce limit firstNo
-    movesInstrument movesGroup within positionQuestions
+unfolding computes
 limit-0-reached = refl
 
 limit-0-passed : judged (linesOf none (some (lineOf 9 9 0 0)) 99 99) (negsuc 1) (order Buy 1 3) ≡ 21
-unfolding sumOver below remaining groupOfInstrument standsIn openOn ofInstrument groupPart sumGroup potential lineInForce limit firstNo
-    movesInstrument movesGroup within positionQuestions
+unfolding computes
 limit-0-passed = refl
 
-short-reached : judged (linesOf none (some (lineOf 9 9 0 4)) 99 99) (pos 2) (order Sell 1 6) ≡ 0
-unfolding sumOver below remaining groupOfInstrument standsIn openOn ofInstrument groupPart sumGroup potential lineInForce limit firstNo
-    movesInstrument movesGroup within positionQuestions
-short-reached = refl
-
-short-passed : judged (linesOf none (some (lineOf 9 9 0 4)) 99 99) (pos 2) (order Sell 1 7) ≡ 22
-unfolding sumOver below remaining groupOfInstrument standsIn openOn ofInstrument groupPart sumGroup potential lineInForce limit firstNo
-    movesInstrument movesGroup within positionQuestions
-short-passed = refl
-
--- weight −5000: a sell moves the group long. Half a group contract passes a limit of 0
-sell-of-a-put : judged (linesOf none (some (lineOf 9 9 9 9)) 0 0) (pos 0) (order Sell 2 1) ≡ 23
-unfolding sumOver below remaining groupOfInstrument standsIn openOn ofInstrument groupPart sumGroup potential lineInForce limit firstNo
-    movesInstrument movesGroup within positionQuestions
-sell-of-a-put = refl
-
-buy-of-a-put : judged (linesOf none (some (lineOf 9 9 9 9)) 0 0) (pos 0) (order Buy 2 1) ≡ 24
-unfolding sumOver below remaining groupOfInstrument standsIn openOn ofInstrument groupPart sumGroup potential lineInForce limit firstNo
-    movesInstrument movesGroup within positionQuestions
-buy-of-a-put = refl
-
--- weight 0: no group check
-no-group : judged (linesOf none (some (lineOf 9 9 9 9)) 0 0) (pos 0) (order Sell 3 1) ≡ 0
-unfolding sumOver below remaining groupOfInstrument standsIn openOn ofInstrument groupPart sumGroup potential lineInForce limit firstNo
-    movesInstrument movesGroup within positionQuestions
-no-group = refl
-
--- also where the group is past its limit already
-no-group-past : judged (linesOf none (some (lineOf 9 9 9 9)) 0 0) (pos 1) (order Buy 3 1) ≡ 0
-unfolding sumOver below remaining groupOfInstrument standsIn openOn ofInstrument groupPart sumGroup potential lineInForce limit firstNo
-    movesInstrument movesGroup within positionQuestions
-no-group-past = refl
-
 -- a limit that was lowered below the position on one side does not bear on the other
-lowered : judged (linesOf none (some (lineOf 9 9 0 9)) 99 99) (pos 50) (order Sell 1 5) ≡ 0
-unfolding sumOver below remaining groupOfInstrument standsIn openOn ofInstrument groupPart sumGroup potential lineInForce limit firstNo
-    movesInstrument movesGroup within positionQuestions
-lowered = refl
+short-side : (judged (linesOf none (some (lineOf 9 9 0 4)) 99 99) (pos 2) (order Sell 1 6) ≡ 0)
+    × (judged (linesOf none (some (lineOf 9 9 0 4)) 99 99) (pos 2) (order Sell 1 7) ≡ 22)
+    × (judged (linesOf none (some (lineOf 9 9 0 9)) 99 99) (pos 50) (order Sell 1 5) ≡ 0)
+unfolding computes
+short-side = (refl, refl, refl)
+
+-- weight −5000: a sell moves the group long. Half a group contract passes a limit of 0; weight 0: no group check, also where the group is
+-- past its limit already
+groups : (judged (linesOf none (some (lineOf 9 9 9 9)) 0 0) (pos 0) (order Sell 2 1) ≡ 23)
+    × (judged (linesOf none (some (lineOf 9 9 9 9)) 0 0) (pos 0) (order Buy 2 1) ≡ 24)
+    × (judged (linesOf none (some (lineOf 9 9 9 9)) 0 0) (pos 0) (order Sell 3 1) ≡ 0)
+    × (judged (linesOf none (some (lineOf 9 9 9 9)) 0 0) (pos 1) (order Buy 3 1) ≡ 0)
+unfolding computes
+groups = (refl, refl, refl, refl)

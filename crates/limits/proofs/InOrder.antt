@@ -1,13 +1,13 @@
 -- The first no of each table, by the tests that the code makes.
 use Prim.Native.Nat.{ℕ}
-use mathlib.Core.Path.{_≡_, refl, ap, _∙_}
+use mathlib.Core.Path.{_≡_, refl, _∙_}
 use mathlib.Core.Logic.{_≢_}
 use mathlib.Core.Bool.{Bool, true, false, not, _&&_, _||_, cond}
 use mathlib.Core.List.{List, [], _∷_}
 use mathlib.Core.Option.{Option, none, some}
 use native.Mathlib.Nat.{one-mul}
 use lib.Dec.{leb}
-use lib.IntN.{ℤ, pos, negsuc, natAbs, _+ℤ_, _*ℤ_}
+use lib.IntN.{ℤ, pos, natAbs, _+ℤ_, _*ℤ_}
 use lib.Signed.{leZ}
 use borrow.Author.Tests.{eq-eqb, ne-eqb}
 use Rattle.ledger.specs.declared.order.Order.{Order}
@@ -24,6 +24,7 @@ use Rattle.limits.specs.Raised.{Raised}
 use Rattle.limits.specs.Numbers.{existenceQuestions, sizeQuestions, orderNumber, instrumentNumber, groupNumber}
 use Rattle.limits.specs.Bounds.{SetWords, InForce, OfGroup}
 use Rattle.limits.proofs.Raising.{instrument-raised, group-raised}
+use Rattle.limits.proofs.Asking.{isZero-false}
 
 -- ---- 17
 pub word-set : (w : ℕ) → w ≢ 0 → saysSet w ≡ true
@@ -87,13 +88,6 @@ in-order short long false f g = refl
 in-order short short true f g = refl
 in-order short short false f g = refl
 
-weightless : (K : ℤ) → K ≡ pos 0 → isZero K ≡ true
-weightless K e = rw e
-
-weighty : (K : ℤ) → K ≢ pos 0 → isZero K ≡ false
-weighty (pos n) h = ne-eqb n 0 (λ e. h (ap pos e))
-weighty (negsuc n) h = refl
-
 -- x and m are what the code finds for the instrument's position with the event applied and for its limit
 module _ (r : Roster) (ls : Lines) (before after : List Order) (S : ℕ → ℤ) (o : Order) (n : ℕ) (line groupLine : List ℕ)
     (in-force : InForce r ls o line) (of-group : OfGroup r ls o groupLine) (raised : Raised n o before after) (x m : ℤ)
@@ -102,13 +96,6 @@ module _ (r : Roster) (ls : Lines) (before after : List Order) (S : ℕ → ℤ)
   of-instrument : within one r ls after S o (instrument (o .instrument)) (wayOf (o .side)) ≡ leZ x m
   unfolding within potential limit
   of-instrument = rw (found, most, instrument-raised n o before after raised S, in-force)
-
-  in-group : Numbered (r .instruments) (o .instrument) → (v : Way) → v ≡ wayBy (r .weight (o .instrument)) (wayOf (o .side)) → (y q : ℤ)
-      → y ≡ potential one r before (o .account) S (group (groupOfInstrument r (o .instrument))) v +ℤ pos
-      (natAbs (r .weight (o .instrument))) *ℤ pos n → q ≡ pos 10000 *ℤ pos (largestOfGroup v (groupLineAt groupLine 0))
-      → within one r ls after S o (group (groupOfInstrument r (o .instrument))) v ≡ leZ y q
-  unfolding within limit
-  in-group numbered v way y q e f = rw (e, f, group-raised n o before after raised S r numbered v way, of-group)
 
   by-tests : (t u : Bool) (v : Way) → v ≡ wayBy (r .weight (o .instrument)) (wayOf (o .side)) → leZ x m ≡ t
       → within one r ls after S o (group (groupOfInstrument r (o .instrument))) v ≡ u
@@ -123,7 +110,7 @@ module _ (r : Roster) (ls : Lines) (before after : List Order) (S : ℕ → ℤ)
   instrument-passed e = by-tests false _ _ refl e refl
 
   pub no-group : leZ x m ≡ true → r .weight (o .instrument) ≡ pos 0 → firstNo (positionQuestions one r ls after S o) ≡ 0
-  no-group e zero = by-tests true _ _ refl e refl ∙ simp (weightless (r .weight (o .instrument)) zero)
+  no-group e zero = by-tests true _ _ refl e refl ∙ simp zero
 
   -- and y and q what it finds for the group's position, on the side that the order moves, and for its limit
   pub by-group : leZ x m ≡ true → Numbered (r .instruments) (o .instrument) → r .weight (o .instrument) ≢ pos 0 → (v : Way)
@@ -131,5 +118,7 @@ module _ (r : Roster) (ls : Lines) (before after : List Order) (S : ℕ → ℤ)
       → y ≡ potential one r before (o .account) S (group (groupOfInstrument r (o .instrument))) v +ℤ pos
       (natAbs (r .weight (o .instrument))) *ℤ pos n → q ≡ pos 10000 *ℤ pos (largestOfGroup v (groupLineAt groupLine 0)) → (t : Bool)
       → leZ y q ≡ t → firstNo (positionQuestions one r ls after S o) ≡ cond t 0 (groupNumber v)
+  unfolding within limit
   by-group e numbered weight v way y q d f t h =
-      by-tests true t v way e (in-group numbered v way y q d f ∙ h) ∙ simp (weighty (r .weight (o .instrument)) weight)
+      by-tests true t v way e (rw (group-raised n o before after raised S r numbered v way, of-group, ← d, ← f) h)
+      ∙ simp (isZero-false (r .weight (o .instrument)) weight)

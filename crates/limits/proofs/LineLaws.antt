@@ -3,6 +3,7 @@ use Prim.Native.Nat.{ℕ, _*_}
 use mathlib.Core.Path.{_≡_, refl}
 use mathlib.Core.Bool.{true, false, false≢true}
 use mathlib.Core.Option.{Option, none, some}
+use native.Mathlib.Omega.{arith}
 use lib.IntN.{pos}
 use Rattle.ledger.specs.Roster.{Roster}
 use Rattle.ledger.specs.Positions.{Way, instrument, group}
@@ -34,6 +35,9 @@ module _ (r : Roster) (ls : Lines) where
 pub set-some : {A : Type 0} (x : Option A) → isSet x ≡ true → (l : A) × (x ≡ some l)
 set-some (some l) e = (l, refl)
 set-some none e = absurd (false≢true e)
+
+pub none-some : {A P : Type 0} (l : A) → _≡_ {A = Option A} none (some l) → P
+none-some l e = absurd (let z : _≡_ {A = ℕ} 0 1 = cc in omega arith)
 
 pub unset-none : {A : Type 0} (x : Option A) → isSet x ≡ false → x ≡ none
 unset-none (some l) e = cc

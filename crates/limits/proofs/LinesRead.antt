@@ -1,9 +1,9 @@
 -- Laws of lines in lent bytes: a side's figure, the part that holds the line in force, and which lines are set.
 use Prim.Native.Nat.{ℕ, _+_, _*_, _^_, _≤_, _<_}
-use mathlib.Core.Path.{_≡_, refl, _∙_}
+use mathlib.Core.Path.{_≡_, _∙_}
 use mathlib.Core.Bool.{Bool, true, false, cond, false≢true}
 use mathlib.Core.List.{List}
-use mathlib.Core.Option.{Option, none, some}
+use mathlib.Core.Option.{none, some}
 use native.Mathlib.Nat.{add-zero}
 use native.Mathlib.Omega.{arith}
 use lib.ListN.{length}
@@ -17,6 +17,7 @@ use Rattle.ledger.specs.declared.order.Side.{Side}
 use Rattle.ledger.specs.declared.order.Side.the-variants.{Buy, Sell}
 use Rattle.ledger.specs.Roster.{Roster}
 use Rattle.ledger.specs.Positions.{wayOf}
+use Rattle.ledger.proofs.Ways.{by-test}
 use Rattle.limits.specs.Lines.{Line, Lines, largestOrder, largestPosition, largestOfGroup, orElse, lineInForce, isSet}
 use Rattle.limits.specs.InBytes.{lineAt, groupLineAt, sideByte, saysSet, whereSet, linesIn, linePart}
 
@@ -55,10 +56,6 @@ module _ (m : List ℕ) (k : ℕ) where
   unfolding lineAt
   line-in-part = rw (first-in-part 2 (omega arith), word-part m k 2 1 (omega arith))
 
-  pub group-line-in-part : groupLineAt (partOf m k 1) 0 ≡ groupLineAt m k
-  unfolding groupLineAt
-  group-line-in-part = rw (first-in-part 1 (omega arith))
-
 -- ---- the part of the line in force
 module _ (own default : List ℕ) (set i c : ℕ) where
   pub own-part : saysSet set ≡ true → partOf own (i * 2) 2 ≡ linePart own default set i c
@@ -72,28 +69,14 @@ module _ (own default : List ℕ) (set i c : ℕ) where
   module _ (own-long : i * 16 + 16 ≤ length own) (default-long : c * 16 + 16 ≤ length default) where
     pub length-in-force : length (linePart own default set i c) ≡ 16
     unfolding linePart
-    length-in-force = by (saysSet set)
-      where
-        by : (t : Bool) → length (cond t (partOf own (i * 2) 2) (partOf default (c * 2) 2)) ≡ 16
-        by true = length-part own (i * 2) 2 (omega arith)
-        by false = length-part default (c * 2) 2 (omega arith)
+    length-in-force =
+        by-test (saysSet set) (λ t. rw t (length-part own (i * 2) 2 (omega arith)))
+        (λ t. rw t (length-part default (c * 2) 2 (omega arith)))
 
 -- ---- which lines are set
 pub set-by-word : {A : Type 0} (w : ℕ) (l : A) → isSet (whereSet w l) ≡ saysSet w
 unfolding whereSet
-set-by-word {A} w l = by (saysSet w)
-  where
-    by : (t : Bool) → isSet (cond t (some l) none) ≡ t
-    by true = refl
-    by false = refl
-
-where-set : {A : Type 0} (w : ℕ) (l : A) → isSet (whereSet w l) ≡ true → whereSet w l ≡ some l
-unfolding whereSet
-where-set {A} w l = by (saysSet w)
-  where
-    by : (t : Bool) → isSet (cond {A = Option A} t (some l) none) ≡ true → cond {A = Option A} t (some l) none ≡ some l
-    by true e = refl
-    by false e = absurd (false≢true e)
+set-by-word w l = by-test (saysSet w) (λ t. rw t) (λ t. rw t)
 
 -- the own line where it is set, else the default line
 whole : (t u : Bool) (l d : Line) (x y : List ℕ) → lineAt x 0 ≡ l → lineAt y 0 ≡ d
@@ -117,5 +100,7 @@ module _ (own ownSet default defaultSet ofGroup groupSet : List ℕ) where
 
   -- the group's line, where it is set, stands in its part
   pub of-group : (g : ℕ) → isSet (lines .lineOfGroup g) ≡ true → lines .lineOfGroup g ≡ some (groupLineAt (partOf ofGroup g 1) 0)
-  unfolding linesIn
-  of-group g e = rw (group-line-in-part ofGroup g) (where-set (wordAt groupSet g) (groupLineAt ofGroup g) e)
+  unfolding linesIn groupLineAt whereSet
+  of-group g e =
+      by-test (saysSet (wordAt groupSet g)) (λ t. rw (t, first-in-part ofGroup g 1 (omega arith)))
+      (λ t. absurd (false≢true (rw t at e)))

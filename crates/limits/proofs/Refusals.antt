@@ -74,14 +74,11 @@ module _ (unit : Order → ℕ) (r : Roster) (ls : Lines) (orders : List Order) 
   unfolding within
   within-le p w e = omega signed
 
-  not-within : (p : Scope) (w : Way) → within unit r ls orders S o p w ≡ false → Past p w
-  unfolding within
-  not-within p w e = omega signed
-
   no-past : (moves : Bool) (p : Scope) (w : Way) → (moves ≡ true → Moves r o p w) → passes moves p w ≡ false → Moves r o p w × Past p w
+  unfolding within
   no-past moves p w m e =
       let h = asked-false moves (within unit r ls orders S o p w) e in
-      (m (h .0), not-within p w (h .1))
+      (m (h .0), omega (signed, h .1))
 
   -- the tests of the four questions
   abbrev instrumentPasses : Way → Bool

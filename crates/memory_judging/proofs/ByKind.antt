@@ -5,7 +5,7 @@ use mathlib.Core.Bool.{Bool, true, false, not, cond}
 use mathlib.Core.List.{List}
 use mathlib.Core.Option.{none, some}
 use lib.Dec.{ltb}
-use lib.IntN.{ℤ, pos, negsuc, natAbs}
+use lib.IntN.{ℤ, pos, negℤ, natAbs}
 use Rattle.ledger.specs.declared.order.Order.{Order}
 use Rattle.ledger.specs.declared.order.Side.{Side}
 use Rattle.limits.specs.Questions.{firstNo}
@@ -16,7 +16,6 @@ use Rattle.book.specs.declared.Event.{Event}
 use Rattle.book.specs.declared.OrderChange.{OrderChange}
 use Rattle.book.specs.declared.OrderChange.the-variants.{Replace, Cancel, Fill}
 use Rattle.book.specs.declared.Event.the-variants.{Limit, Balance, Block, New, Change, Junk}
-use Rattle.book.specs.Market.{derivatives}
 use Rattle.book.specs.Decoding.{between}
 use Rattle.book.specs.OpenOrders.{find}
 use Rattle.book.specs.Books.{newOrder, changed, changedBalances, bookAfter}
@@ -25,7 +24,7 @@ use Rattle.book.specs.Table.{isEvent, accountKnown, isListed, itemKnown, betwee
 use Rattle.book.specs.Table.{isQuantity, figuresFit, notYetTrading, idOpen, quantityFits, whereSome, entered, idFree, placeFree}
 use Rattle.book.specs.Table.{questionsBefore, limitQuestions, answer}
 use Rattle.book.proofs.Cuts.{standing}
-use Rattle.memory_layout.specs.View.{rosterOf, openOrders, bookOf, tradingOf}
+use Rattle.memory_layout.specs.View.{marketOf, rosterOf, openOrders, bookOf, tradingOf}
 use Rattle.memory_layout.specs.Judged.{judged}
 use Rattle.memory_judging.specs.OrderQuestions.{admission, withinLimits}
 use Rattle.memory_judging.specs.QuestionsLeft.{newFrom18, newFrom13, raisedFrom14, replaceFrom12, changeFrom12}
@@ -34,11 +33,11 @@ module _ (m : List ℕ) where
   -- the first no of an event, but for a change of an open order, of which three lemmas below tell
   abbrev tested : Event → ℕ
   tested (Limit a l) =
-      cond (between 1 (rosterOf m .accounts) a) (cond (isListed (rosterOf m) (limitedItem l)) (cond (lineFits derivatives l) 0 9) 8) 7
+      cond (between 1 (rosterOf m .accounts) a) (cond (isListed (rosterOf m) (limitedItem l)) (cond (lineFits (marketOf m .largest) l) 0 9) 8) 7
   tested (Balance a i b) =
       cond (between 1 (rosterOf m .accounts) a)
       (cond (between 1 (rosterOf m .instruments) i)
-      (cond (betweenℤ (negsuc 999999999) (pos 1000000000) b) (cond (not (tradingOf m a)) 0 10) 9)
+      (cond (betweenℤ (negℤ (pos (marketOf m .largest))) (pos (marketOf m .largest)) b) (cond (not (tradingOf m a)) 0 10) 9)
       8)
       7
   tested (Block what on) =
@@ -54,7 +53,7 @@ module _ (m : List ℕ) where
 
   by-kind : (e : Event) → judged m e ≡ tested e
   unfolding judged answer questionsBefore limitQuestions isEvent accountKnown itemKnown figuresFit notYetTrading idOpen
-      quantityFits entered idFree placeFree firstNo bookOf derivatives bookAfter newOrder newFrom13 newFrom18 admission withinLimits
+      quantityFits entered idFree placeFree firstNo bookOf bookAfter newOrder newFrom13 newFrom18 admission withinLimits
       sizeQuestions
   by-kind (Limit a l) = refl
   by-kind (Balance a i b) = refl
@@ -64,13 +63,13 @@ module _ (m : List ℕ) where
   by-kind Junk = refl
 
   pub limit-answer : (a : ℕ) (l : LimitLine) (x y z : Bool)
-      → between 1 (rosterOf m .accounts) a ≡ x → isListed (rosterOf m) (limitedItem l) ≡ y → lineFits derivatives l ≡ z
+      → between 1 (rosterOf m .accounts) a ≡ x → isListed (rosterOf m) (limitedItem l) ≡ y → lineFits (marketOf m .largest) l ≡ z
       → judged m (Limit a l) ≡ cond x (cond y (cond z 0 9) 8) 7
   limit-answer a l x y z d e f = by-kind (Limit a l) ∙ rw (d, e, f)
 
   pub balance-answer : (a i : ℕ) (b : ℤ) (x y z t : Bool)
       → between 1 (rosterOf m .accounts) a ≡ x → between 1 (rosterOf m .instruments) i ≡ y
-      → betweenℤ (negsuc 999999999) (pos 1000000000) b ≡ z → tradingOf m a ≡ t
+      → betweenℤ (negℤ (pos (marketOf m .largest))) (pos (marketOf m .largest)) b ≡ z → tradingOf m a ≡ t
       → judged m (Balance a i b) ≡ cond x (cond y (cond z (cond (not t) 0 10) 9) 8) 7
   balance-answer a i b x y z t d e f g = by-kind (Balance a i b) ∙ rw (d, e, f, g)
 

@@ -3,6 +3,7 @@
 mod OrderAnswers
 mod Cells
 mod HandedOn
+mod Figures
 mod ByKind
 mod Places
 mod Verdicts

@@ -21,7 +21,7 @@ use Rattle.limits.specs.Numbers.{sizeQuestions}
 use Rattle.limits.specs.Bounds.{EventBounds, InForce, OfGroup}
 use Rattle.limits.proofs.Agreement.{same-in-force, same-questions}
 use Rattle.limits.proofs.Answers.{both-true, zero-pass, append-passed, append-refused}
-use Rattle.book.specs.Market.{derivatives}
+use Rattle.book.specs.Market.{marketOfKind}
 use Rattle.memory_layout.specs.View.{rosterPart, rosterOf, balancesPart, linesOf, balancesOf, openOrders}
 use Rattle.memory_layout.specs.Readable.{HoldsLine, HoldsGroupLine}
 use Rattle.memory_layout.proofs.RosterRead.{instruments-same, contract-same}
@@ -48,14 +48,14 @@ module _ (m : List ℕ) (after : List Order) (o : Order) where
   positions = firstNo (positionQuestions one (rosterOf m) (linesOf m (o .account)) after (balancesOf m (o .account)) o)
 
   pub size-fits : sizes ≡ 0 → firstNo (withinLimits m after o) ≡ positions
-  unfolding withinLimits derivatives sizeQuestions
+  unfolding withinLimits marketOfKind sizeQuestions
   size-fits e =
       append-passed (sizeQuestions one (rosterOf m) (linesOf m (o .account)) o)
       (positionQuestions one (rosterOf m) (linesOf m (o .account)) after (balancesOf m (o .account)) o)
       (zero-pass (sizeQuestions one (rosterOf m) (linesOf m (o .account)) o) (omega arith) e)
 
   pub size-refuses : sizes ≢ 0 → firstNo (withinLimits m after o) ≡ sizes
-  unfolding withinLimits derivatives
+  unfolding withinLimits marketOfKind
   size-refuses =
       append-refused (sizeQuestions one (rosterOf m) (linesOf m (o .account)) o)
       (positionQuestions one (rosterOf m) (linesOf m (o .account)) after (balancesOf m (o .account)) o)

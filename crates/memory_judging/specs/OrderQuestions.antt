@@ -8,9 +8,8 @@ use Rattle.ledger.specs.Roster.{Numbered, groupOfInstrument}
 use Rattle.limits.specs.Questions.{Question}
 use Rattle.limits.specs.Asked.{limitsSet, positionQuestions}
 use Rattle.limits.specs.Numbers.{sizeQuestions}
-use Rattle.book.specs.Market.{derivatives}
 use Rattle.book.specs.Table.{q}
-use Rattle.memory_layout.specs.View.{rosterOf, linesOf, blocksOf, balancesOf}
+use Rattle.memory_layout.specs.View.{marketOf, rosterOf, linesOf, blocksOf, balancesOf}
 use Rattle.memory_soundness.specs.SoundMemory.{SoundMemory}
 
 -- 14 to 17: account, instrument and group unblocked, limits set
@@ -25,8 +24,8 @@ admission m o =
 -- 19 to 24: the order's size, and the positions with the event applied, `after` being the open orders then
 unfoldable pub withinLimits : List ℕ → List Order → Order → List Question
 withinLimits m after o =
-    sizeQuestions (derivatives .unit) (rosterOf m) (linesOf m (o .account)) o
-    ++ positionQuestions (derivatives .unit) (rosterOf m) (linesOf m (o .account)) after (balancesOf m (o .account)) o
+    sizeQuestions (marketOf m .unit) (rosterOf m) (linesOf m (o .account)) o
+    ++ positionQuestions (marketOf m .unit) (rosterOf m) (linesOf m (o .account)) after (balancesOf m (o .account)) o
 
 -- an order of the roster, asked about at a sound desk
 pub record OnRoster (m : List ℕ) (o : Order) : Type 0 where

@@ -18,6 +18,12 @@ ghost use Rattle.memory_layout.specs.Readable.{HoldsLine};
 ghost use Rattle.memory_soundness.specs.Cells.{Sums};
 ghost use Rattle.memory_judging.specs.OrderQuestions.{admission, withinLimits, OnRoster, Sizable};
 ghost use Rattle.memory_judging.specs.OrderFields.{Under, cellsOf};
+use ledger::order::Order;
+use ledger::units::Contracts;
+use limits::answer::Answer;
+use limits::questions::limits_exist;
+use limits::questions::order_size;
+use limits::within::positions_within;
 use memory_layout::readers::account_is_blocked;
 use memory_layout::readers::balances;
 use memory_layout::readers::default_set;
@@ -30,12 +36,6 @@ use memory_layout::readers::own_set;
 use memory_layout::roster::contract_of;
 use memory_layout::roster::group_of;
 use memory_layout::roster::roster;
-use ledger::order::Order;
-use ledger::units::Contracts;
-use limits::answer::Answer;
-use limits::questions::limits_exist;
-use limits::questions::order_size;
-use limits::within::positions_within;
 
 // The contract and the group of an order's instrument, looked up once for an event.
 pub struct Underlying {

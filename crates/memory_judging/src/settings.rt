@@ -8,13 +8,15 @@ use crate::known::blocked_account_known;
 use crate::known::blocked_item_known;
 use crate::known::line_known;
 use crate::ranges::in_range;
+use crate::ranges::is_balance;
 use crate::ranges::limit_fits;
 use book::Blocked;
 use book::LimitLine;
+use limits::answer::Answer;
 use memory_layout::readers::is_trading;
+use memory_layout::readers::market;
 use memory_layout::roster::account_known;
 use memory_layout::roster::instrument_known;
-use limits::answer::Answer;
 
 // LIMIT: questions 7 to 9.
 pub fn judge_limit(m: &[u8], account: u64, line: LimitLine) -> Answer
@@ -27,7 +29,8 @@ pub fn judge_limit(m: &[u8], account: u64, line: LimitLine) -> Answer
     if !line_known(m, line) {
         return Answer::UnknownItem;
     }
-    if !limit_fits(line) {
+    let market = market(m);
+    if !limit_fits(market.largest, line) {
         return Answer::FigureOutOfRange;
     }
     Answer::Accepted
@@ -44,7 +47,8 @@ pub fn judge_balance(m: &[u8], account: u64, instrument: u64, balance: i64) -> A
     if !instrument_known(m, instrument) {
         return Answer::UnknownItem;
     }
-    if !in_range(-1000000000, 1000000000, balance) {
+    let market = market(m);
+    if !is_balance(market.largest, balance) {
         return Answer::FigureOutOfRange;
     }
     if is_trading(m, account as usize) {

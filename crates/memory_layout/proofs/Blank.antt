@@ -14,13 +14,13 @@ use Rattle.ledger.specs.Records.{ordersFrom}
 use Rattle.limits.specs.InBytes.{lineAt, groupLineAt}
 use Rattle.book.specs.Decoding.{between}
 use Rattle.book.specs.Books.{emptyBook}
-use Rattle.book.specs.Market.{derivatives}
 use Rattle.book.specs.States.{begun}
 use Rattle.book.proofs.Tables.{between-numbered}
 use Rattle.memory_layout.specs.Layout.{countWord, markWord, accountBlockWord, instrumentBlockWord, groupBlockRow, balanceRow}
 use Rattle.memory_layout.specs.Layout.{ownSetRow}
 use Rattle.memory_layout.specs.Layout.{defaultSetRow, groupSetRow, ownRow, defaultRow, groupRow}
-use Rattle.memory_layout.specs.View.{rosterOf, flag, onRoster, linesOf, balancesOf, blocksOf, openOrders, bookOf, tradingOf, view}
+use Rattle.memory_layout.specs.View.{rosterOf, flag, onRoster, linesOf, balancesOf, blocksOf, openOrders, bookOf, tradingOf}
+use Rattle.memory_layout.specs.View.{marketOf, view}
 use Rattle.memory_layout.proofs.RosterLaws.{Sized}
 use Rattle.memory_layout.proofs.GuardedTables.{on-each, same-lines, same-blocks, same-view}
 
@@ -79,6 +79,6 @@ module _ (m : List ℕ) (sized : Sized (rosterOf m)) (zero : (k : ℕ) → 112 �
   unfolding openOrders ordersFrom
   orders-blank = rw (zero countWord (omega arith) (omega arith))
 
-  pub view-blank : view m ≡ begun derivatives (rosterOf m)
+  pub view-blank : view m ≡ begun (marketOf m) (rosterOf m)
   unfolding bookOf emptyBook
-  view-blank = same-view refl balances-blank lines-blank blocks-blank orders-blank marks-blank
+  view-blank = same-view refl refl balances-blank lines-blank blocks-blank orders-blank marks-blank

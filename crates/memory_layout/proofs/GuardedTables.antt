@@ -12,7 +12,7 @@ use Rattle.limits.specs.Lines.{Line, GroupLine, Lines}
 use Rattle.limits.proofs.Answers.{both-true, and-true}
 use Rattle.book.specs.Decoding.{between}
 use Rattle.book.specs.Books.{Blocks, at}
-use Rattle.book.specs.Market.{derivatives}
+use Rattle.book.specs.Market.{Market}
 use Rattle.book.specs.States.{State}
 use Rattle.book.proofs.Tables.{between-numbered}
 use Rattle.memory_layout.specs.View.{onRoster}
@@ -27,19 +27,19 @@ pub same-blocks : (a a′ i i′ : ℕ → Bool) (g g′ : ℕ → ℕ → Bool)
     → _≡_ {A = Blocks} (record { account = a; instrument = i; group = g }) (record { account = a′; instrument = i′; group = g′ })
 same-blocks a a′ i i′ g g′ x y z = cc
 
--- a state of the derivatives market, from its fields
-abbrev pub stateOf : Roster → (ℕ → ℕ → ℤ) → (ℕ → Lines) → Blocks → List Order → (ℕ → Bool) → State
-stateOf r s l b o t =
+-- a state, from its fields
+abbrev pub stateOf : Market → Roster → (ℕ → ℕ → ℤ) → (ℕ → Lines) → Blocks → List Order → (ℕ → Bool) → State
+stateOf k r s l b o t =
     record {
-      market = derivatives;
+      market = k;
       roster = r;
       book = record { balanceOf = s; linesOf = l; blocks = b; orders = o };
       beside = record { trading = t };
     }
 
-pub same-view : {r r′ : Roster} {s s′ : ℕ → ℕ → ℤ} {l l′ : ℕ → Lines} {b b′ : Blocks} {o o′ : List Order} {t t′ : ℕ → Bool} → r ≡ r′
-    → s ≡ s′ → l ≡ l′ → b ≡ b′ → o ≡ o′ → t ≡ t′ → stateOf r s l b o t ≡ stateOf r′ s′ l′ b′ o′ t′
-same-view roster balances lines blocks orders marks = cc
+pub same-view : {k k′ : Market} {r r′ : Roster} {s s′ : ℕ → ℕ → ℤ} {l l′ : ℕ → Lines} {b b′ : Blocks} {o o′ : List Order} {t t′ : ℕ → Bool}
+    → k ≡ k′ → r ≡ r′ → s ≡ s′ → l ≡ l′ → b ≡ b′ → o ≡ o′ → t ≡ t′ → stateOf k r s l b o t ≡ stateOf k′ r′ s′ l′ b′ o′ t′
+same-view market roster balances lines blocks orders marks = cc
 
 -- ---- tables by account and number
 -- what is said where account and number are on the roster, and otherwise

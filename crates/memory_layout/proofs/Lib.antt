@@ -2,6 +2,7 @@
 pub mod RosterLaws
 pub mod Every
 pub mod RosterRead
+pub mod MarketRead
 pub mod GuardedTables
 pub mod FieldsRead
 pub mod Blank

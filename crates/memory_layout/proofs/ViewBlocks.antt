@@ -21,7 +21,7 @@ use Rattle.memory_layout.proofs.SameFields.{InBounds, groupBlockAt, blo
 use Rattle.memory_layout.proofs.SameFields.{balances-same, marks-same}
 use Rattle.memory_layout.proofs.SameFields.{account-blocks-same, instrument-blocks-same, group-blocks-same, blocks-are}
 use Rattle.memory_layout.proofs.StoreWords.{Except, except-put, except-same, flag-bit}
-use Rattle.memory_layout.proofs.ViewStores.{one-roster, one-lines, one-orders}
+use Rattle.memory_layout.proofs.ViewStores.{one-market, one-roster, one-lines, one-orders}
 
 -- ---- a memory that differs in one word of the blocks
 module _ (m : List ℕ) (held : InBounds m) (j v : ℕ) (from : 144 ≤ j) (below : j < 256) where
@@ -57,7 +57,7 @@ module _ (m : List ℕ) (held : InBounds m) (j v : ℕ) (from : 144 ≤ j) (belo
       → view put ≡ work (view m) (Block what z)
   unfolding bookOf bookAfter mark
   block-view what z accounts instruments groups blocks =
-      same-view block-roster
+      same-view (one-market put m held j others (omega arith) (omega arith)) block-roster
       (balances-same put m held block-roster (except-same put m j 256 768 others (λ low high. omega arith)))
       (one-lines put m held j others (omega arith) (omega arith))
       (blocks-are put m held block-roster ∙ same-blocks _ _ _ _ _ _ accounts instruments groups ∙ blocks)

@@ -32,7 +32,7 @@ record OneLine (l m : List ℕ) (a s k w : ℕ) : Type 0 where
   account : Numbered 16 a
 
 module _ (l m : List ℕ) (held : InBounds m) {a s k w : ℕ} (line : OneLine l m a s k w) where
-  before : Same 1 768 l m
+  before : Same 0 768 l m
   before j low high = line .elsewhere j (λ e. omega arith) (λ b c. omega arith)
 
   after : Same 4224 5248 l m

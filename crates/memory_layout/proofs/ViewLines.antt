@@ -12,23 +12,24 @@ use Rattle.book.specs.declared.Event.the-variants.{Limit}
 use Rattle.book.specs.Books.{at, setLine, bookAfter}
 use Rattle.book.specs.States.{mark, work}
 use Rattle.book.proofs.Tables.{at-here, at-elsewhere}
-use Rattle.memory_layout.specs.Layout.{countWord, firstWord}
+use Rattle.memory_layout.specs.Layout.{kindWord, countWord, firstWord}
 use Rattle.memory_layout.specs.View.{rosterOf, linesOf, bookOf, view}
 use Rattle.memory_layout.proofs.RosterLaws.{roster-same}
+use Rattle.memory_layout.proofs.MarketRead.{market-same}
 use Rattle.memory_layout.proofs.GuardedTables.{tableOf, same-lines, same-view}
 use Rattle.memory_layout.proofs.SameFields.{Same, InBounds, ownAt, defaultAt, ofGroupAt, linesBy}
 use Rattle.memory_layout.proofs.SameFields.{balances-same, blocks-same, marks-same, orders-same, lines-are}
 
 -- ---- a memory that differs in words of the lines only
-module _ (l m : List ℕ) (held : InBounds m) (before : Same 1 768 l m) (after : Same 4224 5248 l m) where
+module _ (l m : List ℕ) (held : InBounds m) (before : Same 0 768 l m) (after : Same 4224 5248 l m) where
   pub lines-roster : rosterOf l ≡ rosterOf m
-  lines-roster = roster-same l m (held .sized) (λ k low high. before k low (omega arith))
+  lines-roster = roster-same l m (held .sized) (λ k low high. before k (omega arith) (omega arith))
 
   pub lines-view : (a : ℕ) (line : LimitLine) → linesOf l ≡ at a (setLine line (linesOf m a)) (linesOf m)
       → view l ≡ work (view m) (Limit a line)
   unfolding bookOf bookAfter mark
   lines-view a line lines =
-      same-view lines-roster
+      same-view (market-same l m (before kindWord (omega arith) (omega arith))) lines-roster
       (balances-same l m held lines-roster (λ k low high. before k (omega arith) high))
       lines
       (blocks-same l m held lines-roster (λ k low high. before k (omega arith) (omega arith)))

@@ -15,10 +15,11 @@ use Rattle.ledger.specs.Orders.{placeFrom}
 use Rattle.ledger.specs.Records.{orderAt, ordersFrom}
 use Rattle.ledger.proofs.Search.{found-place}
 use Rattle.book.specs.OpenOrders.{find, change}
-use Rattle.memory_layout.specs.Layout.{countWord}
-use Rattle.memory_layout.specs.View.{balancesOf, linesOf, blocksOf, rosterOf, recordsOf, openOrders, bookOf, tradingOf, view}
+use Rattle.memory_layout.specs.Layout.{kindWord, countWord}
+use Rattle.memory_layout.specs.View.{marketOf, balancesOf, linesOf, blocksOf, rosterOf, recordsOf, openOrders, bookOf, tradingOf, view}
 use Rattle.memory_layout.specs.Stores.{orderIn, recordWord, storeFrom, SmallOrders, without}
 use Rattle.memory_layout.proofs.RosterLaws.{roster-same}
+use Rattle.memory_layout.proofs.MarketRead.{market-same}
 use Rattle.memory_layout.proofs.GuardedTables.{same-view, stateOf}
 use Rattle.memory_layout.proofs.SameFields.{Same, InBounds, balances-same, lines-same, blocks-same, marks-same}
 use Rattle.memory_layout.proofs.Stored.{length-store, word-store, count-store, first-store, orders-store}
@@ -43,11 +44,12 @@ module _ (m : List ℕ) (f : ℕ) (os : List Order) (held : InBounds m) (low : f
         first = omega (arith, first-store m f os low few (held .long));
       }
 
-  pub view-orders : SmallOrders os → view (storeFrom m f os) ≡ stateOf (rosterOf m) (balancesOf m) (linesOf m) (blocksOf m) os (tradingOf m)
+  pub view-orders : SmallOrders os → view (storeFrom m f os)
+      ≡ stateOf (marketOf m) (rosterOf m) (balancesOf m) (linesOf m) (blocksOf m) os (tradingOf m)
   unfolding bookOf
   view-orders small =
       let l : List ℕ = storeFrom m f os in
-      same-view roster-orders
+      same-view (market-same l m (elsewhere 0 1 (λ a b. omega arith) (omega arith) kindWord (omega arith) (omega arith))) roster-orders
       (balances-same l m held roster-orders (elsewhere 256 768 (λ a b. omega arith) (omega arith)))
       (lines-same l m held roster-orders (elsewhere 768 1472 (λ a b. omega arith) (omega arith))
       (elsewhere 1536 2880 (λ a b. omega arith) (omega arith)))

@@ -12,20 +12,23 @@ use Rattle.ledger.specs.Roster.{Numbered}
 use Rattle.book.specs.declared.Event.the-variants.{Balance}
 use Rattle.book.specs.Books.{at, bookAfter}
 use Rattle.book.specs.States.{mark, work}
-use Rattle.memory_layout.specs.Layout.{countWord, firstWord, markWord, balanceRow}
-use Rattle.memory_layout.specs.View.{rosterOf, flag, linesOf, balancesOf, blocksOf, openOrders, bookOf, tradingOf, view}
+use Rattle.memory_layout.specs.Layout.{kindWord, countWord, firstWord, markWord, balanceRow}
+use Rattle.memory_layout.specs.View.{marketOf, rosterOf, flag, linesOf, balancesOf, blocksOf, openOrders, bookOf, tradingOf, view}
 use Rattle.memory_layout.specs.FieldStores.{storeBalance, storeMark}
 use Rattle.memory_layout.proofs.RosterLaws.{roster-same}
+use Rattle.memory_layout.proofs.MarketRead.{market-same}
 use Rattle.memory_layout.proofs.GuardedTables.{tableOf, table-at, row-at, same-view, stateOf}
 use Rattle.memory_layout.proofs.SameFields.{InBounds, balanceAt, same-flag, balances-same, lines-same, blocks-same, marks-same}
-use Rattle.memory_layout.proofs.SameFields.{orders-same}
-use Rattle.memory_layout.proofs.SameFields.{marks-are}
+use Rattle.memory_layout.proofs.SameFields.{orders-same, marks-are}
 use Rattle.memory_layout.proofs.StoreWords.{Except, except-put, except-signed, except-same, flag-bit}
 
 -- ---- a memory that differs in one word, at 128 or later and before the lines
 module _ (l m : List ℕ) (held : InBounds m) (j : ℕ) (others : Except j l m) (from : 128 ≤ j) (below : j < 768) where
   pub one-roster : rosterOf l ≡ rosterOf m
   one-roster = roster-same l m (held .sized) (except-same l m j 1 77 others (λ low high. omega arith))
+
+  pub one-market : marketOf l ≡ marketOf m
+  one-market = market-same l m (others kindWord (λ e. omega arith))
 
   pub one-lines : linesOf l ≡ linesOf m
   one-lines =
@@ -64,7 +67,7 @@ module _ (m : List ℕ) (held : InBounds m) (a i : ℕ) (z : ℤ) (on-a : Number
       let j : ℕ = balanceRow a + i in
       let others : Except j balanced m = except-signed m j z in
       let in-place = balance-word in
-      same-view roster-balance balances-stored
+      same-view (one-market balanced m held j others (balance-word .0) (balance-word .2)) roster-balance balances-stored
       (one-lines balanced m held j others (balance-word .0) (balance-word .2))
       (blocks-same balanced m held roster-balance (except-same balanced m j 144 256 others (λ low high. omega arith)))
       (one-orders balanced m held j others (balance-word .0) (balance-word .2))
@@ -90,13 +93,14 @@ module _ (m : List ℕ) (held : InBounds m) (a : ℕ) (on-a : Numbered (rosterOf
       (flag-bit m (markWord a) true (omega (arith, held .long)))
       (λ b on-b other. same-flag marked m (markWord b) (except-put m (markWord a) 1 (markWord b) (λ e. other (omega arith))))
 
-  pub view-mark : view marked ≡ stateOf (rosterOf m) (balancesOf m) (linesOf m) (blocksOf m) (openOrders m) (at a true (tradingOf m))
+  pub view-mark : view marked ≡ stateOf (marketOf m) (rosterOf m) (balancesOf m) (linesOf m) (blocksOf m) (openOrders m)
+      (at a true (tradingOf m))
   unfolding bookOf
   view-mark =
       let j : ℕ = markWord a in
       let others : Except j marked m = except-put m j 1 in
       let in-place = mark-word in
-      same-view roster-mark
+      same-view (one-market marked m held j others (mark-word .0) (mark-word .1)) roster-mark
       (balances-same marked m held roster-mark (except-same marked m j 256 768 others (λ low high. omega arith)))
       (one-lines marked m held j others (mark-word .0) (mark-word .1))
       (blocks-same marked m held roster-mark (except-same marked m j 144 256 others (λ low high. omega arith)))

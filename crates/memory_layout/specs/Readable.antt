@@ -7,7 +7,8 @@ use mathlib.Core.Option.{Option, some}
 use lib.ListN.{length}
 use Rattle.limits.specs.Lines.{Line, GroupLine, isSet}
 use Rattle.limits.specs.InBytes.{lineAt, groupLineAt}
-use Rattle.memory_layout.specs.View.{rosterOf}
+use Rattle.book.specs.declared.market.Market.{Market}
+use Rattle.memory_layout.specs.View.{marketOf, rosterOf}
 
 -- long enough, with a roster whose sizes are within their limits
 pub record Readable (m : List ℕ) : Type 0 where
@@ -16,6 +17,10 @@ pub record Readable (m : List ℕ) : Type 0 where
   pub groups : rosterOf m .groups ≤ 4
   pub contracts : rosterOf m .contracts ≤ 8
   pub instruments : rosterOf m .instruments ≤ 32
+
+-- what is handed on by value is what the memory's market says
+abbrev pub MarketOf : List ℕ → Market → Type 0
+MarketOf m market = market .largest ≡ marketOf m .largest
 
 -- the bytes hold the line, where it is set
 pub record HoldsLine (bytes : List ℕ) (l : Option Line) : Type 0 where

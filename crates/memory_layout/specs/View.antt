@@ -1,4 +1,4 @@
--- What a memory means: the state that it holds, of the derivatives market.
+-- What a memory means: the state that it holds, its market by the kind of desk.
 use Prim.Native.Nat.{ℕ, _+_, _*_}
 use mathlib.Core.Bool.{Bool, false, not, _&&_, cond}
 use mathlib.Core.List.{List}
@@ -13,11 +13,16 @@ use Rattle.limits.specs.Lines.{Line, GroupLine, Lines}
 use Rattle.limits.specs.InBytes.{lineAt, groupLineAt}
 use Rattle.book.specs.Decoding.{between}
 use Rattle.book.specs.Books.{Blocks, Book}
-use Rattle.book.specs.Market.{derivatives}
+use Rattle.book.specs.Market.{Market, marketOfKind}
 use Rattle.book.specs.States.{State}
-use Rattle.memory_layout.specs.Layout.{rosterWord, countWord, firstWord, ordersWord, markWord, accountBlockWord, instrumentBlockWord}
+use Rattle.memory_layout.specs.Layout.{kindWord, rosterWord, countWord, firstWord, ordersWord, markWord, accountBlockWord}
+use Rattle.memory_layout.specs.Layout.{instrumentBlockWord}
 use Rattle.memory_layout.specs.Layout.{groupBlockRow, balanceRow, ownSetRow, defaultSetRow, groupSetRow, ownRow, defaultRow, groupRow}
 use Rattle.memory_layout.specs.Rosters.{listed}
+
+-- the market, by the kind word
+abbrev pub marketOf : List ℕ → Market
+marketOf m = marketOfKind (wordAt m kindWord)
 
 -- the part with the roster
 abbrev pub rosterPart : List ℕ → List ℕ
@@ -113,4 +118,4 @@ tradingOf m a = between 1 (rosterOf m .accounts) a && flag m (markWord a)
 
 -- the whole view
 abbrev pub view : List ℕ → State
-view m = record { market = derivatives; roster = rosterOf m; book = bookOf m; beside = record { trading = tradingOf m } }
+view m = record { market = marketOf m; roster = rosterOf m; book = bookOf m; beside = record { trading = tradingOf m } }

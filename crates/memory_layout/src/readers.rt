@@ -9,7 +9,7 @@ ghost use Rattle.memory_layout.specs.Layout.{kindWord, memoryBytes};
 ghost use Rattle.memory_layout.specs.Rosters.{longEnough};
 ghost use Rattle.memory_layout.specs.View.{rosterOf, flag, balancesPart, balancesOf, tradingOf, blocksOf, linesOf};
 ghost use Rattle.memory_layout.specs.View.{linesRow, ownLines, defaultLines, groupLines};
-ghost use Rattle.memory_layout.specs.Readable.{Readable, HoldsLine, HoldsGroupLine};
+ghost use Rattle.memory_layout.specs.Readable.{MarketOf, Readable, HoldsLine, HoldsGroupLine};
 ghost use Rattle.words.specs.Words.{wordAt};
 use crate::table::ACCOUNT_BLOCKS;
 use crate::table::BALANCES;
@@ -24,6 +24,8 @@ use crate::table::MARKS;
 use crate::table::MEMORY_BYTES;
 use crate::table::OWN_LINES;
 use crate::table::OWN_SET;
+use book::market::Market;
+use book::market::market_of_kind;
 use limits::lines;
 use words::part;
 use words::signed_word;
@@ -42,6 +44,14 @@ pub fn kind(m: &[u8]) -> u64
     ensures { λ r. ⌜ r ≡ wordAt (now (m .entry)) kindWord ⌝ }
 {
     word(m, KIND)
+}
+
+// The market, by the kind of desk.
+pub fn market(m: &[u8]) -> Market
+    requires { ⌜ memoryBytes ≤ length (now m) ⌝ }
+    ensures { λ r. ⌜ MarketOf (now (m .entry)) r ⌝ }
+{
+    market_of_kind(kind(m))
 }
 
 // The part with an account's balances, as `positions` reads it.

@@ -22,7 +22,8 @@ use Rattle.book.specs.States.{begun}
 use Rattle.book.proofs.Tables.{between-numbered}
 use Rattle.memory_layout.specs.Layout.{memoryWords, kindWord}
 use Rattle.memory_layout.specs.Rosters.{listed, every, longEnough}
-use Rattle.memory_layout.specs.View.{rosterOf, view}
+use Rattle.memory_layout.proofs.MarketRead.{market-derivatives}
+use Rattle.memory_layout.specs.View.{marketOf, rosterOf, view}
 use Rattle.memory_layout.proofs.RosterLaws.{Sized, by-test, roster-of-words}
 use Rattle.memory_layout.proofs.Blank.{view-blank}
 use Rattle.memory_layout.proofs.Every.{every-out}
@@ -118,10 +119,14 @@ module _ (m s : List ℕ) where
         let sizes = ok .sizes in
         rw roster-opened (record { accounts = omega arith; groups = omega arith; contracts = omega arith; instruments = omega arith })
 
+    -- the market of an opened memory is the derivatives market
+    pub market-opened : marketOf (opened m s) ≡ derivatives
+    market-opened = market-derivatives (opened m s) kind-opened
+
     pub view-opened : view (opened m s) ≡ begun derivatives (rosterFrom s)
     view-opened =
         view-blank (opened m s) sized-opened (λ k low high. blank-opened k (omega arith) (omega arith))
-        ∙ ap (begun derivatives) roster-opened
+        ∙ rw (market-opened, roster-opened)
 
     pub length-opened : length (opened m s) ≡ length m
     unfolding opened

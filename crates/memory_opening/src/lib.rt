@@ -11,9 +11,9 @@ use crate::questions::names_fit;
 use crate::questions::weights_fit;
 use crate::writing::clear;
 use crate::writing::put_roster;
+use limits::answer::Answer;
 use memory_layout::table::KIND;
 use memory_layout::table::MEMORY_BYTES;
-use limits::answer::Answer;
 use words::set_word;
 
 // Opens a desk in `m` from the roster's bytes. A refusal leaves `m` as it was.

@@ -21,7 +21,7 @@ use Rattle.limits.specs.declared.answer.Answer.the-variants.{Accepted}
 use Rattle.limits.specs.Answers.{numberOf}
 use Rattle.book.specs.Decoding.{between}
 use Rattle.limits.proofs.Refused.{Refusal, not-zero}
-use Rattle.book.specs.Market.{derivatives}
+use Rattle.book.specs.Market.{marketOfKind}
 use Rattle.book.proofs.Tables.{between-numbered}
 use Rattle.memory_layout.specs.Layout.{countWord}
 use Rattle.memory_layout.specs.View.{rosterPart, rosterOf, balancesPart, recordsOf, openOrders}
@@ -92,7 +92,7 @@ module _ (m : List ℕ) (a : ℕ) (read : Read m a) where
   pub instrument-told : (i : ℕ) → Numbered (rosterOf m .instruments) i → (p : InstrumentPosition)
       → InInstrument (recordsOf m) (wordAt m countWord) (balancesPart m a) a i p
       → p .balance .0 ∷ p .long .0 ∷ p .short .0 ∷ [] ≡ instrumentReport m a i
-  unfolding instrumentReport positionIn openOrders derivatives potential
+  unfolding instrumentReport positionIn openOrders marketOfKind potential
   instrument-told i on p told =
       let os = ordersFrom (recordsOf m) 0 (wordAt m countWord) in
       rw (
@@ -107,7 +107,7 @@ module _ (m : List ℕ) (a : ℕ) (read : Read m a) where
   pub group-told : (g : ℕ) (p : GroupPosition)
       → InGroup (recordsOf m) (wordAt m countWord) (balancesPart m a) (rosterPart m) a g p
       → p .long .0 ∷ p .short .0 ∷ [] ≡ groupReport m a g
-  unfolding groupReport positionIn openOrders derivatives
+  unfolding groupReport positionIn openOrders marketOfKind
   group-told g p told =
       let os = ordersFrom (recordsOf m) 0 (wordAt m countWord) in
       rw (

@@ -8,9 +8,8 @@ use Rattle.ledger.specs.Positions.{Scope, Way, long, short, instrument, group, 
 use Rattle.ledger.specs.Roster.{Numbered}
 use Rattle.limits.specs.Questions.{Question, firstNo}
 use Rattle.book.specs.Decoding.{between}
-use Rattle.book.specs.Market.{derivatives}
 use Rattle.book.specs.Table.{q}
-use Rattle.memory_layout.specs.View.{rosterOf, balancesOf, openOrders}
+use Rattle.memory_layout.specs.View.{marketOf, rosterOf, balancesOf, openOrders}
 use Rattle.memory_soundness.specs.Soundness.{soundDesk}
 use Rattle.memory_soundness.specs.SoundMemory.{SoundMemory}
 use Rattle.memory_reading.specs.declared.Item.{Item}
@@ -42,7 +41,7 @@ itemAnswer m a item = firstNo (readingQuestions m (itemsOf m item) a (numberIn i
 
 -- the potential position that the desk's open orders and balances give
 unfoldable pub positionIn : List ℕ → ℕ → Scope → Way → ℤ
-positionIn m a p w = potential (derivatives .unit) (rosterOf m) (openOrders m) a (balancesOf m a) p w
+positionIn m a p w = potential (marketOf m .unit) (rosterOf m) (openOrders m) a (balancesOf m a) p w
 
 -- S, PCI, PVI
 unfoldable pub instrumentReport : List ℕ → ℕ → ℕ → List ℤ

@@ -8,6 +8,9 @@ ghost use Rattle.memory_layout.specs.View.{rosterOf};
 ghost use Rattle.book.specs.Decoding.{between};
 ghost use Rattle.memory_reading.specs.Reading.{itemsOf, numberIn, itemAnswer};
 ghost use Rattle.memory_reading.specs.Reading.{Read, instrumentAnswer, groupAnswer, instrumentReport, groupReport, reported};
+use ledger::units::Contracts;
+use ledger::units::Weighted;
+use limits::answer::Answer;
 use memory_layout::orders::count;
 use memory_layout::orders::records;
 use memory_layout::readers::balances;
@@ -16,12 +19,9 @@ use memory_layout::roster::between;
 use memory_layout::roster::groups;
 use memory_layout::roster::instruments;
 use memory_layout::roster::roster;
-use ledger::units::Contracts;
-use ledger::units::Weighted;
-use limits::answer::Answer;
+use memory_soundness::is_sound;
 use order_list::listed_position;
 use positions::group_position;
-use memory_soundness::is_sound;
 
 // What positions are read of.
 pub enum Item {

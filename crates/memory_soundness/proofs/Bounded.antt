@@ -18,9 +18,9 @@ use Rattle.positions.specs.Bounds.{InstrumentBounds, GatherBounds, BalanceBound
 use Rattle.ledger.specs.Derivatives.{one}
 use Rattle.positions.proofs.Counting.{small-orders}
 use Rattle.ledger.proofs.Sums.{open-nonneg}
-use Rattle.book.specs.Market.{derivatives}
+use Rattle.memory_layout.proofs.MarketRead.{market-most}
 use Rattle.memory_layout.specs.Layout.{countWord}
-use Rattle.memory_layout.specs.View.{rosterPart, rosterOf, balancesPart, balancesOf, recordsOf, openOrders, bookOf, tradingOf}
+use Rattle.memory_layout.specs.View.{marketOf, rosterPart, rosterOf, balancesPart, balancesOf, recordsOf, openOrders, bookOf, tradingOf}
 use Rattle.memory_layout.specs.Readable.{Readable}
 use Rattle.memory_layout.proofs.OrderRecords.{records-long}
 use Rattle.memory_layout.proofs.RosterRead.{roster-long, instruments-same, contract-same, weight-same}
@@ -87,14 +87,15 @@ module _ (m : List ℕ) (h : SoundMemory m) where
 
   -- ---- the balances
   pub balance-small : (a i : ℕ) → natAbs (balancesOf m a i) ≤ 1000000000
-  unfolding bookOf derivatives ofInstrument
+  unfolding bookOf ofInstrument
   balance-small a i =
-      let unit = derivatives .unit in
+      let unit = marketOf m .unit in
       let z = balancesOf m a i in
       let bought = openOn unit (openOrders m) Buy a i in
       let sold = openOn unit (openOrders m) Sell a i in
       omega (
         signed,
+        market-most m,
         h .book .bounded a i long,
         h .book .bounded a i short,
         open-nonneg unit Buy a i (openOrders m),

@@ -12,17 +12,16 @@ use Rattle.ledger.specs.Positions.{Way, long, short, toward, sideTo, ofInstrume
 use Rattle.ledger.proofs.Sums.{open-nowhere}
 use Rattle.limits.proofs.Answers.{both-true, and-true}
 use Rattle.book.specs.Decoding.{between}
-use Rattle.book.specs.Market.{derivatives}
 use Rattle.book.specs.Sound.{OrderFits}
 use Rattle.book.proofs.Tables.{between-numbered}
-use Rattle.memory_layout.specs.View.{rosterOf, balancesOf, openOrders}
+use Rattle.memory_layout.specs.View.{marketOf, rosterOf, balancesOf, openOrders}
 use Rattle.memory_soundness.specs.Soundness.{positionSound, instrumentSound, accountSound, positionsSound}
 use Rattle.memory_layout.proofs.RosterLaws.{numbered-between}
 use Rattle.memory_layout.proofs.Every.{every-out, every-in}
 
 -- the position of account a and instrument i on a side
 abbrev pub positionOf : List ℕ → ℕ → ℕ → Way → ℤ
-positionOf m a i w = ofInstrument (derivatives .unit) (openOrders m) a (balancesOf m a) i w
+positionOf m a i w = ofInstrument (marketOf m .unit) (openOrders m) a (balancesOf m a) i w
 
 toward-zero : (w : Way) → toward w (pos 0) ≡ pos 0
 toward-zero long = refl
@@ -30,14 +29,14 @@ toward-zero short = refl
 
 module _ (m : List ℕ) where
   on-roster : positionsSound m ≡ true → (a i : ℕ) → Numbered (rosterOf m .accounts) a → Numbered (rosterOf m .instruments) i → (w : Way)
-      → positionOf m a i w ≤ℤ pos 1000000000
+      → positionOf m a i w ≤ℤ pos (marketOf m .largest)
   unfolding positionsSound accountSound instrumentSound positionSound
   on-roster e a i h l w =
       by w
       (both-true (positionSound m a i long) (positionSound m a i short)
       (every-out (instrumentSound m a) (rosterOf m .instruments) (every-out (accountSound m) (rosterOf m .accounts) e a h) i l))
     where
-      by : (w : Way) → (positionSound m a i long ≡ true) × (positionSound m a i short ≡ true) → positionOf m a i w ≤ℤ pos 1000000000
+      by : (w : Way) → (positionSound m a i long ≡ true) × (positionSound m a i short ≡ true) → positionOf m a i w ≤ℤ pos (marketOf m .largest)
       by long both = let h = both .0 in omega signed
       by short both = let h = both .1 in omega signed
 
@@ -49,7 +48,7 @@ module _ (m : List ℕ) where
       rw (
         e,
         toward-zero w,
-        open-nowhere (derivatives .unit) (sideTo w) a i (openOrders m)
+        open-nowhere (marketOf m .unit) (sideTo w) a i (openOrders m)
             (λ o k s. true≢false (sym (rw (s .1, s .2) at (here o (fits o k))) ∙ e)),
       )
     where
@@ -61,18 +60,18 @@ module _ (m : List ℕ) where
           (numbered-between (rosterOf m .instruments) (o .instrument) (f .instrument))
 
   pub positions-out : positionsSound m ≡ true → ((o : Order) → List·Memᴰ o (openOrders m) → OrderFits (rosterOf m) o) → (a i : ℕ) (w : Way)
-      → positionOf m a i w ≤ℤ pos 1000000000
+      → positionOf m a i w ≤ℤ pos (marketOf m .largest)
   positions-out e fits a i w =
       by (between 1 (rosterOf m .accounts) a && between 1 (rosterOf m .instruments) i) refl
     where
       by : (t : Bool) → (between 1 (rosterOf m .accounts) a && between 1 (rosterOf m .instruments) i) ≡ t
-          → positionOf m a i w ≤ℤ pos 1000000000
+          → positionOf m a i w ≤ℤ pos (marketOf m .largest)
       by true d =
           let both = both-true (between 1 (rosterOf m .accounts) a) (between 1 (rosterOf m .instruments) i) d in
           on-roster e a i (between-numbered (rosterOf m .accounts) a (both .0)) (between-numbered (rosterOf m .instruments) i (both .1)) w
       by false d = rw (off-roster fits a i d w) (omega signed)
 
-  pub positions-in : ((a i : ℕ) (w : Way) → positionOf m a i w ≤ℤ pos 1000000000) → positionsSound m ≡ true
+  pub positions-in : ((a i : ℕ) (w : Way) → positionOf m a i w ≤ℤ pos (marketOf m .largest)) → positionsSound m ≡ true
   unfolding positionsSound accountSound instrumentSound positionSound
   positions-in h =
       every-in (accountSound m) (rosterOf m .accounts)

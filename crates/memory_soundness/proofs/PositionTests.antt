@@ -12,45 +12,39 @@ use Rattle.ledger.specs.declared.order.Side.{Side}
 use Rattle.ledger.specs.declared.order.Side.the-variants.{Buy, Sell}
 use Rattle.ledger.specs.Roster.{Numbered}
 use Rattle.ledger.specs.Positions.{Way, long, short, toward, sideTo, ofInstrument}
-use Rattle.ledger.specs.Records.{balancesIn}
 use Rattle.ledger.specs.Derivatives.{one}
 use Rattle.positions.specs.Gathered.{cell}
 use Rattle.limits.proofs.Answers.{and-true}
-use Rattle.book.specs.Market.{derivatives}
+use Rattle.memory_layout.proofs.MarketRead.{market-unit}
 use Rattle.memory_layout.specs.Rosters.{every}
-use Rattle.memory_layout.specs.View.{rosterOf, balancesPart, balancesOf, openOrders}
+use Rattle.memory_layout.specs.View.{marketOf, rosterOf, balancesOf, openOrders}
 use Rattle.memory_soundness.specs.Soundness.{positionSound, instrumentSound}
 use Rattle.memory_layout.specs.Readable.{Readable}
 use Rattle.memory_layout.proofs.FieldsRead.{balance-in}
-use Rattle.memory_soundness.specs.Cells.{row, SmallSums}
+use Rattle.memory_soundness.specs.Cells.{row, SmallBalances, SmallSums}
 use Rattle.memory_soundness.proofs.Asked.{same-test}
 use Rattle.memory_layout.proofs.Every.{every-in}
 
 -- ---- positions
--- one contract counts for 1
-pub unit-one : derivatives .unit ≡ one
-unfolding derivatives one
-unit-one = refl
-
 -- the two tests of the code, beside any s
-long-same : (s : ℤ) (b : ℕ) → leZ s (pos 1000000000 -ℤ pos b) ≡ leZ (s +ℤ pos b) (pos 1000000000)
-long-same s b =
-    let parts = difference-parts (pos 1000000000) (pos b) in
-    same-test (leZ s (pos 1000000000 -ℤ pos b)) (leZ (s +ℤ pos b) (pos 1000000000))
+long-same : (largest : ℕ) (s : ℤ) (b : ℕ) → leZ s (pos largest -ℤ pos b) ≡ leZ (s +ℤ pos b) (pos largest)
+long-same largest s b =
+    let parts = difference-parts (pos largest) (pos b) in
+    same-test (leZ s (pos largest -ℤ pos b)) (leZ (s +ℤ pos b) (pos largest))
     (λ e. omega (signed, parts, sum-parts s (pos b)))
     (λ e. omega (signed, parts, sum-parts s (pos b)))
 
-short-same : (s : ℤ) (v : ℕ) → leZ (pos v -ℤ pos 1000000000) s ≡ leZ (negℤ s +ℤ pos v) (pos 1000000000)
-short-same s v =
-    let parts = difference-parts (pos v) (pos 1000000000) in
-    same-test (leZ (pos v -ℤ pos 1000000000) s) (leZ (negℤ s +ℤ pos v) (pos 1000000000))
+short-same : (largest : ℕ) (s : ℤ) (v : ℕ) → leZ (pos v -ℤ pos largest) s ≡ leZ (negℤ s +ℤ pos v) (pos largest)
+short-same largest s v =
+    let parts = difference-parts (pos v) (pos largest) in
+    same-test (leZ (pos v -ℤ pos largest) s) (leZ (negℤ s +ℤ pos v) (pos largest))
     (λ e. omega (signed, parts, sum-parts (negℤ s) (pos v), negation-parts s))
     (λ e. omega (signed, parts, sum-parts (negℤ s) (pos v), negation-parts s))
 
 -- beside any s of size 536,870,912 or less
-small-within : (w : Way) (s : ℤ) (x : ℕ) → natAbs s ≤ 536870912 → x ≤ 256000000 → leZ (toward w s +ℤ pos x) (pos 1000000000) ≡ true
-small-within long s x h l = omega (signed, magnitude-parts s, sum-parts s (pos x))
-small-within short s x h l = omega (signed, magnitude-parts s, negation-parts s, sum-parts (negℤ s) (pos x))
+small-within : (largest : ℕ) (w : Way) (s : ℤ) (x : ℕ) → 1000000000 ≤ largest → natAbs s ≤ 536870912 → x ≤ 256000000 → leZ (toward w s +ℤ pos x) (pos largest) ≡ true
+small-within largest long s x wide h l = omega (signed, magnitude-parts s, sum-parts s (pos x))
+small-within largest short s x wide h l = omega (signed, magnitude-parts s, negation-parts s, sum-parts (negℤ s) (pos x))
 
 module _ (m cells : List ℕ) (a i : ℕ) (readable : Readable m) (gathered : SmallSums cells (openOrders m))
     (h : Numbered (rosterOf m .accounts) a) (l : Numbered (rosterOf m .instruments) i) where
@@ -58,11 +52,11 @@ module _ (m cells : List ℕ) (a i : ℕ) (readable : Readable m) (gathered : Sm
   cell-small s = gathered .small s a i (h .0, omega (arith, readable .accounts)) (l .0, omega (arith, readable .instruments))
 
   position-cell : (w : Way) → positionSound m a i w ≡ leZ
-      (toward w (balancesOf m a i) +ℤ pos (getD cells (row a + cell (sideTo w) i) 0)) (pos 1000000000)
+      (toward w (balancesOf m a i) +ℤ pos (getD cells (row a + cell (sideTo w) i) 0)) (pos (marketOf m .largest))
   unfolding positionSound ofInstrument
   position-cell w =
       rw (
-        unit-one,
+        market-unit m,
         gathered .sums .accounts a (h .0, omega (arith, readable .accounts)) .sums (sideTo w) i
             (l .0, omega (arith, readable .instruments)),
       )
@@ -70,28 +64,27 @@ module _ (m cells : List ℕ) (a i : ℕ) (readable : Readable m) (gathered : Sm
   -- s is the balance, b and v what the two cells hold
   pub instrument-tested : (s b v : ℤ) → s ≡ balancesOf m a i → b ≡ pos (getD cells (row a + cell Buy i) 0) →
       v ≡ pos (getD cells (row a + cell Sell i) 0) →
-      (leZ s (pos 1000000000 +ℤ negℤ b) && leZ (v +ℤ negℤ (pos 1000000000)) s) ≡ instrumentSound m a i
+      (leZ s (pos (marketOf m .largest) +ℤ negℤ b) && leZ (v +ℤ negℤ (pos (marketOf m .largest))) s) ≡ instrumentSound m a i
   unfolding instrumentSound
   instrument-tested s b v read buys sells =
       let x = getD cells (row a + cell Buy i) 0 in
       let y = getD cells (row a + cell Sell i) 0 in
-      rw (position-cell long, position-cell short, ← read, buys, sells, ← long-same s x, ← short-same s y)
+      rw (position-cell long, position-cell short, ← read, buys, sells, ← long-same (marketOf m .largest) s x, ← short-same (marketOf m .largest) s y)
 
   -- where it is small, whatever the cells hold
-  pub place-small : natAbs (balancesOf m a i) ≤ 536870912 → instrumentSound m a i ≡ true
+  pub place-small : 1000000000 ≤ marketOf m .largest → natAbs (balancesOf m a i) ≤ 536870912 → instrumentSound m a i ≡ true
   unfolding instrumentSound
-  place-small small =
+  place-small wide small =
       let s = balancesOf m a i in
-      let within : (w : Way) → leZ (toward w s +ℤ pos (getD cells (row a + cell (sideTo w) i) 0)) (pos 1000000000) ≡ true =
-      λ w. small-within w s (getD cells (row a + cell (sideTo w) i) 0) small (cell-small (sideTo w)) in
+      let within : (w : Way) → leZ (toward w s +ℤ pos (getD cells (row a + cell (sideTo w) i) 0)) (pos (marketOf m .largest)) ≡ true =
+      λ w. small-within (marketOf m .largest) w s (getD cells (row a + cell (sideTo w) i) 0) wide small (cell-small (sideTo w)) in
       and-true (positionSound m a i long) (positionSound m a i short) (position-cell long ∙ within long)
       (position-cell short ∙ within short)
 
 -- ---- the row of account a, all of it small
 pub row-small : (m cells : List ℕ) (a : ℕ) → Readable m → SmallSums cells (openOrders m) → Numbered (rosterOf m .accounts) a
-    → ((p : ℕ) → 1 ≤ p → p < 1 + 32 → natAbs (balancesIn (balancesPart m a) p) ≤ 536870912)
-    → true ≡ every (rosterOf m .instruments) (instrumentSound m a)
+    → SmallBalances m (marketOf m .largest) a → true ≡ every (rosterOf m .instruments) (instrumentSound m a)
 row-small m cells a readable gathered h small =
     sym (every-in (instrumentSound m a) (rosterOf m .instruments)
-    (λ i l. place-small m cells a i readable gathered h l
-    (rw (balance-in m a h readable i l) at (small i (omega arith) (omega (arith, readable .instruments))))))
+    (λ i l. place-small m cells a i readable gathered h l (small .wide)
+    (rw (balance-in m a h readable i l) at (small .small i (omega arith) (omega (arith, readable .instruments))))))

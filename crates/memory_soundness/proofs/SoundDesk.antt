@@ -7,7 +7,6 @@ use native.Mathlib.Omega.{arith}
 use Rattle.words.specs.Words.{wordAt}
 use Rattle.ledger.specs.declared.order.Order.{Order}
 use Rattle.ledger.specs.Records.{orderAt}
-use Rattle.book.specs.Market.{derivatives}
 use Rattle.book.specs.Sound.{OrderFits, Sound}
 use Rattle.memory_layout.specs.Layout.{countWord}
 use Rattle.memory_layout.specs.View.{rosterOf, recordsOf, openOrders, bookOf, tradingOf, view}
@@ -47,7 +46,7 @@ module _ (m : List ℕ) (c : Conditions m) where
       (λ q a b. fit q (omega arith) .marked)
 
   shown : Sound (view m)
-  unfolding bookOf derivatives
+  unfolding bookOf
   shown =
       record {
         roster = roster-out m (c .roster);
@@ -99,7 +98,7 @@ module _ (m : List ℕ) (h : SoundMemory m) where
   sound-records = record { long = h .long; count = sound-count; first = h .first }
 
   pub sound-in : soundDesk m ≡ true
-  unfolding bookOf derivatives
+  unfolding bookOf
   sound-in =
       each-in m
       (record {

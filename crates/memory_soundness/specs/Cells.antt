@@ -1,12 +1,15 @@
--- What remains of all open orders, gathered into 1,089 cells, a row of 64 for each account.
-use Prim.Native.Nat.{ℕ, _+_, _*_, _%_, _^_, _≤_}
+-- What remains of all open orders, gathered into 1,089 cells, a row of 64 for each account; and balances that need none of it.
+use Prim.Native.Nat.{ℕ, _+_, _*_, _%_, _^_, _≤_, _<_}
 use mathlib.Core.Path.{_≡_}
 use mathlib.Core.List.{List}
+use lib.IntN.{natAbs}
 use lib.ListN.{length, getD}
 use Rattle.ledger.specs.declared.order.Order.{Order}
 use Rattle.ledger.specs.declared.order.Side.{Side}
+use Rattle.ledger.specs.Records.{balancesIn}
 use Rattle.ledger.specs.Roster.{Numbered}
 use Rattle.positions.specs.Gathered.{cell, Gathered}
+use Rattle.memory_layout.specs.View.{balancesPart}
 
 -- a word with 536,870,912 added, as a word
 abbrev pub offsetWord : ℕ → ℕ
@@ -30,3 +33,8 @@ pub record Sums (cells : List ℕ) (orders : List Order) : Type 0 where
 pub record SmallSums (cells : List ℕ) (orders : List Order) : Type 0 where
   pub sums : Sums cells orders
   pub small : (s : Side) (a i : ℕ) → Numbered 16 a → Numbered 32 i → getD cells (row a + cell s i) 0 ≤ 256000000
+
+-- the balances of account a are at most 536,870,912 either way, on the roster or not, and figures run to 1,000,000,000 or more
+pub record SmallBalances (m : List ℕ) (largest a : ℕ) : Type 0 where
+  pub wide : 1000000000 ≤ largest
+  pub small : (i : ℕ) → 1 ≤ i → i < 33 → natAbs (balancesIn (balancesPart m a) i) ≤ 536870912

@@ -22,30 +22,30 @@ use Rattle.ledger.specs.Roster.{Roster}
 use Rattle.ledger.specs.Positions.{Way, long, short, ofInstrument}
 use Rattle.limits.specs.Lines.{Line, GroupLine}
 use Rattle.book.specs.Decoding.{between}
-use Rattle.book.specs.Market.{derivatives}
 use Rattle.memory_layout.specs.Layout.{kindWord, countWord}
 use Rattle.memory_layout.specs.Rosters.{every, sizesFit, namesFit, weightsFit, longEnough}
 use Rattle.memory_layout.specs.View.{rosterOf, ownFigures, defaultFigures, groupFigures, balancesOf, firstOf, recordsOf, openOrders}
-use Rattle.memory_layout.specs.View.{tradingOf}
+use Rattle.memory_layout.specs.View.{marketOf, tradingOf}
 
 -- ---- "its roster would be accepted"
 unfoldable pub rosterSound : List ℕ → Bool
 rosterSound m = sizesFit (rosterOf m) && namesFit (rosterOf m) && weightsFit (rosterOf m)
 
 -- ---- "its lines [..] are in range"
--- every figure of a line is from 0 to 1,000,000,000, whether the line is set or not
-unfoldable pub lineInRange : Line → Bool
-lineInRange l = leb (l .tci) 1000000000 && leb (l .tvi) 1000000000 && leb (l .lci) 1000000000 && leb (l .lvi) 1000000000
+-- every figure of a line is from 0 to the market's largest, whether the line is set or not
+unfoldable pub lineInRange : ℕ → Line → Bool
+lineInRange largest l = leb (l .tci) largest && leb (l .tvi) largest && leb (l .lci) largest && leb (l .lvi) largest
 
-unfoldable pub groupLineInRange : GroupLine → Bool
-groupLineInRange l = leb (l .lcc) 1000000000 && leb (l .lvc) 1000000000
+unfoldable pub groupLineInRange : ℕ → GroupLine → Bool
+groupLineInRange largest l = leb (l .lcc) largest && leb (l .lvc) largest
 
 -- the lines of account a
 unfoldable pub accountLinesSound : List ℕ → ℕ → Bool
 accountLinesSound m a =
-    every (rosterOf m .instruments) (λ i. lineInRange (ownFigures m a i))
-    && every (rosterOf m .contracts) (λ c. lineInRange (defaultFigures m a c))
-    && every (rosterOf m .groups) (λ g. groupLineInRange (groupFigures m a g))
+    let largest = marketOf m .largest in
+    every (rosterOf m .instruments) (λ i. lineInRange largest (ownFigures m a i))
+    && every (rosterOf m .contracts) (λ c. lineInRange largest (defaultFigures m a c))
+    && every (rosterOf m .groups) (λ g. groupLineInRange largest (groupFigures m a g))
 
 unfoldable pub linesSound : List ℕ → Bool
 linesSound m = every (rosterOf m .accounts) (accountLinesSound m)
@@ -87,11 +87,11 @@ ascend least (o ∷ os) = ltb least (o .id) && ascend (o .id) os
 abbrev pub idsSound : List ℕ → Bool
 idsSound m = ascend 0 (openOrders m)
 
--- ---- "S + B and −S + V are at most 1,000,000,000"
+-- ---- "S + B and −S + V are at most 1,000,000,000", the market's largest figure
 -- S + B for long, −S + V for short; B and V are what the open orders say
 unfoldable pub positionSound : List ℕ → ℕ → ℕ → Way → Bool
 positionSound m a i w =
-    leZ (ofInstrument (derivatives .unit) (openOrders m) a (balancesOf m a) i w) (pos 1000000000)
+    leZ (ofInstrument (marketOf m .unit) (openOrders m) a (balancesOf m a) i w) (pos (marketOf m .largest))
 
 -- both of account a and instrument i
 unfoldable pub instrumentSound : List ℕ → ℕ → ℕ → Bool

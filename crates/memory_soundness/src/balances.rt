@@ -3,51 +3,68 @@ ghost use mathlib.Core.Path.{_≡_};
 ghost use mathlib.Core.Bool.{true, _&&_};
 ghost use Rattle.ledger.specs.Roster.{Numbered};
 ghost use Rattle.memory_layout.specs.View.{rosterOf, openOrders};
-ghost use Rattle.memory_layout.specs.Readable.{Readable};
+ghost use Rattle.memory_layout.specs.Readable.{MarketOf, Readable};
 ghost use Rattle.memory_layout.specs.Stores.{Records};
 ghost use Rattle.memory_soundness.specs.Soundness.{ascend, ordersSound, instrumentSound, accountSound, positionsSound};
-ghost use Rattle.memory_soundness.specs.Cells.{Empty, SmallSums};
+ghost use Rattle.memory_soundness.specs.Cells.{Empty, SmallBalances, SmallSums};
 use crate::bits::all_small;
 use crate::orders::orders_are_sound;
+use book::market::Market;
+use ledger::units::Contracts;
 use memory_layout::readers::balance;
 use memory_layout::readers::balances;
 use memory_layout::roster::accounts;
 use memory_layout::roster::instruments;
-use ledger::units::Contracts;
 
 // Of account `a` and instrument `i`. No sum with the balance, which may be any word, is computed.
-fn instrument_is_sound(m: &[u8], cells: &[u64; 1089], a: usize, i: usize) -> bool
+fn instrument_is_sound(m: &[u8], market: Market, cells: &[u64; 1089], a: usize, i: usize) -> bool
     requires { ⌜
         Readable (now m)
         × SmallSums (now cells) (openOrders (now m))
         × Numbered (rosterOf (now m) .accounts) a
         × Numbered (rosterOf (now m) .instruments) i
+        × MarketOf (now m) market
         ⌝ }
     ensures { λ r. ⌜ r ≡ instrumentSound (now (m .entry)) a i ⌝ }
 {
     let s = Contracts(balance(m, a, i));
     let b = Contracts::of(cells[a * 64 + i]);
     let v = Contracts::of(cells[a * 64 + (32 + i)]);
-    let most = Contracts(1000000000);
+    let most = Contracts::of(market.largest);
     if !s.at_most(most.less(b)) {
         return false;
     }
     v.less(most).at_most(s)
 }
 
-// Of account `a` and each instrument: all balances at once, and where that does not tell, one by one. A balance of at most 536,870,912
-// either way is sound, whatever the orders: B and V are at most 256,000,000. The whole row is looked at, on the roster or not: the
-// compiler then knows its length.
-fn account_is_sound(m: &[u8], cells: &[u64; 1089], a: usize) -> bool
-    requires { ⌜ Readable (now m) × SmallSums (now cells) (openOrders (now m)) × Numbered (rosterOf (now m) .accounts) a ⌝ }
+// Do all balances of account `a` lie so far within the market's largest figure that no order can bring a position past it? B and V are at
+// most 256,000,000. The whole row is looked at, on the roster or not: the compiler then knows its length.
+fn balances_are_small(m: &[u8], market: Market, a: usize) -> bool
+    requires { ⌜ Readable (now m) × Numbered (rosterOf (now m) .accounts) a ⌝ }
+    ensures { λ r. ⌜ (r ≡ true → SmallBalances (now (m .entry)) (market .largest) a) ⌝ }
+{
+    if market.largest < 1000000000 {
+        return false;
+    }
+    all_small(balances(m, a), 1, 32)
+}
+
+// Of account `a` and each instrument: all balances at once, and where that does not tell, one by one.
+fn account_is_sound(m: &[u8], market: Market, cells: &[u64; 1089], a: usize) -> bool
+    requires { ⌜
+        Readable (now m)
+        × SmallSums (now cells) (openOrders (now m))
+        × Numbered (rosterOf (now m) .accounts) a
+        × MarketOf (now m) market
+        ⌝ }
     ensures { λ r. ⌜ r ≡ accountSound (now (m .entry)) a ⌝ }
 {
-    if all_small(balances(m, a), 1, 32) {
+    if balances_are_small(m, market, a) {
         return true;
     }
     let n = instruments(m) as usize;
     for j in 0..n {
-        if !instrument_is_sound(m, cells, a, j + 1) {
+        if !instrument_is_sound(m, market, cells, a, j + 1) {
             return false;
         }
     }
@@ -55,13 +72,13 @@ fn account_is_sound(m: &[u8], cells: &[u64; 1089], a: usize) -> bool
 }
 
 // Of each account and instrument.
-fn positions_are_sound(m: &[u8], cells: &[u64; 1089]) -> bool
-    requires { ⌜ Readable (now m) × SmallSums (now cells) (openOrders (now m)) ⌝ }
+fn positions_are_sound(m: &[u8], market: Market, cells: &[u64; 1089]) -> bool
+    requires { ⌜ Readable (now m) × SmallSums (now cells) (openOrders (now m)) × MarketOf (now m) market ⌝ }
     ensures { λ r. ⌜ r ≡ positionsSound (now (m .entry)) ⌝ }
 {
     let n = accounts(m) as usize;
     for j in 0..n {
-        if !account_is_sound(m, cells, j + 1) {
+        if !account_is_sound(m, market, cells, j + 1) {
             return false;
         }
     }
@@ -69,8 +86,8 @@ fn positions_are_sound(m: &[u8], cells: &[u64; 1089]) -> bool
 }
 
 // The orders in one pass, which gathers, then the positions in another.
-pub fn orders_and_positions(m: &[u8], cells: &mut [u64; 1089]) -> bool
-    requires { ⌜ Readable (now m) × Records (now m) × Empty (now cells) ⌝ }
+pub fn orders_and_positions(m: &[u8], market: Market, cells: &mut [u64; 1089]) -> bool
+    requires { ⌜ Readable (now m) × Records (now m) × Empty (now cells) × MarketOf (now m) market ⌝ }
     ensures { λ r. ⌜
         (r ≡ (ascend 0 (openOrders (now (m .entry))) && ordersSound (now (m .entry)) && positionsSound (now (m .entry))))
         × (r ≡ true → SmallSums (now (cells .exit)) (openOrders (now (m .entry))))
@@ -79,5 +96,5 @@ pub fn orders_and_positions(m: &[u8], cells: &mut [u64; 1089]) -> bool
     if !orders_are_sound(m, cells) {
         return false;
     }
-    positions_are_sound(m, cells)
+    positions_are_sound(m, market, cells)
 }

@@ -26,12 +26,12 @@ fn bits_of_all(m: &[u8], k: usize, n: usize) -> u32
     all
 }
 
-// Is each of the two figures of the first `n` words at most 1,000,000,000, as far as the bits of all tell?
-pub fn all_in_range(m: &[u8], n: usize) -> bool
+// Is each of the two figures of the first `n` words at most `largest`, as far as the bits of all tell?
+pub fn all_in_range(m: &[u8], n: usize, largest: u64) -> bool
     requires { ⌜ n * 8 ≤ length (now m) ⌝ }
-    ensures { λ r. ⌜ (r ≡ true → (j : ℕ) → j < n → GroupLineFits 1000000000 (groupLineAt (now (m .entry)) j)) ⌝ }
+    ensures { λ r. ⌜ (r ≡ true → (j : ℕ) → j < n → GroupLineFits largest (groupLineAt (now (m .entry)) j)) ⌝ }
 {
-    bits_of_all(m, 0, n * 2) <= 1000000000
+    bits_of_all(m, 0, n * 2) as u64 <= largest
 }
 
 // At least each of the `n` words from word `k` on with 536,870,912 added: a number of that size or less, of either sign, is then one of 30

@@ -15,6 +15,7 @@ use memory_layout::orders::count;
 use memory_layout::orders::first_of;
 use memory_layout::readers::is_long_enough;
 use memory_layout::readers::kind;
+use memory_layout::readers::market;
 
 // Question 5, and where it is answered yes, B and V of all accounts and instruments in the cells. One pass over each region.
 pub fn is_sound_with_sums(m: &[u8], cells: &mut [u64; 1089]) -> bool
@@ -37,10 +38,11 @@ pub fn is_sound_with_sums(m: &[u8], cells: &mut [u64; 1089]) -> bool
     if !roster::roster_is_sound(m) {
         return false;
     }
-    if !lines::lines_are_sound(m) {
+    let market = market(m);
+    if !lines::lines_are_sound(m, market) {
         return false;
     }
-    balances::orders_and_positions(m, cells)
+    balances::orders_and_positions(m, market, cells)
 }
 
 // Does the memory hold a sound desk?

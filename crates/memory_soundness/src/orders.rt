@@ -9,13 +9,6 @@ ghost use Rattle.memory_layout.specs.Stores.{Records};
 ghost use Rattle.memory_soundness.specs.Soundness.{ascend, ordersSound};
 ghost use Rattle.memory_soundness.specs.Cells.{Empty, Sums, SmallSums};
 ghost use Rattle.memory_soundness.specs.Each.{Tells, Each, Remains, TotalFits, Marked};
-use memory_layout::orders::count;
-use memory_layout::orders::records;
-use memory_layout::readers::is_trading;
-use memory_layout::roster::account_known;
-use memory_layout::roster::accounts;
-use memory_layout::roster::instrument_known;
-use memory_layout::roster::instruments;
 use ledger::order::Order;
 use ledger::records::account_of;
 use ledger::records::bits_of_both;
@@ -27,6 +20,13 @@ use ledger::records::load;
 use ledger::records::packed_of;
 use ledger::records::remaining_of;
 use ledger::units::Contracts;
+use memory_layout::orders::count;
+use memory_layout::orders::records;
+use memory_layout::readers::is_trading;
+use memory_layout::roster::account_known;
+use memory_layout::roster::accounts;
+use memory_layout::roster::instrument_known;
+use memory_layout::roster::instruments;
 use positions::add_to;
 
 // What the pass tells: do the ids ascend, and does something remain of each order? And a detail with the bits of all.

@@ -10,15 +10,15 @@ ghost use Rattle.memory_layout.specs.Rosters.{every, sizesFit};
 ghost use Rattle.memory_layout.specs.View.{rosterOf};
 ghost use Rattle.memory_soundness.specs.Soundness.{rosterSound};
 use crate::ranges::is_weight;
+use ledger::roster::contract_in;
+use ledger::roster::group_in;
+use ledger::roster::weight_in;
 use memory_layout::roster::accounts;
 use memory_layout::roster::between;
 use memory_layout::roster::contracts;
 use memory_layout::roster::groups;
 use memory_layout::roster::instruments;
 use memory_layout::roster::roster;
-use ledger::roster::contract_in;
-use ledger::roster::group_in;
-use ledger::roster::weight_in;
 
 // Are the sizes within their limits?
 fn sizes_fit(m: &[u8]) -> bool

@@ -23,7 +23,6 @@ use Rattle.book.specs.declared.Event.{Event}
 use Rattle.book.specs.declared.OrderChange.{OrderChange}
 use Rattle.book.specs.declared.OrderChange.the-variants.{Replace, Cancel, Fill}
 use Rattle.book.specs.declared.Event.the-variants.{Limit, Balance, Block, New, Change, Junk}
-use Rattle.book.specs.Market.{derivatives}
 use Rattle.book.specs.OpenOrders.{find}
 use Rattle.book.specs.Sound.{OrderFits, Sound}
 use Rattle.book.specs.Decoding.{between}
@@ -35,7 +34,7 @@ use Rattle.book.proofs.Cuts.{standing, standing-member}
 use Rattle.book.proofs.Tables.{between-numbered, betweenℤ-both, quantity-numbered}
 use Rattle.book.proofs.Within.{named-order}
 use Rattle.memory_layout.specs.Layout.{countWord}
-use Rattle.memory_layout.specs.View.{rosterOf, openOrders, bookOf, view}
+use Rattle.memory_layout.specs.View.{marketOf, rosterOf, openOrders, bookOf, view}
 use Rattle.memory_layout.specs.Stores.{Records}
 use Rattle.memory_layout.specs.Judged.{judged}
 use Rattle.memory_layout.proofs.SameFields as layout
@@ -70,9 +69,9 @@ ChangeFacts (Fill n) o = Quantity n × (natAbs n ≤ remaining o)
 
 abbrev pub AcceptedFacts : List ℕ → Event → Type 0
 AcceptedFacts m (Limit a l) =
-    Numbered (rosterOf m .accounts) a × LineOnRoster (rosterOf m) l × (lineFits derivatives l ≡ true)
+    Numbered (rosterOf m .accounts) a × LineOnRoster (rosterOf m) l × (lineFits (marketOf m .largest) l ≡ true)
 AcceptedFacts m (Balance a i z) =
-    Numbered (rosterOf m .accounts) a × Numbered (rosterOf m .instruments) i × (natAbs z ≤ 1000000000)
+    Numbered (rosterOf m .accounts) a × Numbered (rosterOf m .instruments) i × (natAbs z ≤ marketOf m .largest)
 AcceptedFacts m (Block what z) = BlockOnRoster (rosterOf m) what
 AcceptedFacts m (New s a i id n) =
     Numbered (rosterOf m .accounts) a × Numbered (rosterOf m .instruments) i × Quantity n × (wordAt m countWord < 256)
@@ -135,16 +134,16 @@ module _ (m : List ℕ) (held : SoundMemory m) where
       )
 
   pub accepted-facts : (e : Event) → judged m e ≡ 0 → AcceptedFacts m e
-  unfolding accountKnown itemKnown figuresFit placeFree bookOf derivatives
+  unfolding accountKnown itemKnown figuresFit placeFree bookOf
   accepted-facts (Limit a l) passes =
       let ok = passed m (Limit a l) passes in
       (between-numbered (rosterOf m .accounts) a (ok .account), line-told (rosterOf m) l (ok .item), ok .figures)
   accepted-facts (Balance a i z) passes =
       let ok = passed m (Balance a i z) passes in
-      let z-in = betweenℤ-both (negℤ (pos 1000000000)) (pos 1000000000) z (ok .figures) in (
+      let z-in = betweenℤ-both (negℤ (pos (marketOf m .largest))) (pos (marketOf m .largest)) z (ok .figures) in (
         between-numbered (rosterOf m .accounts) a (ok .account),
         between-numbered (rosterOf m .instruments) i (ok .item),
-        within-in z 1000000000 (z-in .0) (z-in .1),
+        within-in z (marketOf m .largest) (z-in .0) (z-in .1),
       )
   accepted-facts (Block what z) passes =
       let ok = passed m (Block what z) passes in

@@ -22,10 +22,10 @@ use Rattle.ledger.proofs.Details.{remaining-of}
 use Rattle.ledger.proofs.Amounts.{fill-here}
 use Rattle.book.specs.declared.OrderChange.the-variants.{Fill}
 use Rattle.book.specs.declared.Event.the-variants.{Change}
-use Rattle.book.specs.Market.{derivatives}
+use Rattle.book.specs.Market.{marketOfKind}
 use Rattle.book.specs.Sound.{OrderFits}
 use Rattle.memory_layout.specs.Layout.{memoryBytes}
-use Rattle.memory_layout.specs.View.{rosterOf, balancesOf}
+use Rattle.memory_layout.specs.View.{marketOf, rosterOf, balancesOf}
 use Rattle.memory_layout.specs.FieldStores.{storeBalance}
 use Rattle.memory_layout.specs.Readable.{Readable}
 use Rattle.memory_soundness.proofs.Bounded.{sound-readable, balance-small}
@@ -39,9 +39,9 @@ moved-fits Buy b n z h l e = omega (sized, ap natAbs e, magnitude-sum b n)
 moved-fits Sell b n z h l e = omega (sized, ap natAbs e, magnitude-negation n, magnitude-sum b (negℤ n))
 
 -- one contract counts for 1
-pub fill-one : (o : Order) (n : ℕ) → fillMoves (derivatives .unit) (o .account) (o .instrument) o n ≡ toward (wayOf (o .side)) (pos n)
-unfolding derivatives one
-fill-one o n =
+pub fill-one : (m : List ℕ) (o : Order) (n : ℕ) → fillMoves (marketOf m .unit) (o .account) (o .instrument) o n ≡ toward (wayOf (o .side)) (pos n)
+unfolding marketOfKind one
+fill-one m o n =
     let e : 1 * n ≡ n = omega arith in
     rw e at (fill-here one (o .account) (o .instrument) o n refl refl)
 
@@ -94,6 +94,6 @@ module _ {m : List ℕ} {id w p n : ℕ} (ready : Ready m (Change id (Fill (pos 
     fill-worked {z} {l} stored after put =
         let fits-z = moved-fits (o .side) (toZ w64 (ofZ w64 s)) (pos n) z (fill-small .0) (fill-small .1) after in
         let moved : toZ w64 (ofZ w64 z) ≡ balancesOf m (o .account) (o .instrument)
-        +ℤ fillMoves (derivatives .unit) (o .account) (o .instrument) o n =
-        toZ-ofZ w64 z fits-z ∙ after ∙ rw (same-balance, fill-one o n) refl in
+        +ℤ fillMoves (marketOf m .unit) (o .account) (o .instrument) o n =
+        toZ-ofZ w64 z fits-z ∙ after ∙ rw (same-balance, fill-one m o n) refl in
         put ∙ rw (stored, moved) (sym (changed-memory ready))

@@ -1,5 +1,5 @@
 -- The figures that an accepted event stores fit their words and halves of words.
-use Prim.Native.Nat.{ℕ, _^_, _<_}
+use Prim.Native.Nat.{ℕ, _^_, _≤_, _<_}
 use mathlib.Core.Path.{_≡_, refl}
 use mathlib.Core.Logic.{⊎-elim}
 use mathlib.Core.List.{List, [], _∷_, List·Memᴰ, List·Memᴰ·head, List·Memᴰ·tail, List·Memᴰ·not-nil, List·Memᴰ·eq-of-singleton}
@@ -38,15 +38,16 @@ use Rattle.memory_soundness.proofs.Bounded.{storable}
 use Rattle.memory_working.proofs.AcceptedFacts.{Found, sound, passed, accepted-facts}
 
 -- ---- lines in range
-pub small-line : (x : Option Line) → ((l : Line) → x ≡ some l → LineFits 1000000000 l) → SmallLine x
+pub small-line : {largest : ℕ} → largest ≤ 1000000000 → (x : Option Line) → ((l : Line) → x ≡ some l → LineFits largest l) → SmallLine x
 unfolding SmallLine
-small-line none fits = tt
-small-line (some l) fits = let f = fits l refl in omega arith
+small-line most none fits = tt
+small-line most (some l) fits = let f = fits l refl in omega arith
 
-pub small-group-line : (x : Option GroupLine) → ((l : GroupLine) → x ≡ some l → GroupLineFits 1000000000 l) → SmallGroupLine x
+pub small-group-line : {largest : ℕ} → largest ≤ 1000000000 → (x : Option GroupLine)
+    → ((l : GroupLine) → x ≡ some l → GroupLineFits largest l) → SmallGroupLine x
 unfolding SmallGroupLine
-small-group-line none fits = tt
-small-group-line (some l) fits = let f = fits l refl in omega arith
+small-group-line most none fits = tt
+small-group-line most (some l) fits = let f = fits l refl in omega arith
 
 -- ---- open orders
 -- the id of a NEW is a word

@@ -18,11 +18,11 @@ use Rattle.book.specs.declared.OrderChange.{OrderChange}
 use Rattle.book.specs.declared.OrderChange.the-variants.{Replace, Cancel, Fill}
 use Rattle.book.specs.declared.Event.{Event}
 use Rattle.book.specs.declared.Event.the-variants.{Limit, Balance, Block, New, Change, Junk}
-use Rattle.book.specs.Market.{derivatives}
+use Rattle.book.specs.Market.{marketOfKind}
 use Rattle.book.specs.Books.{bookAfter}
 use Rattle.book.specs.States.{State, work}
 use Rattle.book.proofs.Shifts.{remainsAfter, new-shift, change-shift}
-use Rattle.memory_layout.specs.View.{openOrders, bookOf, view}
+use Rattle.memory_layout.specs.View.{marketOf, openOrders, bookOf, view}
 use Rattle.memory_layout.specs.Judged.{judged}
 use Rattle.memory_soundness.specs.Cells.{Sums}
 use Rattle.memory_soundness.specs.SoundMemory.{SoundMemory}
@@ -51,9 +51,9 @@ after-event m bytes held e sized accepted = ap (λ v. v .book .orders) (view-wor
 
 -- the book's change of what counts, told of the memory
 told : {m : List ℕ} → Bytes m → SoundMemory m → (e : Event) → Sized e → judged m e ≡ 0 → (o : Order) (x y : ℕ) → y ≤ 1000000
-    → CountChanged (derivatives .unit) o x y (openOrders m) (work (view m) e .book .orders)
+    → CountChanged (marketOf m .unit) o x y (openOrders m) (work (view m) e .book .orders)
     → SumsChanged o x y (openOrders m) (openOrders (worked m e))
-unfolding derivatives
+unfolding marketOfKind
 told {m} bytes held e sized accepted o x y small shift =
     record {
       small = small;
@@ -69,8 +69,8 @@ new-sums {m} {id} {w} bytes word ready =
     let e = newOf id w in
     let o = orderOf id w in
     let after = work (view m) e .book .orders in
-    let own : CountChanged (derivatives .unit) o 0 (remaining o) (openOrders m) after =
-    subst (λ (x : Order). CountChanged (derivatives .unit) x 0 (remaining x) (openOrders m) after) (sym (ready .named .1))
+    let own : CountChanged (marketOf m .unit) o 0 (remaining o) (openOrders m) after =
+    subst (λ (x : Order). CountChanged (marketOf m .unit) x 0 (remaining x) (openOrders m) after) (sym (ready .named .1))
     (new-shift (view m) (o .side) (o .account) (o .instrument) id (pos (o .total))) in
     told bytes (ready .held) e word (ready .accepted) o 0 (remaining o)
     (omega (arith, remaining-most o, accepted-facts m (ready .held) e (ready .accepted) .2 .1 .1)) own

@@ -22,13 +22,13 @@ use Rattle.book.specs.declared.Event.{Event}
 use Rattle.book.specs.declared.OrderChange.{OrderChange}
 use Rattle.book.specs.declared.OrderChange.the-variants.{Replace, Cancel, Fill}
 use Rattle.book.specs.declared.Event.the-variants.{Limit, Balance, Block, New, Change, Junk}
-use Rattle.book.specs.Market.{derivatives}
 use Rattle.book.specs.OpenOrders.{change}
 use Rattle.book.specs.Books.{at, lineOf, groupLineOf, changed, filledBalances, changedBalances, bookAfter}
 use Rattle.book.specs.States.{State, mark, work}
 use Rattle.book.specs.Sound.{OrderFits}
 use Rattle.book.proofs.SoundLines.{line-fits, group-line-fits}
-use Rattle.memory_layout.specs.View.{rosterOf, linesOf, balancesOf, blocksOf, openOrders, bookOf, tradingOf, view}
+use Rattle.memory_layout.proofs.MarketRead.{market-most}
+use Rattle.memory_layout.specs.View.{marketOf, rosterOf, linesOf, balancesOf, blocksOf, openOrders, bookOf, tradingOf, view}
 use Rattle.memory_layout.specs.Stores.{storeFrom, joinedFirst, rank}
 use Rattle.memory_layout.specs.Judged.{judged}
 use Rattle.memory_layout.proofs.GuardedTables.{stateOf}
@@ -71,8 +71,8 @@ fill-moves unit o n S =
     still b k apart = sym (ap (S b k +ℤ_) (fill-apart unit b k o n apart) ∙ +ℤ-idr (S b k))
 
 -- by what is filled
-fill-size : (o : Order) (n : ℕ) → natAbs (fillMoves (derivatives .unit) (o .account) (o .instrument) o n) ≡ n
-fill-size o n = ap natAbs (fill-one o n) ∙ by (o .side)
+fill-size : (m : List ℕ) (o : Order) (n : ℕ) → natAbs (fillMoves (marketOf m .unit) (o .account) (o .instrument) o n) ≡ n
+fill-size m o n = ap natAbs (fill-one m o n) ∙ by (o .side)
   where
     by : (s : Side) → natAbs (toward (wayOf s) (pos n)) ≡ n
     by Buy = refl
@@ -81,7 +81,7 @@ fill-size o n = ap natAbs (fill-one o n) ∙ by (o .side)
 module _ (m : List ℕ) (bytes : Bytes m) (held : SoundMemory m) where
   -- the view with these orders
   abbrev withOrders : List Order → State
-  withOrders os = stateOf (rosterOf m) (balancesOf m) (linesOf m) (blocksOf m) os (tradingOf m)
+  withOrders os = stateOf (marketOf m) (rosterOf m) (balancesOf m) (linesOf m) (blocksOf m) os (tradingOf m)
 
   -- the orders afterwards, stored
   orders-shown : (f : ℕ) → f ≤ 256 → (e : Event) → Sized e → judged m e ≡ 0
@@ -121,14 +121,14 @@ module _ (m : List ℕ) (bytes : Bytes m) (held : SoundMemory m) where
       passes
 
   fill-shown : (id : ℕ) (n : ℤ) (o : Order) → OrderFits (rosterOf m) o → judged m (Change id (Fill n)) ≡ 0 → Numbered 1000000 (natAbs n)
-      → view (orderChanged m id (Fill n) (some o)) ≡ stateOf (rosterOf m) (filledBalances (derivatives .unit) (some o) (natAbs n)
+      → view (orderChanged m id (Fill n) (some o)) ≡ stateOf (marketOf m) (rosterOf m) (filledBalances (marketOf m .unit) (some o) (natAbs n)
       (balancesOf m)) (linesOf m) (blocksOf m) (change id (changed (Fill n)) (openOrders m)) (tradingOf m)
   unfolding bookAfter bookOf mark
   fill-shown id n o fits passes quantity =
       let e = Change id (Fill n) in
       let a = o .account in
       let i = o .instrument in
-      let unit = derivatives .unit in
+      let unit = marketOf m .unit in
       let os = change id (changed (Fill n)) (openOrders m) in
       let z = balancesOf m a i +ℤ fillMoves unit a i o (natAbs n) in
       let f = records-first id (Fill n) o in
@@ -139,11 +139,11 @@ module _ (m : List ℕ) (bytes : Bytes m) (held : SoundMemory m) where
       (rw roster (fits .instrument)) (omega (
         sized,
         balance-small m held a i,
-        fill-size o (natAbs n),
+        fill-size m o (natAbs n),
         magnitude-sum (balancesOf m a i) (fillMoves unit a i o (natAbs n)),
       ))
       ∙ ap (λ (k : State). work k (Balance a i z)) (records-shown id (Fill n) o passes)
-      ∙ ap (λ s. stateOf (rosterOf m) s (linesOf m) (blocksOf m) os (tradingOf m)) (fill-moves unit o (natAbs n) (balancesOf m))
+      ∙ ap (λ s. stateOf (marketOf m) (rosterOf m) s (linesOf m) (blocksOf m) os (tradingOf m)) (fill-moves unit o (natAbs n) (balancesOf m))
 
   change-shown : (id : ℕ) (c : OrderChange) → judged m (Change id c) ≡ 0 → view (worked m (Change id c)) ≡ work (view m) (Change id c)
   unfolding worked bookAfter bookOf mark changedBalances
@@ -152,7 +152,7 @@ module _ (m : List ℕ) (bytes : Bytes m) (held : SoundMemory m) where
       rw (f .0 .found) (by c passes (f .0 .order) (f .0 .fits) (f .1))
     where
       by : (c : OrderChange) → judged m (Change id c) ≡ 0 → (o : Order) → OrderFits (rosterOf m) o → ChangeFacts c o
-          → view (orderChanged m id c (some o)) ≡ stateOf (rosterOf m) (changedBalances (derivatives .unit) c (some o) (balancesOf m))
+          → view (orderChanged m id c (some o)) ≡ stateOf (marketOf m) (rosterOf m) (changedBalances (marketOf m .unit) c (some o) (balancesOf m))
           (linesOf m) (blocksOf m) (change id (changed c) (openOrders m)) (tradingOf m)
       by (Replace n) passes o fits facts = records-shown id (Replace n) o passes
       by Cancel passes o fits facts = records-shown id Cancel o passes
@@ -160,19 +160,19 @@ module _ (m : List ℕ) (bytes : Bytes m) (held : SoundMemory m) where
 
   pub view-worked : (e : Event) → Sized e → judged m e ≡ 0
       → view (worked m e) ≡ work (view m) e
-  unfolding worked bookAfter bookOf mark derivatives
+  unfolding worked bookAfter bookOf mark
   view-worked (Limit a (Own i f)) id-word passes =
       let t = accepted-facts m held (Limit a (Own i f)) passes in
-      view-own m (laid m held) a i f (small-line (lineOf f) (line-fits derivatives f (t .2))) (t .0) (t .1)
+      view-own m (laid m held) a i f (small-line (market-most m) (lineOf f) (line-fits _ f (t .2))) (t .0) (t .1)
   view-worked (Limit a (Default c f)) id-word passes =
       let t = accepted-facts m held (Limit a (Default c f)) passes in
-      view-default m (laid m held) a c f (small-line (lineOf f) (line-fits derivatives f (t .2))) (t .0) (t .1)
+      view-default m (laid m held) a c f (small-line (market-most m) (lineOf f) (line-fits _ f (t .2))) (t .0) (t .1)
   view-worked (Limit a (OfGroup g x y)) id-word passes =
       let t = accepted-facts m held (Limit a (OfGroup g x y)) passes in
-      view-of-group m (laid m held) a g x y (small-group-line (groupLineOf x y) (group-line-fits derivatives x y (t .2))) (t .0) (t .1)
+      view-of-group m (laid m held) a g x y (small-group-line (market-most m) (groupLineOf x y) (group-line-fits _ x y (t .2))) (t .0) (t .1)
   view-worked (Balance a i z) id-word passes =
       let t = accepted-facts m held (Balance a i z) passes in
-      view-balance m (laid m held) a i z (t .0) (t .1) (omega sized)
+      view-balance m (laid m held) a i z (t .0) (t .1) (omega (sized, market-most m))
   view-worked (Block (Account a) z) id-word passes =
       view-block-account m (laid m held) z a (accepted-facts m held (Block (Account a) z) passes)
   view-worked (Block (Instrument i) z) id-word passes =

@@ -20,15 +20,15 @@ use Rattle.book.specs.declared.Event.{Event}
 use Rattle.book.specs.declared.OrderChange.{OrderChange}
 use Rattle.book.specs.declared.OrderChange.the-variants.{Replace, Cancel, Fill}
 use Rattle.book.specs.declared.Event.the-variants.{Limit, Balance, Block, New, Change, Junk}
-use Rattle.book.specs.Market.{derivatives}
 use Rattle.book.specs.Books.{lineOf, groupLineOf, changed, bookAfter}
 use Rattle.book.specs.States.{work}
 use Rattle.book.specs.Sound.{LineFits, GroupLineFits}
 use Rattle.book.proofs.SoundLines.{line-fits, group-line-fits}
 use Rattle.book.proofs.SoundOrders.{count-after}
+use Rattle.memory_layout.proofs.MarketRead.{market-most, market-same}
 use Rattle.memory_layout.specs.Layout.{markWord, accountBlockWord, instrumentBlockWord, groupBlockRow, balanceRow, ownSetRow, defaultSetRow}
 use Rattle.memory_layout.specs.Layout.{groupSetRow, ownRow, defaultRow, groupRow}
-use Rattle.memory_layout.specs.View.{rosterOf, openOrders, bookOf, view}
+use Rattle.memory_layout.specs.View.{marketOf, rosterOf, openOrders, bookOf, view}
 use Rattle.memory_layout.specs.Stores.{recordWord, fields, putOrder, putOrders, storeFrom}
 use Rattle.memory_layout.specs.FieldStores.{lineWords, groupLineWords, storeLine, storeGroupLine, storeBalance}
 use Rattle.memory_layout.specs.Judged.{judged}
@@ -49,31 +49,32 @@ Setting (Change id c) = ⊥
 Setting Junk = Unit
 
 -- both figures of a word are in range
-abbrev pub FiguresFit : ℕ → Type 0
-FiguresFit v = (lower v ≤ 1000000000) × (upper v ≤ 1000000000)
+abbrev pub FiguresFit : ℕ → ℕ → Type 0
+FiguresFit largest v = (lower v ≤ largest) × (upper v ≤ largest)
 
--- what a store of v in word k is: behind the roster, inside the desk, of a setting before the records, of the first record's place inside
+-- what a store of v in word k of a memory m is: behind the roster, inside the desk, of a setting before the records, of the first record's place inside
 -- the region, and of a line with its figures in range
-pub record Stores (e : Event) (k v : ℕ) : Type 0 where
+pub record Stores (m : List ℕ) (e : Event) (k v : ℕ) : Type 0 where
   pub low : 112 ≤ k
   pub high : k < 8192
   pub aside : Setting e → (128 ≤ k) × (k < 4224)
   pub first : k ≡ 113 → v ≤ 256
-  pub figures : 1536 ≤ k → k < 2880 → FiguresFit v
+  pub figures : 1536 ≤ k → k < 2880 → FiguresFit (marketOf m .largest) v
 
 -- at most 256 orders are open afterwards
 pub few-after : (m : List ℕ) → SoundMemory m → (e : Event) → judged m e ≡ 0 → length (work (view m) e .book .orders) ≤ 256
 few-after m held e passes = count-after (view m) (sound m held) e (passed m e passes)
 
 -- ---- the words of a line in range
-line-words-fit : (l : Line) → LineFits 1000000000 l → (j : ℕ) → FiguresFit (getD (lineWords l) j 0)
-line-words-fit l fits zero = omega arith
-line-words-fit l fits (suc zero) = omega arith
-line-words-fit l fits (suc (suc j)) = omega arith
+line-words-fit : {largest : ℕ} → largest ≤ 1000000000 → (l : Line) → LineFits largest l → (j : ℕ) → FiguresFit largest (getD (lineWords l) j 0)
+line-words-fit most l fits zero = omega arith
+line-words-fit most l fits (suc zero) = omega arith
+line-words-fit most l fits (suc (suc j)) = omega arith
 
-group-words-fit : (l : GroupLine) → GroupLineFits 1000000000 l → (j : ℕ) → FiguresFit (getD (groupLineWords l) j 0)
-group-words-fit l fits zero = omega arith
-group-words-fit l fits (suc j) = omega arith
+group-words-fit : {largest : ℕ} → largest ≤ 1000000000 → (l : GroupLine) → GroupLineFits largest l → (j : ℕ)
+    → FiguresFit largest (getD (groupLineWords l) j 0)
+group-words-fit most l fits zero = omega arith
+group-words-fit most l fits (suc j) = omega arith
 
 -- ---- runs of stores, each of a kind that P is kept by
 module _ (S : ℕ → ℕ → Type 0) (P : List ℕ → Type 0) (keeps : (l : List ℕ) (k v : ℕ) → S k v → P l → P (putWord l k v)) where
@@ -106,119 +107,122 @@ module _ (S : ℕ → ℕ → Type 0) (P : List ℕ → Type 0) (keeps : (l : Li
         (keeps (putOrders m f os) 113 f (first f low) (keeps-records os m f (omega arith) p))
 
   -- a line: its figures are in range
-  module _ (m : List ℕ) (s k : ℕ) (set : (v : ℕ) → v ≤ 1 → S s v) (p : P m) where
-    keeps-line : ((j v : ℕ) → k ≤ j → j < k + 2 → FiguresFit v → S j v) → (x : Option Line)
-        → ((l : Line) → x ≡ some l → LineFits 1000000000 l) → P (storeLine m s k x)
+  module _ (m : List ℕ) {largest : ℕ} (most : largest ≤ 1000000000) (s k : ℕ) (set : (v : ℕ) → v ≤ 1 → S s v) (p : P m) where
+    keeps-line : ((j v : ℕ) → k ≤ j → j < k + 2 → FiguresFit largest v → S j v) → (x : Option Line)
+        → ((l : Line) → x ≡ some l → LineFits largest l) → P (storeLine m s k x)
     keeps-line ok none fits = keeps m s 0 (set 0 (omega arith)) p
     keeps-line ok (some l) fits =
         keeps (putWords m k (lineWords l)) s 1 (set 1 (omega arith))
-        (keeps-words (lineWords l) m k (λ j h. ok (k + j) _ (omega arith) (omega arith) (line-words-fit l (fits l refl) j)) p)
+        (keeps-words (lineWords l) m k (λ j h. ok (k + j) _ (omega arith) (omega arith) (line-words-fit most l (fits l refl) j)) p)
 
-    keeps-group-line : ((j v : ℕ) → k ≤ j → j < k + 1 → FiguresFit v → S j v) → (x : Option GroupLine)
-        → ((l : GroupLine) → x ≡ some l → GroupLineFits 1000000000 l) → P (storeGroupLine m s k x)
+    keeps-group-line : ((j v : ℕ) → k ≤ j → j < k + 1 → FiguresFit largest v → S j v) → (x : Option GroupLine)
+        → ((l : GroupLine) → x ≡ some l → GroupLineFits largest l) → P (storeGroupLine m s k x)
     keeps-group-line ok none fits = keeps m s 0 (set 0 (omega arith)) p
     keeps-group-line ok (some l) fits =
         keeps (putWords m k (groupLineWords l)) s 1 (set 1 (omega arith))
-        (keeps-words (groupLineWords l) m k (λ j h. ok (k + j) _ (omega arith) (omega arith) (group-words-fit l (fits l refl) j)) p)
+        (keeps-words (groupLineWords l) m k (λ j h. ok (k + j) _ (omega arith) (omega arith) (group-words-fit most l (fits l refl) j)) p)
 
 -- ---- the memory after an accepted event
-module _ (e : Event) (P : List ℕ → Type 0) (keeps : (l : List ℕ) (k v : ℕ) → Stores e k v → P l → P (putWord l k v)) (m : List ℕ)
+module _ (m : List ℕ) (e : Event) (P : List ℕ → Type 0) (keeps : (l : List ℕ) (k v : ℕ) → Stores m e k v → P l → P (putWord l k v))
     (held : SoundMemory m) where
   keeps-balance : (l : List ℕ) (a i : ℕ) (z : ℤ) → Numbered (rosterOf m .accounts) a → Numbered (rosterOf m .instruments) i → P l
       → P (storeBalance l a i z)
   keeps-balance l a i z on-a on-i =
       let sized = laid m held .sized in
-      keeps-signed (Stores e) P keeps l (balanceRow a + i) z (λ v. omega arith)
+      keeps-signed (Stores m e) P keeps l (balanceRow a + i) z (λ v. omega arith)
 
   -- a word behind the roster, of an event of an order
-  of-order : (Setting e → ⊥) → (k v : ℕ) → 112 ≤ k → k < 8192 → (k ≡ 113 → v ≤ 256) → (1536 ≤ k → k < 2880 → ⊥) → Stores e k v
+  of-order : (Setting e → ⊥) → (k v : ℕ) → 112 ≤ k → k < 8192 → (k ≡ 113 → v ≤ 256) → (1536 ≤ k → k < 2880 → ⊥) → Stores m e k v
   of-order no-setting k v low high first apart =
       record { low = low; high = high; aside = λ s. absurd (no-setting s); first = first; figures = λ a b. absurd (apart a b) }
 
   keeps-list : (Setting e → ⊥) → (f : ℕ) → f ≤ 256 → judged m e ≡ 0 → P m
       → P (storeFrom m f (work (view m) e .book .orders))
   keeps-list no-setting f inside passes =
-      keeps-orders (Stores e) P keeps
+      keeps-orders (Stores m e) P keeps
       (λ j v low high. of-order no-setting j v (omega arith) (omega arith) (λ same. omega arith) (λ a b. omega arith))
       (λ v. of-order no-setting 112 v (omega arith) (omega arith) (λ same. omega arith) (λ a b. omega arith))
       (λ v small. of-order no-setting 113 v (omega arith) (omega arith) (λ same. small) (λ a b. omega arith))
       m f _ inside (few-after m held e passes)
 
-pub worked-keeps : (e : Event) (P : List ℕ → Type 0) → ((l : List ℕ) (k v : ℕ) → Stores e k v → P l → P (putWord l k v)) → (m : List ℕ)
+pub worked-keeps : (m : List ℕ) (e : Event) (P : List ℕ → Type 0) → ((l : List ℕ) (k v : ℕ) → Stores m e k v → P l → P (putWord l k v))
     → SoundMemory m → judged m e ≡ 0 → P m → P (worked m e)
-unfolding worked bookAfter bookOf derivatives
-worked-keeps (Limit a (Own i f)) P keeps m held passes p =
+unfolding worked bookAfter bookOf
+worked-keeps m (Limit a (Own i f)) P keeps held passes p =
     let t = accepted-facts m held (Limit a (Own i f)) passes in
     let sized = laid m held .sized in
-    keeps-line (Stores (Limit a (Own i f))) P keeps m (ownSetRow a + i) (ownRow a + i * 2) (λ v h. omega arith) p
-    (λ j v low high h. omega arith) (lineOf f) (line-fits derivatives f (t .2))
-worked-keeps (Limit a (Default c f)) P keeps m held passes p =
+    keeps-line (Stores m (Limit a (Own i f))) P keeps m (market-most m) (ownSetRow a + i) (ownRow a + i * 2) (λ v h. omega arith) p
+    (λ j v low high h. omega arith) (lineOf f) (line-fits (marketOf m .largest) f (t .2))
+worked-keeps m (Limit a (Default c f)) P keeps held passes p =
     let t = accepted-facts m held (Limit a (Default c f)) passes in
     let sized = laid m held .sized in
-    keeps-line (Stores (Limit a (Default c f))) P keeps m (defaultSetRow a + c) (defaultRow a + c * 2) (λ v h. omega arith) p
-    (λ j v low high h. omega arith) (lineOf f) (line-fits derivatives f (t .2))
-worked-keeps (Limit a (OfGroup g x y)) P keeps m held passes p =
+    keeps-line (Stores m (Limit a (Default c f))) P keeps m (market-most m) (defaultSetRow a + c) (defaultRow a + c * 2) (λ v h. omega arith) p
+    (λ j v low high h. omega arith) (lineOf f) (line-fits (marketOf m .largest) f (t .2))
+worked-keeps m (Limit a (OfGroup g x y)) P keeps held passes p =
     let t = accepted-facts m held (Limit a (OfGroup g x y)) passes in
     let sized = laid m held .sized in
-    keeps-group-line (Stores (Limit a (OfGroup g x y))) P keeps m (groupSetRow a + g) (groupRow a + g) (λ v h. omega arith) p
-    (λ j v low high h. omega arith) (groupLineOf x y) (group-line-fits derivatives x y (t .2))
-worked-keeps (Balance a i z) P keeps m held passes p =
+    keeps-group-line (Stores m (Limit a (OfGroup g x y))) P keeps m (market-most m) (groupSetRow a + g) (groupRow a + g) (λ v h. omega arith) p
+    (λ j v low high h. omega arith) (groupLineOf x y) (group-line-fits (marketOf m .largest) x y (t .2))
+worked-keeps m (Balance a i z) P keeps held passes p =
     let t = accepted-facts m held (Balance a i z) passes in
-    keeps-balance (Balance a i z) P keeps m held m a i z (t .0) (t .1) p
-worked-keeps (Block (Account a) z) P keeps m held passes p =
+    keeps-balance m (Balance a i z) P keeps held m a i z (t .0) (t .1) p
+worked-keeps m (Block (Account a) z) P keeps held passes p =
     let t = accepted-facts m held (Block (Account a) z) passes in
     let sized = laid m held .sized in
     keeps m (accountBlockWord a) _ (omega arith) p
-worked-keeps (Block (Instrument i) z) P keeps m held passes p =
+worked-keeps m (Block (Instrument i) z) P keeps held passes p =
     let t = accepted-facts m held (Block (Instrument i) z) passes in
     let sized = laid m held .sized in
     keeps m (instrumentBlockWord i) _ (omega arith) p
-worked-keeps (Block (GroupFor a g) z) P keeps m held passes p =
+worked-keeps m (Block (GroupFor a g) z) P keeps held passes p =
     let t = accepted-facts m held (Block (GroupFor a g) z) passes in
     let sized = laid m held .sized in
     keeps m (groupBlockRow a + g) _ (omega arith) p
-worked-keeps (New s a i id n) P keeps m held passes p =
+worked-keeps m (New s a i id n) P keeps held passes p =
     let t = accepted-facts m held (New s a i id n) passes in
     let sized = laid m held .sized in
-    keeps _ (markWord a) 1 (omega arith) (keeps-list (New s a i id n) P keeps m held (λ x. x) _ (joined-small m _ (held .first)) passes p)
-worked-keeps (Change id c) P keeps m held passes p =
+    keeps _ (markWord a) 1 (omega arith) (keeps-list m (New s a i id n) P keeps held (λ x. x) _ (joined-small m _ (held .first)) passes p)
+worked-keeps m (Change id c) P keeps held passes p =
     let f = accepted-facts m held (Change id c) passes .0 in
     rw (f .found) (by c passes (f .order) (f .fits .account) (f .fits .instrument) keeps)
   where
     records-kept : (c : OrderChange) → judged m (Change id c) ≡ 0 → (o : Order)
-        → ((l : List ℕ) (k v : ℕ) → Stores (Change id c) k v → P l → P (putWord l k v)) → P (recordsChanged m id c o)
+        → ((l : List ℕ) (k v : ℕ) → Stores m (Change id c) k v → P l → P (putWord l k v)) → P (recordsChanged m id c o)
     records-kept c passes o keeps =
-        keeps-list (Change id c) P keeps m held (λ x. x) _
+        keeps-list m (Change id c) P keeps held (λ x. x) _
         (after-small m (held .first) (placeFrom 0 id (openOrders m)) (changed c o)) passes p
 
     by : (c : OrderChange) → judged m (Change id c) ≡ 0 → (o : Order) → Numbered (rosterOf m .accounts) (o .account)
         → Numbered (rosterOf m .instruments) (o .instrument)
-        → ((l : List ℕ) (k v : ℕ) → Stores (Change id c) k v → P l → P (putWord l k v)) → P (orderChanged m id c (some o))
+        → ((l : List ℕ) (k v : ℕ) → Stores m (Change id c) k v → P l → P (putWord l k v)) → P (orderChanged m id c (some o))
     by (Replace n) passes o on-a on-i keeps = records-kept (Replace n) passes o keeps
     by Cancel passes o on-a on-i keeps = records-kept Cancel passes o keeps
     by (Fill n) passes o on-a on-i keeps =
-        keeps-balance (Change id (Fill n)) P keeps m held _ (o .account) (o .instrument) _ on-a on-i
+        keeps-balance m (Change id (Fill n)) P keeps held _ (o .account) (o .instrument) _ on-a on-i
         (records-kept (Fill n) passes o keeps)
-worked-keeps Junk P keeps m held passes p = p
+worked-keeps m Junk P keeps held passes p = p
 
 -- ---- so are kept
 module _ (m : List ℕ) (held : SoundMemory m) (e : Event) (passes : judged m e ≡ 0) where
   pub length-worked : length (worked m e) ≡ length m
   length-worked =
-      worked-keeps e (λ l. length l ≡ length m) (λ l k v s was. length-put l k v ∙ was) m held passes refl
+      worked-keeps m e (λ l. length l ≡ length m) (λ l k v s was. length-put l k v ∙ was) held passes refl
 
   pub bytes-worked : Bytes m → Bytes (worked m e)
-  bytes-worked = worked-keeps e Bytes (λ l k v s. bytes-put l k v) m held passes
+  bytes-worked = worked-keeps m e Bytes (λ l k v s. bytes-put l k v) held passes
 
   -- bytes from 65,536 on are as they were
   pub later-worked : (i : ℕ) → 65536 ≤ i → getD (worked m e) i 0 ≡ getD m i 0
   later-worked i h =
-      worked-keeps e (λ l. getD l i 0 ≡ getD m i 0) (λ l k v s was. byte-put-other l k v i (λ same. omega arith) ∙ was) m held passes refl
+      worked-keeps m e (λ l. getD l i 0 ≡ getD m i 0) (λ l k v s was. byte-put-other l k v i (λ same. omega arith) ∙ was) held passes refl
 
   -- and so are the kind of desk and the roster
   pub word-worked : (j : ℕ) → j < 112 → wordAt (worked m e) j ≡ wordAt m j
   word-worked j h =
-      worked-keeps e (λ l. wordAt l j ≡ wordAt m j) (λ l k v s was. word-put-other l k v j (λ same. omega arith) ∙ was) m held passes refl
+      worked-keeps m e (λ l. wordAt l j ≡ wordAt m j) (λ l k v s was. word-put-other l k v j (λ same. omega arith) ∙ was) held passes refl
 
   pub roster-worked : rosterOf (worked m e) ≡ rosterOf m
   roster-worked = roster-same (worked m e) m (laid m held .sized) (λ k low high. word-worked k (omega arith))
+
+  pub market-worked : marketOf (worked m e) ≡ marketOf m
+  market-worked = market-same (worked m e) m (word-worked 0 (omega arith))

@@ -1,7 +1,7 @@
 -- The memory after an accepted event, by an equation for each kind.
 use Prim.Native.Nat.{ℕ, _+_, _≤_, _<_}
 use mathlib.Core.Path.{_≡_}
-use mathlib.Core.Bool.{Bool, not}
+use mathlib.Core.Bool.{Bool, true, not}
 use mathlib.Core.List.{List, [], _∷_}
 use mathlib.Core.Option.{Option, none, some}
 use lib.IntN.{pos, natAbs, _+ℤ_}
@@ -12,6 +12,7 @@ use Rattle.ledger.specs.Orders.{placeFrom}
 use Rattle.ledger.specs.Records.{detailFilled, detailRemaining, orderOf}
 use Rattle.ledger.specs.Fillings.{fillMoves}
 use Rattle.limits.specs.Asked.{isZero}
+use Rattle.book.specs.declared.Figures.{Figures}
 use Rattle.book.specs.declared.LimitLine.{LimitLine}
 use Rattle.book.specs.declared.LimitLine.the-variants.{Own, Default, OfGroup}
 use Rattle.book.specs.declared.Blocked.{Blocked}
@@ -20,10 +21,10 @@ use Rattle.book.specs.declared.Event.{Event}
 use Rattle.book.specs.declared.OrderChange.{OrderChange}
 use Rattle.book.specs.declared.OrderChange.the-variants.{Replace, Cancel, Fill}
 use Rattle.book.specs.declared.Event.the-variants.{Limit, Balance, Block, New, Change, Junk}
-use Rattle.book.specs.Market.{derivatives}
 use Rattle.book.specs.OpenOrders.{find, insert, change}
 use Rattle.book.specs.Books.{lineOf, groupLineOf, newOrder, changed}
-use Rattle.memory_layout.specs.View.{balancesOf, firstOf, openOrders}
+use Rattle.book.specs.Table.{figuresOfLineFit}
+use Rattle.memory_layout.specs.View.{marketOf, balancesOf, firstOf, openOrders}
 use Rattle.memory_layout.specs.Judged.{judged, NamedAt}
 use Rattle.memory_layout.specs.Stores.{orderIn, storeFrom, joinedFirst, leftFirst, Records, rank}
 use Rattle.memory_layout.specs.FieldStores.{storeBalance, storeMark, blockAccount, blockInstrument, blockGroup, storeOwn, storeDefault}
@@ -52,6 +53,12 @@ pub record Stands (m : List ℕ) (p id w n : ℕ) : Type 0 where
   pub loaded : orderOf id w ≡ orderIn m p
   pub most : n ≤ detailRemaining w
   pub small : detailFilled w + n < 134217728
+
+-- figures of a line that pass question 9 in a market whose largest figure is at most 1,000,000,000, so that each fits half a word
+pub record LineStorable (f : Figures) : Type 0 where
+  pub largest : ℕ
+  pub most : largest ≤ 1000000000
+  pub fits : figuresOfLineFit largest f ≡ true
 
 abbrev pub lineStored : List ℕ → ℕ → LimitLine → List ℕ
 lineStored m a (Own i f) = storeOwn m a i (lineOf f)
@@ -85,7 +92,7 @@ orderChanged m id (Replace n) (some o) = recordsChanged m id (Replace n) o
 orderChanged m id Cancel (some o) = recordsChanged m id Cancel o
 orderChanged m id (Fill n) (some o) =
     storeBalance (recordsChanged m id (Fill n) o) (o .account) (o .instrument)
-    (balancesOf m (o .account) (o .instrument) +ℤ fillMoves (derivatives .unit) (o .account) (o .instrument) o (natAbs n))
+    (balancesOf m (o .account) (o .instrument) +ℤ fillMoves (marketOf m .unit) (o .account) (o .instrument) o (natAbs n))
 
 -- the memory after the event
 unfoldable pub worked : List ℕ → Event → List ℕ

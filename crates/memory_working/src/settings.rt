@@ -1,16 +1,14 @@
 // Working LIMIT, BALANCE and BLOCK: the figures become that line, S or block.
 ghost use mathlib.Core.Path.{_≡_};
-ghost use mathlib.Core.Bool.{true, false};
+ghost use mathlib.Core.Bool.{false};
 ghost use mathlib.Core.Option.{some};
 ghost use Prim.Native.Nat.{_+_, _*_, _≤_};
 ghost use lib.ListN.{length};
 ghost use Rattle.book.specs.declared.Event.the-variants.{Limit, Balance, Block};
 ghost use Rattle.book.specs.declared.LimitLine.the-variants.{OfGroup};
-ghost use Rattle.book.specs.Market.{derivatives};
 ghost use Rattle.book.specs.Books.{unsets, lineOf, groupLineOf};
-ghost use Rattle.book.specs.Table.{figuresOfLineFit};
 ghost use Rattle.memory_layout.specs.FieldStores.{storeLine, storeOfGroup, lineWith};
-ghost use Rattle.memory_working.specs.Working.{AcceptedEvent, worked};
+ghost use Rattle.memory_working.specs.Working.{AcceptedEvent, LineStorable, worked};
 use book::Blocked;
 use book::Figures;
 use book::LimitLine;
@@ -36,7 +34,7 @@ struct Limits {
 }
 
 fn limits_of(figures: Figures) -> Limits
-    requires { ⌜ (figuresOfLineFit derivatives figures ≡ true) × (unsets figures ≡ false) ⌝ }
+    requires { ⌜ LineStorable figures × (unsets figures ≡ false) ⌝ }
     ensures { λ r. ⌜ lineOf figures ≡ some (lineWith (r .tci) (r .tvi) (r .lci) (r .lvi)) ⌝ }
 {
     Limits {
@@ -49,7 +47,7 @@ fn limits_of(figures: Figures) -> Limits
 
 // A line of four figures: −1 throughout and it is set no more.
 fn work_line(m: &mut [u8], at: LineWords, figures: Figures)
-    requires { ⌜ (at .0 * 8 + 8 ≤ length (now m)) × (at .1 * 8 + 16 ≤ length (now m)) × (figuresOfLineFit derivatives figures ≡ true) ⌝ }
+    requires { ⌜ (at .0 * 8 + 8 ≤ length (now m)) × (at .1 * 8 + 16 ≤ length (now m)) × LineStorable figures ⌝ }
     ensures { λ r. ⌜ now (m .exit) ≡ storeLine (now (m .entry)) (at .0) (at .1) (lineOf figures) ⌝ }
 {
     if figures.unsets() {

@@ -3,7 +3,7 @@ use Prim.Native.Nat.{ℕ, _-_, _≤_, _<_}
 use mathlib.Core.Path.{_≡_, refl}
 use mathlib.Core.Bool.{Bool, true, false}
 use mathlib.Core.List.{List}
-use mathlib.Core.WellFounded.{WellFounded, InvImage·wf}
+use mathlib.Core.WellFounded.{InvImage·wf}
 use native.Mathlib.Omega.{arith}
 use lib.Dec.{ltb}
 use lib.WfN.{Nat·lt-wfRel}
@@ -23,9 +23,6 @@ module _ (n : ℕ) where
   abbrev pub Nearer : Upto → Upto → Type 0
   Nearer j p = n - j .0 < n - p .0
 
-  nearer-wf : WellFounded Nearer
-  nearer-wf = InvImage·wf (λ (p : Upto). n - p .0) (Nat·lt-wfRel .wf)
-
   module _ {M : Type 1} (𝓤 : URA M) (H : Heap 𝓤) (A : Atoms 𝓤) (W : Given 𝓤 H A) (𝓣 : Tables 𝓤 H)
       (En : Env 𝓤 H) (Post : Val → SProp 𝓤) (turn rest : Body) (At : Upto → List (Item 𝓤)) where
     abbrev Turned : Upto → Out → SProp 𝓤
@@ -40,8 +37,10 @@ module _ (n : ℕ) where
     -- with a turn for each answer to p < n the loop runs, and what comes after it
     pub counts-up : ((p : Upto) → ltb (p .0) n ≡ true → Turn p) → ((p : Upto) → ltb (p .0) n ≡ false → Turn p)
         → Sq W (At (0, omega arith)) (runs (𝓣 .C) (𝓣 .Λ) En (seq (block (loop turn)) rest) (atRet En Post))
-    counts-up more ends = first ! $ blocks ! $ loops ! 𝓣 Nearer nearer-wf At (λ p. by-test p (ltb (p .0) n) refl) (0, omega arith)
+    counts-up more ends =
+        first ! $ blocks ! $ loops ! 𝓣 Nearer (InvImage·wf (λ (p : Upto). n - p .0) (Nat·lt-wfRel .wf)) At
+        (λ p. by-answer p (ltb (p .0) n) refl) (0, omega arith)
       where
-        by-test : (p : Upto) (t : Bool) → ltb (p .0) n ≡ t → Turn p
-        by-test p true e = more p e
-        by-test p false e = ends p e
+        by-answer : (p : Upto) (t : Bool) → ltb (p .0) n ≡ t → Turn p
+        by-answer p true e = more p e
+        by-answer p false e = ends p e

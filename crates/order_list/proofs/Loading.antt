@@ -1,16 +1,14 @@
 -- The orders of the records loaded into a list, place by place, and what they count for.
 use Prim.Native.Nat.{ℕ, zero, suc, _+_, _≤_, _<_}
-use mathlib.Core.Path.{_≡_, refl, sym, _∙_, ap}
-use mathlib.Core.Logic.{_≢_}
-use mathlib.Core.Bool.{Bool, true, false}
+use mathlib.Core.Path.{_≡_, refl, _∙_}
+use mathlib.Core.Logic.{by-cases}
 use mathlib.Core.List.{List}
 use native.Mathlib.Numerals.{add-one}
 use native.Mathlib.Omega.{arith}
-use lib.Dec.{eqb}
+use native.Mathlib.Decide.{ℕ-discrete}
 use lib.IntN.{pos, natAbs, _+ℤ_, +ℤ-idl}
 use lib.ListN.{length, set, replicate, length-set, length-replicate}
 use lib.Seq.{getD-set-same, getD-set-other}
-use borrow.Author.Tests.{eqb-true, eqb-false}
 use Rattle.ledger.specs.declared.order.Order.{Order}
 use Rattle.ledger.specs.declared.order.Side.{Side}
 use Rattle.ledger.specs.Positions.{openOn}
@@ -19,15 +17,6 @@ use Rattle.ledger.specs.Derivatives.{one, counted}
 use Rattle.positions.proofs.Counting.{left, counted-more, counted-all}
 use Rattle.order_list.specs.OrderList.{noOrder, orderIn, loadedTo, countedTo}
 use Rattle.order_list.proofs.Sums.{counted-none, counted-next}
-
--- what stands at place p after o is stored at place n
-after-set : (orders : List Order) (n p : ℕ) (o w : Order) → n < length orders → (p ≡ n → o ≡ w) → (p ≢ n → orderIn orders p ≡ w)
-    → orderIn (set orders n o) p ≡ w
-after-set orders n p o w h same other = by (eqb p n) refl
-  where
-    by : (t : Bool) → eqb p n ≡ t → orderIn (set orders n o) p ≡ w
-    by true e = rw (eqb-true p n e) (getD-set-same orders n o noOrder h) ∙ same (eqb-true p n e)
-    by false e = getD-set-other orders n p o noOrder (eqb-false p n e) ∙ other (eqb-false p n e)
 
 module _ (orders : List Order) (records : List ℕ) where
   pub loaded-none : loadedTo orders records 0 ≡ orders
@@ -48,8 +37,10 @@ module _ (orders : List Order) (records : List ℕ) where
   unfolding loadedTo
   loaded-at zero p long h = absurd (omega arith)
   loaded-at (suc n) p long h =
-      after-set (loadedTo orders records n) n p (orderAt records n) (orderAt records p) (omega (arith, loaded-length n))
-      (λ e. ap (orderAt records) (sym e)) (λ other. loaded-at n p (omega arith) (omega (arith, other)))
+      let list = loadedTo orders records n in
+      by-cases (ℕ-discrete p n)
+      (λ e. rw e (getD-set-same list n (orderAt records n) noOrder (omega (arith, loaded-length n))))
+      (λ other. getD-set-other list n p (orderAt records n) noOrder other ∙ loaded-at n p (omega arith) (omega (arith, other)))
 
   module _ (n : ℕ) (long : n ≤ length orders) (s : Side) (a i : ℕ) where
     -- what the places before p count for, with what is left of the records, makes the whole
@@ -61,9 +52,6 @@ module _ (orders : List Order) (records : List ℕ) where
         let more = counted-more records n s a i (countedTo list p s a i) p (counted (orderIn list p) s a i) (orderIn list p) (omega arith)
         (loaded-at n p long (omega arith)) refl (counted-so-far p (omega arith)) in
         rw (← add-one, ← counted-next list s a i p) more
-
-    pub loaded-open : pos (countedTo (loadedTo orders records n) n s a i) ≡ openOn one (ordersFrom records 0 n) s a i
-    loaded-open = counted-all records n s a i _ n (omega arith) (counted-so-far n (omega arith))
 
 -- the list of 256 places, all free, with the orders of the first n records loaded
 unfoldable pub listed : List ℕ → ℕ → List Order
@@ -77,7 +65,9 @@ module _ (records : List ℕ) (n : ℕ) where
   -- what it counts for is B or V of the records
   pub listed-open : n ≤ 256 → (s : Side) (a i : ℕ) → pos (countedTo (listed records n) n s a i) ≡ openOn one (ordersFrom records 0 n) s a i
   unfolding listed
-  listed-open few = loaded-open (replicate 256 noOrder) records n (rw (length-replicate 256 noOrder) few)
+  listed-open few s a i =
+      let long : n ≤ length (replicate 256 noOrder) = rw (length-replicate 256 noOrder) few in
+      counted-all records n s a i _ n (omega arith) (counted-so-far (replicate 256 noOrder) records n long s a i n (omega arith))
 
   pub listed-small : n ≤ 256 → (s : Side) (a i : ℕ) → natAbs (openOn one (ordersFrom records 0 n) s a i) ≤ 9000000000000000000
       → countedTo (listed records n) n s a i ≤ 9000000000000000000

@@ -1,27 +1,24 @@
 -- B and V order by order: what an order counts for, and what is left to count from record p on.
 use Prim.Native.Nat.{ℕ, zero, suc, _+_, _*_, _-_, _≤_, _<_}
-use mathlib.Core.Path.{_≡_, refl, _∙_, ap}
+use mathlib.Core.Path.{_≡_, ap}
 use mathlib.Core.Logic.{_≢_}
-use mathlib.Core.Bool.{Bool, true, false, _&&_, cond}
-use mathlib.Core.List.{List, [], _∷_}
+use mathlib.Core.Bool.{true, false, _&&_, and-false}
+use mathlib.Core.List.{List, _∷_}
 use native.Mathlib.Nat.{one-mul}
 use native.Mathlib.Omega.{arith}
 use lib.IntN.{ℤ, pos, natAbs, _+ℤ_}
-use lib.Signed.{_≤ℤ_}
 use borrow.Author.Tests.{eq-eqb, ne-eqb}
 use Rattle.integers.specs.Parts.{signed, sum-parts, magnitude-parts}
 use Rattle.integers.specs.Magnitude.{magnitude-sum}
-use Rattle.integers.specs.Sum.{sumOver-cons, sumOver-none, sumOver-nonneg}
 use Rattle.ledger.specs.declared.order.Order.{Order}
 use Rattle.ledger.specs.declared.order.Side.{Side}
 use Rattle.ledger.specs.Orders.{remaining}
 use Rattle.ledger.specs.Positions.{sameSide, standsIn, openOn}
 use Rattle.ledger.specs.Records.{orderAt, ordersFrom}
 use Rattle.ledger.specs.Derivatives.{one, counted}
-
-and-false : (b : Bool) → b && false ≡ false
-and-false true = refl
-and-false false = refl
+use Rattle.ledger.proofs.Ways.{by-test}
+use Rattle.ledger.proofs.Amounts.{amount}
+use Rattle.ledger.proofs.Sums.{open-none, open-cons, open-nonneg}
 
 module _ (o : Order) (s : Side) (a i : ℕ) where
   pub counted-other-account : o .account ≢ a → counted o s a i ≡ 0
@@ -40,26 +37,12 @@ module _ (o : Order) (s : Side) (a i : ℕ) where
   unfolding counted standsIn
   counted-own account instrument side = simp (side, eq-eqb (o .account) a account, eq-eqb (o .instrument) i instrument)
 
-  as-number : (t : Bool) → cond t (pos (one o * remaining o)) (pos 0) ≡ pos (cond t (remaining o) 0)
-  unfolding one
-  as-number true = ap pos (one-mul (remaining o))
-  as-number false = refl
-
   pub open-more : (os : List Order) → openOn one (o ∷ os) s a i ≡ pos (counted o s a i) +ℤ openOn one os s a i
-  unfolding openOn counted
-  open-more os = sumOver-cons _ o os ∙ ap (λ (z : ℤ). z +ℤ openOn one os s a i) (as-number (sameSide (o .side) s && standsIn a i o))
-
-pub open-nonneg : (os : List Order) (s : Side) (a i : ℕ) → pos 0 ≤ℤ openOn one os s a i
-unfolding openOn
-open-nonneg os s a i = sumOver-nonneg _ os (λ o m. nonneg o (sameSide (o .side) s && standsIn a i o))
-  where
-    nonneg : (o : Order) (t : Bool) → pos 0 ≤ℤ cond t (pos (one o * remaining o)) (pos 0)
-    nonneg o true = omega signed
-    nonneg o false = omega signed
-
-open-none : (s : Side) (a i : ℕ) → openOn one [] s a i ≡ pos 0
-unfolding openOn
-open-none s a i = sumOver-none _
+  unfolding counted amount one
+  open-more os =
+      let number : amount one s a i o (remaining o) ≡ pos (counted o s a i) =
+      by-test (sameSide (o .side) s && standsIn a i o) (λ t. rw (t, one-mul)) (λ t. rw t) in
+      rw (open-cons one s a i o os, number)
 
 module _ (m : List ℕ) (n : ℕ) (s : Side) (a i : ℕ) where
   -- B or V of the records from record p on
@@ -70,19 +53,11 @@ module _ (m : List ℕ) (n : ℕ) (s : Side) (a i : ℕ) where
   unfolding left
   left-all = let e : n - 0 ≡ n = omega arith in rw e
 
-  pub left-end : (p : ℕ) → n ≤ p → left p ≡ pos 0
-  unfolding left ordersFrom
-  left-end p h = let e : n - p ≡ 0 = omega arith in rw e (open-none s a i)
-
   pub left-turn : (p : ℕ) → p < n → left p ≡ pos (counted (orderAt m p) s a i) +ℤ left (p + 1)
   unfolding left ordersFrom
   left-turn p h =
       let e : n - p ≡ suc (n - (p + 1)) = omega arith in
       rw e (open-more (orderAt m p) s a i (ordersFrom m (p + 1) (n - (p + 1))))
-
-  left-nonneg : (p : ℕ) → pos 0 ≤ℤ left p
-  unfolding left
-  left-nonneg p = open-nonneg (ordersFrom m p (n - p)) s a i
 
   -- what is counted, with what is left, makes the whole
   pub counted-more : (x p r : ℕ) (o : Order) → p < n → o ≡ orderAt m p → r ≡ counted o s a i → pos x +ℤ left p ≡ left 0
@@ -92,25 +67,27 @@ module _ (m : List ℕ) (n : ℕ) (s : Side) (a i : ℕ) where
       omega (signed, sum-parts (pos x) (left p), sum-parts (pos r) (left (p + 1)), sum-parts (pos (x + r)) (left (p + 1)))
 
   pub counted-all : (x p : ℕ) → n ≤ p → pos x +ℤ left p ≡ left 0 → pos x ≡ openOn one (ordersFrom m 0 n) s a i
-  counted-all x p h whole = omega (signed, left-end p h, left-all, sum-parts (pos x) (left p))
+  unfolding left ordersFrom
+  counted-all x p h whole =
+      let none : n - p ≡ 0 = omega arith in
+      let end : left p ≡ pos 0 = rw none (open-none one s a i) in
+      omega (signed, left-all, sum-parts (pos x) (left p))
 
   -- and is no more than the whole
   pub counted-small : (x p most : ℕ) → pos x +ℤ left p ≡ left 0 → natAbs (openOn one (ordersFrom m 0 n) s a i) ≤ most → x ≤ most
+  unfolding left
   counted-small x p most whole small =
-      omega (signed, left-nonneg p, left-all, sum-parts (pos x) (left p), magnitude-parts (openOn one (ordersFrom m 0 n) s a i))
+      let more = open-nonneg one s a i (ordersFrom m p (n - p)) in
+      omega (signed, left-all, sum-parts (pos x) (left p), magnitude-parts (openOn one (ordersFrom m 0 n) s a i))
 
 counted-most : (o : Order) (s : Side) (a i : ℕ) → counted o s a i ≤ remaining o
 unfolding counted
-counted-most o s a i = by (sameSide (o .side) s && standsIn a i o)
-  where
-    by : (t : Bool) → cond t (remaining o) 0 ≤ remaining o
-    by true = omega arith
-    by false = omega arith
+counted-most o s a i = by-test (sameSide (o .side) s && standsIn a i o) (λ t. rw t (omega arith)) (λ t. rw t (omega arith))
 
 small-from : (m : List ℕ) (most : ℕ) (s : Side) (a i n p : ℕ) → ((q : ℕ) → q < p + n → remaining (orderAt m q) ≤ most)
     → natAbs (openOn one (ordersFrom m p n) s a i) ≤ n * most
 unfolding ordersFrom
-small-from m most s a i zero p small = rw (open-none s a i) (omega arith)
+small-from m most s a i zero p small = rw (open-none one s a i) (omega arith)
 small-from m most s a i (suc n) p small =
     let o = orderAt m p in
     let rest = openOn one (ordersFrom m (p + 1) n) s a i in

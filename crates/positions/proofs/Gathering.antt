@@ -1,12 +1,12 @@
 -- The cells in which B and V are gathered, order by order: of one account, or of each account in a row of its own.
 use Prim.Native.Nat.{ℕ, zero, suc, _+_, _≤_, _<_}
 use mathlib.Core.Path.{_≡_, refl, _∙_, sym, ap}
-use mathlib.Core.Logic.{_≢_}
-use mathlib.Core.Bool.{true}
+use mathlib.Core.Logic.{_≢_, by-cases}
+use mathlib.Core.Bool.{true, false≢true}
 use mathlib.Core.List.{List}
 use native.Mathlib.Decide.{ℕ-discrete}
 use native.Mathlib.Omega.{arith}
-use lib.ListN.{length, getD, set, replicate, length-set}
+use lib.ListN.{length, getD, replicate, length-set}
 use lib.Seq.{getD-set-same, getD-set-other}
 use lib.IntN.{pos, _+ℤ_, +ℤ-idl}
 use Rattle.ledger.specs.declared.order.Order.{Order}
@@ -17,6 +17,7 @@ use Rattle.ledger.specs.Roster.{Numbered}
 use Rattle.ledger.specs.Positions.{sameSide}
 use Rattle.ledger.specs.Records.{orderAt, ordersFrom}
 use Rattle.ledger.specs.Derivatives.{counted}
+use Rattle.ledger.proofs.Ways.{by-side, by-test}
 use Rattle.positions.specs.Gathered.{cell, added, Gathered}
 use Rattle.positions.specs.Bounds.{GatherBounds}
 use Rattle.positions.proofs.Counting.{counted-other-account, counted-other-instrument, counted-other-side, counted-own, left}
@@ -29,6 +30,9 @@ cell-numbered Sell i h = omega arith
 pub cell-inside : (s : Side) (i : ℕ) → i ≤ 32 → cell s i < 65
 cell-inside Buy i h = omega arith
 cell-inside Sell i h = omega arith
+
+same-side : (s t : Side) → sameSide s t ≡ true → s ≡ t
+same-side s t e = by-side s t (λ b. b ≡ true → s ≡ t) (λ same _. same) (λ _ f. absurd (false≢true f)) e
 
 same-itself : (s : Side) → sameSide s s ≡ true
 same-itself Buy = refl
@@ -57,11 +61,9 @@ module _ (cells : List ℕ) (j n : ℕ) where
   -- no cell grows by more than n
   pub added-small : (most more : ℕ) → j < length cells → ((k : ℕ) → getD cells k 0 ≤ most) → n ≤ more → (k : ℕ) →
       getD (added cells j n) k 0 ≤ most + more
-  added-small most more inside small few k = by (ℕ-discrete k j)
-    where
-      by : Dec (k ≡ j) → getD (added cells j n) k 0 ≤ most + more
-      by (yes e) = rw e (omega (arith, added-same inside, small j))
-      by (no apart) = omega (arith, added-other k apart, small k)
+  added-small most more inside small few k =
+      by-cases (ℕ-discrete k j) (λ e. rw e (omega (arith, added-same inside, small j)))
+      (λ apart. omega (arith, added-other k apart, small k))
 
 -- ---- the accounts that are gathered, and the first cell of each: their rows do not meet
 pub record Rows (of : ℕ → Type 0) (first : ℕ → ℕ) : Type 1 where
@@ -70,10 +72,6 @@ pub record Rows (of : ℕ → Type 0) (first : ℕ → ℕ) : Type 1 where
 -- the cell of an order
 abbrev pub ownCell : (ℕ → ℕ) → Order → ℕ
 ownCell first o = first (o .account) + cell (o .side) (o .instrument)
-
--- the cells of one account alone
-pub one-row : (a : ℕ) → Rows (λ b. b ≡ a) (λ b. 0)
-one-row a = record { apart = λ b c j k h l u v e. h ∙ sym l }
 
 module _ (of : ℕ → Type 0) (first : ℕ → ℕ) (rows : Rows of first) where
   pub same-cell : (s t : Side) (a i b k : ℕ) → of a → Numbered 32 i → of b → Numbered 32 k → first a + cell s i ≡ first b + cell t k →
@@ -97,30 +95,23 @@ module _ (of : ℕ → Type 0) (first : ℕ → ℕ) (rows : Rows of first) wher
 
     -- another cell is another side's, account's or instrument's
     elsewhere : (s : Side) (a i : ℕ) → first a + cell s i ≢ own → counted o s a i ≡ 0
-    elsewhere s a i apart = by (ℕ-discrete (o .account) a) (ℕ-discrete (o .instrument) i) s (o .side) refl apart
-      where
-        by : Dec (o .account ≡ a) → Dec (o .instrument ≡ i) → (s t : Side) → o .side ≡ t →
-            first a + cell s i ≢ first (o .account) + cell t (o .instrument) → counted o s a i ≡ 0
-        by (no other) d s t e apart = counted-other-account o s a i other
-        by (yes same) (no other) s t e apart = counted-other-instrument o s a i other
-        by (yes f) (yes g) Buy Buy e apart = absurd (apart (rw (f, g)))
-        by (yes f) (yes g) Sell Sell e apart = absurd (apart (rw (f, g)))
-        by (yes f) (yes g) Buy Sell e apart = counted-other-side o Buy a i (rw e)
-        by (yes f) (yes g) Sell Buy e apart = counted-other-side o Sell a i (rw e)
+    elsewhere s a i apart =
+        by-cases (ℕ-discrete (o .account) a)
+        (λ f. by-cases (ℕ-discrete (o .instrument) i)
+        (λ g. by-test (sameSide (o .side) s) (λ t. absurd (apart (rw (f, g, same-side (o .side) s t)))) (counted-other-side o s a i))
+        (counted-other-instrument o s a i))
+        (counted-other-account o s a i)
 
     -- each cell grows by what the order counts for there
     pub added-at : own < length cells → (s : Side) (a i : ℕ) → of a → Numbered 32 i →
         getD (added cells own (remaining o)) (first a + cell s i) 0 ≡ getD cells (first a + cell s i) 0 + counted o s a i
-    added-at inside s a i h l = by (ℕ-discrete (first a + cell s i) own)
-      where
-        by : Dec (first a + cell s i ≡ own) →
-            getD (added cells own (remaining o)) (first a + cell s i) 0 ≡ getD cells (first a + cell s i) 0 + counted o s a i
-        by (yes e) =
-            let same = same-cell s (o .side) a i (o .account) (o .instrument) h l account instrument e in
-            let itself = counted-own o (o .side) (o .account) (o .instrument) refl refl (same-itself (o .side)) in
-            rw (same .0, same .1, same .2, itself) (added-same cells own (remaining o) inside)
-        by (no apart) =
-            added-other cells own (remaining o) (first a + cell s i) apart ∙ omega (arith, elsewhere s a i apart)
+    added-at inside s a i h l =
+        by-cases (ℕ-discrete (first a + cell s i) own)
+        (λ e.
+        let same = same-cell s (o .side) a i (o .account) (o .instrument) h l account instrument e in
+        let itself = counted-own o (o .side) (o .account) (o .instrument) refl refl (same-itself (o .side)) in
+        rw (same .0, same .1, same .2, itself) (added-same cells own (remaining o) inside))
+        (λ apart. added-other cells own (remaining o) (first a + cell s i) apart ∙ omega (arith, elsewhere s a i apart))
 
 -- ---- the records below p of n: what is gathered and what is left make the whole
 pub record Passed (of : ℕ → Type 0) (first : ℕ → ℕ) (m : List ℕ) (n : ℕ) (cells : List ℕ) (p : ℕ) : Type 0 where
@@ -142,22 +133,18 @@ module _ (of : ℕ → Type 0) (first : ℕ → ℕ) (m : List ℕ) (n : ℕ) (c
       passed-more rows account instrument inside cells′ e =
           record {
             sums = λ s a i k l. rw (e, added-at of first rows cells o account instrument inside s a i k l)
-                (more s a i (past .sums s a i k l));
+                (counted-more m n s a i (getD cells (first a + cell s i) 0) p (counted o s a i) o h here refl (past .sums s a i k l));
           }
-        where
-          more : (s : Side) (a i : ℕ) → pos (getD cells (first a + cell s i) 0) +ℤ left m n s a i p ≡ left m n s a i 0 →
-              pos (getD cells (first a + cell s i) 0 + counted o s a i) +ℤ left m n s a i (p + 1) ≡ left m n s a i 0
-          more s a i = counted-more m n s a i (getD cells (first a + cell s i) 0) p (counted o s a i) o h here refl
 
       pub passed-by : ((a : ℕ) → of a → o .account ≢ a) → Passed of first m n cells (p + 1)
-      passed-by other = record { sums = λ s a i k l. by s a i (other a k) (past .sums s a i k l) }
-        where
-          by : (s : Side) (a i : ℕ) → o .account ≢ a → pos (getD cells (first a + cell s i) 0) +ℤ left m n s a i p ≡ left m n s a i 0 →
-              pos (getD cells (first a + cell s i) 0) +ℤ left m n s a i (p + 1) ≡ left m n s a i 0
-          by s a i apart whole =
-              let none : getD cells (first a + cell s i) 0 + 0 ≡ getD cells (first a + cell s i) 0 = omega arith in
-              rw none at (counted-more m n s a i (getD cells (first a + cell s i) 0) p 0 o h here
-              (sym (counted-other-account o s a i apart)) whole)
+      passed-by other =
+          record {
+            sums = λ s a i k l.
+                let x = getD cells (first a + cell s i) 0 in
+                let none : x + 0 ≡ x = omega arith in
+                rw none at
+                (counted-more m n s a i x p 0 o h here (sym (counted-other-account o s a i (other a k))) (past .sums s a i k l));
+          }
 
 -- ---- the cells of account a alone
 abbrev pub PassedOf : List ℕ → ℕ → ℕ → List ℕ → ℕ → Type 0
@@ -187,7 +174,8 @@ module _ (m : List ℕ) (n a : ℕ) (cells : List ℕ) (p : ℕ) (size : length 
     passed-own cells′ e =
         let inside : ownCell (λ b. 0) o < length cells = omega (arith, own-cell, passed-fits .0) in (
           rw (e, added-length cells j r) size,
-          passed-more (λ b. b ≡ a) (λ b. 0) m n cells p past o here h (one-row a) own passed-numbered inside cells′
+          passed-more (λ b. b ≡ a) (λ b. 0) m n cells p past o here h (record { apart = λ b c j k u v w x e. u ∙ sym v }) own
+              passed-numbered inside cells′
               (e ∙ rw (own-cell, rest)),
         )
 

@@ -2,7 +2,7 @@
 use Prim.Native.Nat.{ℕ, suc, _+_, _*_, _≤_}
 use mathlib.Core.Path.{_≡_, refl, _∙_, sym, ap}
 use mathlib.Core.Logic.{_≢_}
-use mathlib.Core.Bool.{Bool, true, false, cond}
+use mathlib.Core.Bool.{cond}
 use mathlib.Core.List.{List}
 use native.Mathlib.Numerals.{add-one}
 use native.Mathlib.Omega.{arith}
@@ -20,6 +20,7 @@ use Rattle.ledger.specs.declared.order.Side.the-variants.{Buy, Sell}
 use Rattle.ledger.specs.Roster.{Roster, Numbered, groupOfInstrument}
 use Rattle.ledger.specs.Positions.{Way, long, short, group, opposite, sideTo, openOn, ofInstrument, groupPart, sumGroup, potential}
 use Rattle.ledger.specs.Derivatives.{one}
+use Rattle.ledger.proofs.Ways.{by-test}
 use Rattle.ledger.proofs.Scopes.{part-same}
 use Rattle.positions.specs.Gathered.{onWay, cell, Gathered, byCells, partByCells, sumByCells}
 
@@ -80,12 +81,9 @@ module _ (cells : List ℕ) (S : ℕ → ℤ) (i : ℕ) where
     pub part-small : natAbs (r .weight i) ≤ 1000000 → natAbs (S i) ≤ 100000000000 → ((s : Side) → getD cells (cell s i) 0 ≤ 100000000000)
         → natAbs (partByCells cells S r g i w) ≤ 200000000000000000
     unfolding partByCells
-    part-small weight balance small = by (eqb (groupOfInstrument r i) g)
-      where
-        by : (t : Bool) → natAbs (cond t (groupPart w (r .weight i) (byCells cells S i)) (pos 0)) ≤ 200000000000000000
-        by true =
-            part-magnitude w (r .weight i) (byCells cells S i) 1000000 200000000000 weight (λ v. by-cells-magnitude v balance small)
-        by false = omega arith
+    part-small weight balance small =
+        let magnitude = part-magnitude w (r .weight i) (byCells cells S i) 1000000 200000000000 weight in
+        by-test (eqb (groupOfInstrument r i) g) (λ t. rw t (magnitude (λ v. by-cells-magnitude v balance small))) (λ t. rw t (omega arith))
 
 -- an account's cells alone
 pub gathered-at : {cells : List ℕ} {orders : List Order} {a : ℕ} → Gathered cells 0 orders a → (s : Side) (i : ℕ) → Numbered 32 i

@@ -24,8 +24,5 @@ bits (pos n) f = other (pos n) f refl
 bits (negsuc zero) f = refl
 bits (negsuc (suc n)) f = other (negsuc (suc n)) f (ne-eqb (suc n) 0 (λ e. omega arith)) ∙ sym (ne-eqb (suc n) 0 (λ e. omega arith))
 
-returns : tie.Need-returns
-returns c = bits (c .args .z) (c .fits .z)
-
 pub is-minus-one-spec : {M : Type 1} → statement M
-is-minus-one-spec = tie.close (tie.spec returns)
+is-minus-one-spec = tie.close (tie.spec (λ c. bits (c .args .z) (c .fits .z)))

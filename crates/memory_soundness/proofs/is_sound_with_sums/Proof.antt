@@ -76,7 +76,7 @@ returns-5 c =
 
 returns-6 : tie.Need-returns-6
 returns-6 c =
-    let five = c .before .before in
+    let five = c .before .before .before in
     let four = five .before .before in
     let three = four .before .before in
     let two = three .before .before in (
@@ -88,7 +88,7 @@ returns-6 c =
 returns-7 : tie.Need-returns-7
 returns-7 c =
     let six = c .before .before in
-    let five = six .before .before in
+    let five = six .before .before .before in
     let four = five .before .before in
     let three = four .before .before in
     let two = three .before .before in (
@@ -105,15 +105,19 @@ may-read c =
 
 orders-and-positions-requires : tie.Need-orders-and-positions-requires
 orders-and-positions-requires c κs =
-    let five = c .before .before .before in
+    let read = c .before .before .before in
+    let five = read .before in
     let four = five .before .before in
     let three = four .before .before in
-    let one = three .before .before .before .before in
-    (may-read five, record { long = there one; count = few three; first = near four }, one .before .before .before .pre)
+    let one = three .before .before .before .before in (
+      may-read five,
+      record { long = there one; count = few three; first = near four },
+      one .before .before .before .pre,
+      read .market .ensures,
+    )
 
 pub is-sound-with-sums-spec : {M : Type 1} → statement M
 is-sound-with-sums-spec =
     tie.close (tie.spec (λ c κs. search needs) returns (λ c κs. there c) returns-2 (λ c κs. there (c .before .before)) returns-3
     (λ c κs. there (c .before .before .before .before)) returns-4 (λ c κs. there (c .before .before .before .before .before .before))
-    returns-5
-    (λ c κs. may-read c) returns-6 orders-and-positions-requires returns-7)
+    returns-5 (λ c κs. may-read c .long) (λ c κs. (may-read (c .before), c .market .ensures)) returns-6 orders-and-positions-requires returns-7)

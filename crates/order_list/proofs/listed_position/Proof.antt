@@ -36,11 +36,6 @@ sold : (c : tie.After-of2)
     c .of2 .result .0 ≡ openOn one (ordersFrom (a .records .now) 0 (a .n)) Sell (a .account) (a .instrument)
 sold c = c .of2 .ensures ∙ c .before .before .open-in .ensures .1
 
-open-in-requires : tie.Need-open-in-requires
-open-in-requires c κs =
-    let pre = c .before .before .before .pre in
-    (pre .0, pre .1 .orders-long, λ s. omega (arith, pre .1 .small s))
-
 position-by-requires : tie.Need-position-by-requires
 position-by-requires c κs =
     let bounds = c .before .before .before .before .before .before .pre .1 in
@@ -59,5 +54,6 @@ returns c =
 
 pub listed-position-spec : {M : Type 1} → statement M
 listed-position-spec =
-    tie.close (tie.spec (λ c κs. search needs) open-in-requires (λ c κs. few-buys c) (λ c κs. few-sells (c .before)) position-by-requires
-    returns)
+    tie.close (tie.spec (λ c κs. search needs)
+    (λ c κs. let pre = c .before .before .before .pre in (pre .0, pre .1 .orders-long, λ s. omega (arith, pre .1 .small s)))
+    (λ c κs. few-buys c) (λ c κs. few-sells (c .before)) position-by-requires returns)

@@ -12,9 +12,6 @@ use Rattle.positions.specs.Gathered.{added}
 use Rattle.positions.proofs.add_to.Statement.{statement}
 use Rattle.positions.proofs.add_to.Tie as tie
 
-plus-requires : tie.Need-plus-requires
-plus-requires c κs = omega (arith, ap natAbs (c .of .ensures))
-
 number-requires : tie.Need-number-requires
 number-requires c κs =
     let s = c .before .before .before .before in
@@ -43,5 +40,5 @@ returns c =
 
 pub add-to-spec : {M : Type 1} → statement M
 add-to-spec =
-    tie.close (tie.spec (λ c. search needs) (λ c. search needs) (λ c κs. search needs) plus-requires number-requires (λ c. search needs)
-    (λ c. search needs) (λ c. search needs) returns)
+    tie.close (tie.spec (λ c. search needs) (λ c. search needs) (λ c κs. search needs) (λ c κs. omega (arith, ap natAbs (c .of .ensures)))
+    number-requires (λ c. search needs) (λ c. search needs) (λ c. search needs) returns)

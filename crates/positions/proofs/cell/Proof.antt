@@ -3,8 +3,5 @@ use borrow.Author.Needs.{needs}
 use Rattle.positions.proofs.cell.Statement.{statement}
 use Rattle.positions.proofs.cell.Tie as tie
 
-returns-2 : tie.Need-returns-2
-returns-2 c = cc
-
 pub cell-spec : {M : Type 1} → statement M
-cell-spec = tie.close (tie.spec (λ c. search needs) (λ c. search needs) (λ c. search needs) (λ c. search needs) returns-2)
+cell-spec = tie.close (tie.spec (λ c. search needs) (λ c. search needs) (λ c. search needs) (λ c. search needs) (λ c. cc))

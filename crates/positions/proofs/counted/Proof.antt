@@ -5,12 +5,6 @@ use Rattle.positions.proofs.Counting.{counted-other-account, counted-ot
 use Rattle.positions.proofs.counted.Statement.{statement}
 use Rattle.positions.proofs.counted.Tie as tie
 
-returns : tie.Need-returns
-returns c = sym (counted-other-account _ _ _ _ (c .if1 .taken))
-
-returns-2 : tie.Need-returns-2
-returns-2 c = sym (counted-other-instrument _ _ _ _ (c .if2 .taken))
-
 returns-3 : tie.Need-returns-3
 returns-3 c =
     let at = c .before .before .before in
@@ -18,9 +12,8 @@ returns-3 c =
     ∙ sym (counted-own _ _ _ _ (at .before .before .if1 .left) (at .if2 .left) (sym (c .before .before .same-side .ensures)
     ∙ c .before .if3 .taken))
 
-returns-4 : tie.Need-returns-4
-returns-4 c = sym (counted-other-side _ _ _ _ (sym (c .before .same-side .ensures) ∙ c .if3 .left))
-
 pub counted-spec : {M : Type 1} → statement M
 counted-spec =
-    tie.close (tie.spec returns returns-2 (λ c κs. search needs) (λ c κs. search needs) returns-3 returns-4)
+    tie.close (tie.spec (λ c. sym (counted-other-account _ _ _ _ (c .if1 .taken)))
+    (λ c. sym (counted-other-instrument _ _ _ _ (c .if2 .taken))) (λ c κs. search needs) (λ c κs. search needs) returns-3
+    (λ c. sym (counted-other-side _ _ _ _ (sym (c .before .same-side .ensures) ∙ c .if3 .left))))

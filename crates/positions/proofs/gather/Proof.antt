@@ -59,13 +59,8 @@ loop-again c =
     ))
     (c .if1 .came)
 
-returns : tie.Need-returns Inv-loop μ-loop
-returns c =
-    let inv = c .before .loop .inv in
-    (inv .1, passed-all _ _ _ _ _ _ (inv .2) (omega arith) _ refl)
-
 pub gather-spec : {M : Type 1} → statement M
 gather-spec =
     tie.close (tie.spec Inv-loop μ-loop (λ c. (omega arith, c .before .pre .1, passed-none _ _ _ _ _ (c .before .pre .2)))
     (λ c κs. omega arith) cell-requires (λ c κs. tt) (λ c κs. omega (arith, fits c)) add-to-requires (λ c. omega arith) (λ c. omega arith)
-    loop-again returns)
+    loop-again (λ c. let inv = c .before .loop .inv in (inv .1, passed-all _ _ _ _ _ _ (inv .2) (omega arith) _ refl)))

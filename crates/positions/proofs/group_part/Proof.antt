@@ -12,9 +12,6 @@ use Rattle.positions.proofs.Weighing.{part-own, part-other, on-way-smal
 use Rattle.positions.proofs.group_part.Statement.{statement}
 use Rattle.positions.proofs.group_part.Tie as tie
 
-sub-times : tie.Need-sub-times
-sub-times c = let at = c .before .before .before in negation-fits (at .args .weight) (omega arith)
-
 times-requires : tie.Need-times-requires
 times-requires c κs =
     let at = c .before .before .before in
@@ -52,5 +49,6 @@ returns-2 c =
 
 pub group-part-spec : {M : Type 1} → statement M
 group-part-spec =
-    tie.close (tie.spec (λ c κs. search needs) (λ c κs. search needs) sub-times times-requires (λ c κs. search needs) times-requires-2
-    returns returns-2)
+    tie.close (tie.spec (λ c κs. search needs) (λ c κs. search needs)
+    (λ c. let at = c .before .before .before in negation-fits (at .args .weight) (omega arith)) times-requires (λ c κs. search needs)
+    times-requires-2 returns returns-2)

@@ -6,12 +6,6 @@ use Rattle.positions.proofs.Weighing.{cells-small, sum-potential}
 use Rattle.positions.proofs.group_position.Statement.{statement}
 use Rattle.positions.proofs.group_position.Tie as tie
 
-gather-requires : tie.Need-gather-requires
-gather-requires c κs = (c .before .before .before .before .pre .orders-small, refl, empty-at 65)
-
-slice-aggregate-weigh : tie.Need-slice-aggregate-weigh
-slice-aggregate-weigh c = sym (c .before .gather .ensures .0)
-
 weigh-requires : tie.Need-weigh-requires
 weigh-requires c κs =
     let bounds = c .before .before .before .before .before .before .pre in
@@ -35,4 +29,6 @@ returns c =
     }
 
 pub group-position-spec : {M : Type 1} → statement M
-group-position-spec = tie.close (tie.spec gather-requires slice-aggregate-weigh weigh-requires returns)
+group-position-spec =
+    tie.close (tie.spec (λ c κs. (c .before .before .before .before .pre .orders-small, refl, empty-at 65))
+    (λ c. sym (c .before .gather .ensures .0)) weigh-requires returns)

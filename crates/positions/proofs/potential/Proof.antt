@@ -7,17 +7,8 @@ use Rattle.integers.specs.Magnitude.{magnitude-negation}
 use Rattle.positions.proofs.potential.Statement.{statement}
 use Rattle.positions.proofs.potential.Tie as tie
 
-plus-requires-2 : tie.Need-plus-requires-2
-plus-requires-2 c κs =
-    omega (arith, ap natAbs (c .negated .ensures), magnitude-negation (c .before .before .before .args .balance .0))
-
-returns : tie.Need-returns
-returns c = cc
-
-returns-2 : tie.Need-returns-2
-returns-2 c = cc
-
 pub potential-spec : {M : Type 1} → statement M
 potential-spec =
-    tie.close (tie.spec (λ c. search needs) (λ c κs. search needs) (λ c. search needs) (λ c κs. search needs) plus-requires-2 returns
-    returns-2)
+    tie.close (tie.spec (λ c. search needs) (λ c κs. search needs) (λ c. search needs) (λ c κs. search needs)
+    (λ c κs. omega (arith, ap natAbs (c .negated .ensures), magnitude-negation (c .before .before .before .args .balance .0))) (λ c. cc)
+    (λ c. cc))

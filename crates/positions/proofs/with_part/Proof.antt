@@ -27,9 +27,6 @@ instrument-group-in-requires c κs =
     let contract = s .pre .1 .contract (s .args .i) (s .pre .2) in
     (s .pre .1 .long, omega arith, omega arith)
 
-returns : tie.Need-returns
-returns c w = part-outside _ _ _ _ _ w (λ e. c .if1 .taken (c .before .instrument-group-in .ensures ∙ e)) _
-
 -- the weight and the instrument's positions are small
 small : (c : tie.After-by-cells) → (natAbs (again (c .before .weight-in .result)) ≤ 1000000)
     × (natAbs (c .by-cells .result .long .0) ≤ 200000000000) × (natAbs (c .by-cells .result .short .0) ≤ 200000000000)
@@ -94,5 +91,6 @@ returns-2 c =
 
 pub with-part-spec : {M : Type 1} → statement M
 with-part-spec =
-    tie.close (tie.spec instrument-group-in-requires returns (λ c κs. search needs) (λ c κs. search needs) (λ c κs. small c)
-    (λ c κs. small (c .before)) plus-requires plus-requires-2 returns-2)
+    tie.close (tie.spec instrument-group-in-requires
+    (λ c w. part-outside _ _ _ _ _ w (λ e. c .if1 .taken (c .before .instrument-group-in .ensures ∙ e)) _) (λ c κs. search needs)
+    (λ c κs. search needs) (λ c κs. small c) (λ c κs. small (c .before)) plus-requires plus-requires-2 returns-2)

@@ -8,15 +8,12 @@ use Rattle.words.proofs.Unrolled.{store-eight}
 use Rattle.words.proofs.set_word.Statement.{statement}
 use Rattle.words.proofs.set_word.Tie as tie
 
-returns : tie.Need-returns
-unfolding putWord
-returns c = sym (store-eight _ _ _)
-
 pub set-word-spec : {M : Type 1} → statement M
+unfolding putWord
 set-word-spec =
     tie.close (tie.spec (λ c. search needs) (λ c. search needs) (λ c. search needs) (λ c. search needs) (λ c. search needs)
     (λ c. simp length-set (omega arith)) (λ c. search needs) (λ c. search needs) (λ c. simp length-set (omega arith)) (λ c. search needs)
     (λ c. search needs) (λ c. simp length-set (omega arith)) (λ c. search needs) (λ c. search needs) (λ c. simp length-set (omega arith))
     (λ c. search needs) (λ c. search needs) (λ c. simp length-set (omega arith)) (λ c. search needs) (λ c. search needs)
     (λ c. simp length-set (omega arith)) (λ c. search needs) (λ c. search needs) (λ c. simp length-set (omega arith)) (λ c. simp length-set)
-    returns)
+    (λ c. sym (store-eight _ _ _)))

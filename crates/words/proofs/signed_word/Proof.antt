@@ -6,9 +6,8 @@ use Rattle.words.proofs.Complement.{read-signed}
 use Rattle.words.proofs.signed_word.Statement.{statement}
 use Rattle.words.proofs.signed_word.Tie as tie
 
-returns : tie.Need-returns
-unfolding signedAt
-returns c = read-signed w64 _ (record { sfits = c .signed64 .ok }) (c .signed64 .ensures) (c .before .word .ensures)
-
 pub signed-word-spec : {M : Type 1} → statement M
-signed-word-spec = tie.close (tie.spec (λ c κs. search needs) (λ c κs. search needs) returns)
+unfolding signedAt
+signed-word-spec =
+    tie.close (tie.spec (λ c κs. search needs) (λ c κs. search needs)
+    (λ c. read-signed w64 _ (record { sfits = c .signed64 .ok }) (c .signed64 .ensures) (c .before .word .ensures)))

@@ -15,9 +15,6 @@ Inv-loop s₀ by n i₀ s i = (i ≤ n) × (length s ≡ length s₀) × (s ≡ 
 abbrev μ-loop : tie.MeasureT-loop
 μ-loop s₀ by n i₀ s i = i
 
-loop-holds : tie.Need-loop-holds Inv-loop μ-loop
-loop-holds c = (omega arith, refl, risen-start _ _ _)
-
 loop-again : tie.Need-loop-again Inv-loop μ-loop
 loop-again c =
     let put = c .before .before in
@@ -28,10 +25,8 @@ loop-again c =
           (put .set-word .ensures),
     )
 
-returns : tie.Need-returns Inv-loop μ-loop
-returns c = let at = c .before in risen-end _ _ _ _ (at .loop .i) (omega arith) (at .loop .inv .2)
-
 pub up-spec : {M : Type 1} → statement M
 up-spec =
-    tie.close (tie.spec Inv-loop μ-loop loop-holds (λ c. search needs) (λ c. search needs) (λ c κs. search needs) (λ c κs. search needs)
-    (λ c. search needs) loop-again (λ c. search needs) returns)
+    tie.close (tie.spec Inv-loop μ-loop (λ c. (omega arith, refl, risen-start _ _ _)) (λ c. search needs) (λ c. search needs)
+    (λ c κs. search needs) (λ c κs. search needs) (λ c. search needs) loop-again (λ c. search needs)
+    (λ c. let at = c .before in risen-end _ _ _ _ (at .loop .i) (omega arith) (at .loop .inv .2)))

@@ -5,9 +5,6 @@ use Rattle.words.specs.Fields.{u64At}
 use Rattle.words.proofs.word.Statement.{statement}
 use Rattle.words.proofs.word.Tie as tie
 
-returns : tie.Need-returns
-unfolding wordAt u64At
-returns c = c .u64-at .ensures
-
 pub word-spec : {M : Type 1} → statement M
-word-spec = tie.close (tie.spec (λ c. search needs) (λ c κs. search needs) returns)
+unfolding wordAt u64At
+word-spec = tie.close (tie.spec (λ c. search needs) (λ c κs. search needs) (λ c. c .u64-at .ensures))

@@ -22,12 +22,6 @@ loop-again c =
           ∙ seek-on _ _ _ (at .loop .p) _ (omega arith) (c .before .id-in .ensures ∙ sym (id-at _ _)) (c .if2 .left),
     )
 
-returns : tie.Need-returns Inv-loop μ-loop
-unfolding seek
-returns c =
-    let at = c .before in
-    sym (at .loop .inv .2 ∙ seek-end _ _ _ (at .loop .p) (c .if1 .taken))
-
 returns-2 : tie.Need-returns-2 Inv-loop μ-loop
 unfolding seek
 returns-2 c =
@@ -37,6 +31,7 @@ returns-2 c =
     ∙ seek-here _ _ _ (at .loop .p) _ (omega arith) (c .before .id-in .ensures ∙ sym (id-at _ _)) (c .if2 .taken))
 
 pub find-spec : {M : Type 1} → statement M
+unfolding seek
 find-spec =
     tie.close (tie.spec Inv-loop μ-loop (λ c. (omega arith, omega arith, refl)) (λ c κs. omega arith) (λ c. omega arith) (λ c. omega arith)
-    loop-again returns returns-2)
+    loop-again (λ c. let at = c .before in sym (at .loop .inv .2 ∙ seek-end _ _ _ (at .loop .p) (c .if1 .taken))) returns-2)

@@ -4,16 +4,9 @@ use Rattle.ledger.specs.Records.{packed}
 use Rattle.ledger.proofs.records.pack.Statement.{statement}
 use Rattle.ledger.proofs.records.pack.Tie as tie
 
-returns : tie.Need-returns
-unfolding packed
-returns c = cc
-
-returns-2 : tie.Need-returns-2
-unfolding packed
-returns-2 c = cc
-
 pub pack-spec : {M : Type 1} → statement M
+unfolding packed
 pack-spec =
     tie.close (tie.spec (λ c. search needs) (λ c. search needs) (λ c. search needs) (λ c. search needs) (λ c. search needs)
-    (λ c. search needs) (λ c. search needs) (λ c. search needs) (λ c. search needs) (λ c. search needs) (λ c. search needs) returns
-    returns-2)
+    (λ c. search needs) (λ c. search needs) (λ c. search needs) (λ c. search needs) (λ c. search needs) (λ c. search needs) (λ c. cc)
+    (λ c. cc))

@@ -4,13 +4,6 @@ use Rattle.ledger.specs.Records.{sideOf}
 use Rattle.ledger.proofs.records.side_of.Statement.{statement}
 use Rattle.ledger.proofs.records.side_of.Tie as tie
 
-returns : tie.Need-returns
-unfolding sideOf
-returns c = simp (eq-eqb _ _ (c .if1 .taken))
-
-returns-2 : tie.Need-returns-2
-unfolding sideOf
-returns-2 c = simp (ne-eqb _ _ (c .if1 .left))
-
 pub side-of-spec : {M : Type 1} → statement M
-side-of-spec = tie.close (tie.spec returns returns-2)
+unfolding sideOf
+side-of-spec = tie.close (tie.spec (λ c. simp (eq-eqb _ _ (c .if1 .taken))) (λ c. simp (ne-eqb _ _ (c .if1 .left))))

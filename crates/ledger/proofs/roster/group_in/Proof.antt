@@ -4,9 +4,6 @@ use Rattle.ledger.specs.Records.{rosterIn}
 use Rattle.ledger.proofs.roster.group_in.Statement.{statement}
 use Rattle.ledger.proofs.roster.group_in.Tie as tie
 
-returns : tie.Need-returns
-unfolding rosterIn
-returns c = c .word .ensures
-
 pub group-in-spec : {M : Type 1} → statement M
-group-in-spec = tie.close (tie.spec (λ c. search needs) (λ c κs. search needs) returns)
+unfolding rosterIn
+group-in-spec = tie.close (tie.spec (λ c. search needs) (λ c κs. search needs) (λ c. c .word .ensures))

@@ -5,9 +5,7 @@ use Rattle.ledger.specs.Roster.{groupOfInstrument}
 use Rattle.ledger.proofs.roster.instrument_group_in.Statement.{statement}
 use Rattle.ledger.proofs.roster.instrument_group_in.Tie as tie
 
-returns : tie.Need-returns
-unfolding groupOfInstrument
-returns c = c .group-in .ensures ∙ rw (c .before .contract-in .ensures)
-
 pub instrument-group-in-spec : {M : Type 1} → statement M
-instrument-group-in-spec = tie.close (tie.spec (λ c κs. search needs) (λ c κs. search needs) returns)
+unfolding groupOfInstrument
+instrument-group-in-spec =
+    tie.close (tie.spec (λ c κs. search needs) (λ c κs. search needs) (λ c. c .group-in .ensures ∙ rw (c .before .contract-in .ensures)))

@@ -4,9 +4,6 @@ use Rattle.ledger.specs.Records.{rosterIn}
 use Rattle.ledger.proofs.roster.instruments_in.Statement.{statement}
 use Rattle.ledger.proofs.roster.instruments_in.Tie as tie
 
-returns : tie.Need-returns
-unfolding rosterIn
-returns c = c .word .ensures
-
 pub instruments-in-spec : {M : Type 1} → statement M
-instruments-in-spec = tie.close (tie.spec (λ c κs. search needs) returns)
+unfolding rosterIn
+instruments-in-spec = tie.close (tie.spec (λ c κs. search needs) (λ c. c .word .ensures))

@@ -7,9 +7,8 @@ use Rattle.ledger.specs.Records.{rosterIn}
 use Rattle.ledger.proofs.roster.weight_in.Statement.{statement}
 use Rattle.ledger.proofs.roster.weight_in.Tie as tie
 
-returns : tie.Need-returns
-unfolding rosterIn
-returns c = toZ-ofZ w64 (c .signed-word .result) (record { sfits = c .signed-word .ok }) ∙ c .signed-word .ensures
-
 pub weight-in-spec : {M : Type 1} → statement M
-weight-in-spec = tie.close (tie.spec (λ c. search needs) (λ c κs. search needs) returns)
+unfolding rosterIn
+weight-in-spec =
+    tie.close (tie.spec (λ c. search needs) (λ c κs. search needs)
+    (λ c. toZ-ofZ w64 (c .signed-word .result) (record { sfits = c .signed-word .ok }) ∙ c .signed-word .ensures))

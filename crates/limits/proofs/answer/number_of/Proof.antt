@@ -34,16 +34,10 @@ named c =
     (⊎-elim (λ w. by (w .1 .given .1) (w .2) (omega arith)) (⊎-elim (λ w. by (w .1 .given .1) (w .2) (omega arith))
     (λ w. by (w .1 .given .1) (w .2) (omega arith))))))))))))))))))))))))) (c .match .came)
 
-cast-result : tie.Need-cast-result
-cast-result c = rw (named c .0) (tt, omega (arith, named c .1))
-
-returns : tie.Need-returns
-returns c = rw (named c .0)
-
 pub number-of-spec : {M : Type 1} → statement M
 number-of-spec =
     tie.close (tie.spec (λ c. search needs) (λ c. search needs) (λ c. search needs) (λ c. search needs) (λ c. search needs)
     (λ c. search needs) (λ c. search needs) (λ c. search needs) (λ c. search needs) (λ c. search needs) (λ c. search needs)
     (λ c. search needs) (λ c. search needs) (λ c. search needs) (λ c. search needs) (λ c. search needs) (λ c. search needs)
     (λ c. search needs) (λ c. search needs) (λ c. search needs) (λ c. search needs) (λ c. search needs) (λ c. search needs)
-    (λ c. search needs) (λ c. search needs) cast-result returns)
+    (λ c. search needs) (λ c. search needs) (λ c. rw (named c .0) (tt, omega (arith, named c .1))) (λ c. rw (named c .0)))

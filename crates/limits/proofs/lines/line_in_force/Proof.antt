@@ -6,12 +6,8 @@ use Rattle.limits.proofs.InOrder.{word-set, word-unset}
 use Rattle.limits.proofs.lines.line_in_force.Statement.{statement}
 use Rattle.limits.proofs.lines.line_in_force.Tie as tie
 
-returns : tie.Need-returns
-returns c = c .part .ensures ∙ own-part _ _ _ _ _ (word-set _ (c .before .if1 .taken))
-
-returns-2 : tie.Need-returns-2
-returns-2 c = c .part2 .ensures ∙ default-part _ _ _ _ _ (word-unset _ (c .before .if1 .left))
-
 pub line-in-force-spec : {M : Type 1} → statement M
 line-in-force-spec =
-    tie.close (tie.spec (λ c. search needs) (λ c κs. search needs) (λ c. search needs) (λ c κs. search needs) returns returns-2)
+    tie.close (tie.spec (λ c. search needs) (λ c κs. search needs) (λ c. search needs) (λ c κs. search needs)
+    (λ c. c .part .ensures ∙ own-part _ _ _ _ _ (word-set _ (c .before .if1 .taken)))
+    (λ c. c .part2 .ensures ∙ default-part _ _ _ _ _ (word-unset _ (c .before .if1 .left))))

@@ -9,12 +9,6 @@ use Rattle.limits.proofs.LinesRead.{side-below}
 use Rattle.limits.proofs.lines.side_figure.Statement.{statement}
 use Rattle.limits.proofs.lines.side_figure.Tie as tie
 
-add-u32-at : tie.Need-add-u32-at
-add-u32-at c = omega (arith, c .side-byte .ensures, side-below (c .before .before .args .side))
-
-u32-at-requires : tie.Need-u32-at-requires
-u32-at-requires c κs = omega (arith, c .side-byte .ensures, side-below (c .before .before .args .side))
-
 returns : tie.Need-returns
 returns c =
     let read = c .before in
@@ -23,5 +17,6 @@ returns c =
 
 pub side-figure-spec : {M : Type 1} → statement M
 side-figure-spec =
-    tie.close (tie.spec (λ c κs. search needs) add-u32-at u32-at-requires (λ c. search needs) (λ c κs. omega (arith, c .u32-at .ok))
-    returns)
+    tie.close (tie.spec (λ c κs. search needs) (λ c. omega (arith, c .side-byte .ensures, side-below (c .before .before .args .side)))
+    (λ c κs. omega (arith, c .side-byte .ensures, side-below (c .before .before .args .side))) (λ c. search needs)
+    (λ c κs. omega (arith, c .u32-at .ok)) returns)

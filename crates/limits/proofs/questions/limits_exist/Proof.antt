@@ -5,15 +5,6 @@ use Rattle.limits.proofs.InOrder.{word-set, word-unset, existence}
 use Rattle.limits.proofs.questions.limits_exist.Statement.{statement}
 use Rattle.limits.proofs.questions.limits_exist.Tie as tie
 
-returns : tie.Need-returns
-unfolding numberOf
-returns c r ls o sets = sym (existence r ls o _ _ _ sets ∙ simp (word-unset _ (c .if1 .taken)))
-
-returns-2 : tie.Need-returns-2
-unfolding numberOf
-returns-2 c r ls o sets =
-    sym (existence r ls o _ _ _ sets ∙ simp (word-set _ (c .before .if1 .left), word-set _ (c .if2 .taken)))
-
 returns-3 : tie.Need-returns-3
 unfolding numberOf
 returns-3 c r ls o sets =
@@ -33,4 +24,8 @@ returns-4 c r ls o sets =
     ))
 
 pub limits-exist-spec : {M : Type 1} → statement M
-limits-exist-spec = tie.close (tie.spec returns returns-2 returns-3 returns-4)
+unfolding numberOf
+limits-exist-spec =
+    tie.close (tie.spec (λ c r ls o sets. sym (existence r ls o _ _ _ sets ∙ simp (word-unset _ (c .if1 .taken))))
+    (λ c r ls o sets. sym (existence r ls o _ _ _ sets ∙ simp (word-set _ (c .before .if1 .left), word-set _ (c .if2 .taken)))) returns-3
+    returns-4)

@@ -22,10 +22,6 @@ sized : (c : tie.After-at-most) (r : Roster) (ls : Lines) (o : Order) →
 sized c r ls o in-force side whole t e =
     sym (by-size r ls o _ _ _ _ in-force side whole (c .before .largest-order .ensures) t (sym (c .at-most .ensures) ∙ e))
 
-returns : tie.Need-returns
-unfolding numberOf
-returns c r ls o in-force side whole = sized (c .before) r ls o in-force side whole true (c .if1 .taken)
-
 returns-2 : tie.Need-returns-2
 unfolding numberOf
 returns-2 c r ls o in-force side whole =
@@ -39,5 +35,8 @@ returns-3 c r ls o in-force side whole =
     sym (ap orderNumber (c .enum-told2 .given .1)) ∙ sized (at .before) r ls o in-force side whole false (at .if1 .left)
 
 pub order-size-spec : {M : Type 1} → statement M
+unfolding numberOf
 order-size-spec =
-    tie.close (tie.spec (λ c κs. search needs) (λ c κs. search needs) returns (λ c. search needs) (λ c. search needs) returns-2 returns-3)
+    tie.close (tie.spec (λ c κs. search needs) (λ c κs. search needs)
+    (λ c r ls o in-force side whole. sized (c .before) r ls o in-force side whole true (c .if1 .taken)) (λ c. search needs)
+    (λ c. search needs) returns-2 returns-3)

@@ -30,11 +30,6 @@ read c =
     ∙ ap (λ (z : ℤ). pos (natAbs z)) (small-again (s .args .weight) (omega (arith, s .pre .1))) in
     small-again k (omega (arith, ap natAbs e, s .pre .1)) ∙ e
 
-times-requires : tie.Need-times-requires
-times-requires c κs =
-    let s = c .before .before .before .before .before .before in
-    rw (read c) (omega arith, s .pre .1)
-
 rise : (c : tie.After-times) → let a =
     c .before .before .before .before .before .before .before .args in c .times .result .0 ≡ pos (natAbs (a .weight)) *ℤ a .added .0
 rise c = c .times .ensures ∙ rw (read (c .before))
@@ -60,10 +55,8 @@ plus-requires c κs =
       rise-room (natAbs (a .weight)) (a .added .0) (s .pre .1) (s .pre .0 .small),
     ))
 
-returns : tie.Need-returns
-returns c = c .plus .ensures ∙ rw (before (c .before), rise (c .before .before))
-
 pub group-with-spec : {M : Type 1} → statement M
 group-with-spec =
-    tie.close (tie.spec instrument-group-in-requires (λ c κs. search needs) (λ c κs. search needs) times-requires (λ c κs. search needs)
-    plus-requires returns)
+    tie.close (tie.spec instrument-group-in-requires (λ c κs. search needs) (λ c κs. search needs)
+    (λ c κs. let s = c .before .before .before .before .before .before in rw (read c) (omega arith, s .pre .1)) (λ c κs. search needs)
+    plus-requires (λ c. c .plus .ensures ∙ rw (before (c .before), rise (c .before .before))))

@@ -122,18 +122,16 @@ judged c ls n before after more gathered in-force of-group raised t test =
     t
     (sym (c .at-most2 .ensures) ∙ test)
 
-returns-3 : tie.Need-returns-3
-unfolding numberOf
-returns-3 c ls n before after more gathered in-force of-group raised =
-    sym (judged (c .before) ls n before after more gathered in-force of-group raised true (c .if3 .taken))
-
 returns-4 : tie.Need-returns-4
 returns-4 c ls n before after more gathered in-force of-group raised =
     c .group-refusal .ensures ∙ sym (judged (c .before .before) ls n before after more gathered in-force of-group raised false
     (c .before .if3 .left))
 
 pub positions-within-spec : {M : Type 1} → statement M
+unfolding numberOf
 positions-within-spec =
     tie.close (tie.spec (λ c κs. search needs) instrument-with-requires (λ c κs. search needs) (λ c κs. search needs) returns
-    (λ c κs. search needs) returns-2 (λ c κs. search needs) (λ c κs. search needs) times-requires group-with-requires
-    (λ c κs. search needs) (λ c κs. search needs) returns-3 returns-4)
+    (λ c κs. search needs) returns-2 (λ c κs. search needs) (λ c κs. search needs) times-requires group-with-requires (λ c κs. search needs)
+    (λ c κs. search needs)
+    (λ c ls n before after more gathered in-force of-group raised. sym (judged (c .before) ls n before after more gathered in-force
+    of-group raised true (c .if3 .taken))) returns-4)

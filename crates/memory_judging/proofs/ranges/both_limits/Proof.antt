@@ -1,7 +1,6 @@
 -- The conjunction of two limit tests: false where the first fails, else what the second says.
 use mathlib.Core.Path.{_∙_}
 use borrow.Author.Needs.{needs}
-use Rattle.book.specs.Market.{derivatives}
 use Rattle.book.specs.Table.{isLimit}
 use Rattle.memory_soundness.proofs.Asked.{answered-no, answered-yes}
 use Rattle.memory_judging.proofs.HandedOn.{test-handed-on}
@@ -10,14 +9,14 @@ use Rattle.memory_judging.proofs.ranges.both_limits.Tie as tie
 
 returns : tie.Need-returns
 returns c =
-    rw (answered-no _ _ (test-handed-on (isLimit derivatives) (c .before .before .fits .x) (c .before .is-limit .ensures)) (c .if1 .taken))
+    rw (answered-no _ _ (test-handed-on (isLimit _) (c .before .before .fits .x) (c .before .is-limit .ensures)) (c .if1 .taken))
 
 returns-2 : tie.Need-returns-2
 returns-2 c =
     let one = c .before in
     let f = one .before .before .fits in
-    test-handed-on (isLimit derivatives) (f .y) (c .is-limit2 .ensures)
-    ∙ rw (answered-yes _ _ (test-handed-on (isLimit derivatives) (f .x) (one .before .is-limit .ensures)) (one .if1 .left))
+    test-handed-on (isLimit _) (f .y) (c .is-limit2 .ensures)
+    ∙ rw (answered-yes _ _ (test-handed-on (isLimit _) (f .x) (one .before .is-limit .ensures)) (one .if1 .left))
 
 pub both-limits-spec : {M : Type 1} → statement M
 both-limits-spec = tie.close (tie.spec (λ c κs. search needs) returns (λ c κs. search needs) returns-2)

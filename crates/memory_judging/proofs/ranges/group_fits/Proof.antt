@@ -2,9 +2,8 @@
 use mathlib.Core.Path.{_∙_, sym}
 use mathlib.Core.Bool.{_&&_}
 use borrow.Author.Needs.{needs}
-use Rattle.book.specs.Market.{derivatives}
 use Rattle.book.specs.Books.{isMinusOne}
-use Rattle.book.specs.Table.{isLimit}
+use Rattle.memory_judging.proofs.Figures.{bothLimits}
 use Rattle.memory_judging.proofs.HandedOn.{tests-handed-on}
 use Rattle.memory_judging.proofs.ranges.group_fits.Statement.{statement}
 use Rattle.memory_judging.proofs.ranges.group_fits.Tie as tie
@@ -19,7 +18,7 @@ returns-2 : tie.Need-returns-2
 returns-2 c =
     let one = c .before in
     let f = one .before .before .fits in
-    tests-handed-on (λ x y. isLimit derivatives x && isLimit derivatives y) _ _ (f .lcc) (f .lvc) (c .both-limits .ensures)
+    tests-handed-on (bothLimits (one .before .before .args .largest)) _ _ (f .lcc) (f .lvc) (c .both-limits .ensures)
     ∙ rw (sym (tests-handed-on (λ x y. isMinusOne x && isMinusOne y) _ _ (f .lcc) (f .lvc) (one .before .both-minus-one .ensures))
     ∙ one .if1 .left)
 

@@ -1,14 +1,29 @@
--- The bounds 0 and 1,000,000,000 that `in_range` is called with are those of a limit in the market of derivatives.
-use borrow.Author.Needs.{needs}
-use Rattle.book.specs.Market.{derivatives}
-use Rattle.book.specs.Table.{isLimit}
-use Rattle.memory_judging.proofs.HandedOn.{test-handed-on}
+-- A negative number is no limit; of any other the comparison is of its size.
+use mathlib.Core.Path.{sym}
+use mir.Syntax.{w64}
+use mir.ValLaws.{toZ-ofZ}
+use Rattle.integers.specs.Parts.{signed, magnitude-parts}
+use Rattle.memory_judging.proofs.Figures.{negative-no-limit, limit-by-size}
 use Rattle.memory_judging.proofs.ranges.is_limit.Statement.{statement}
 use Rattle.memory_judging.proofs.ranges.is_limit.Tie as tie
 
 returns : tie.Need-returns
-unfolding derivatives
-returns c = test-handed-on (isLimit derivatives) (c .before .fits .z) (c .in-range .ensures)
+returns c =
+    let s = c .before in
+    sym (negative-no-limit (s .args .largest) (s .args .z) (rw (toZ-ofZ w64 (s .args .z) (s .fits .z)) at (c .if1 .taken)))
+
+cast-result : tie.Need-cast-result
+cast-result c =
+    let s = c .before in
+    let same = toZ-ofZ w64 (s .args .z) (s .fits .z) in
+    let above = rw same at (c .if1 .left) in
+    rw same (omega signed, omega (signed, magnitude-parts (s .args .z)))
+
+returns-2 : tie.Need-returns-2
+returns-2 c =
+    let s = c .before in
+    let same = toZ-ofZ w64 (s .args .z) (s .fits .z) in
+    rw same (sym (limit-by-size (s .args .largest) (s .args .z) (rw same at (c .if1 .left))))
 
 pub is-limit-spec : {M : Type 1} → statement M
-is-limit-spec = tie.close (tie.spec (λ c κs. search needs) returns)
+is-limit-spec = tie.close (tie.spec returns cast-result returns-2)

@@ -2,13 +2,13 @@
 use mathlib.Core.Path.{_≡_, refl, sym, _∙_}
 use mathlib.Core.Bool.{Bool, true, false, not, cond}
 use borrow.Author.Needs.{needs}
-use lib.IntN.{pos, negsuc}
+use lib.IntN.{pos, negℤ}
 use Rattle.book.specs.declared.Event.the-variants.{Balance}
 use Rattle.limits.specs.Answers.{numberOf}
 use Rattle.book.specs.Decoding.{between}
 use Rattle.book.specs.Table.{betweenℤ}
 use Rattle.book.proofs.Tables.{between-numbered}
-use Rattle.memory_layout.specs.View.{rosterOf, tradingOf}
+use Rattle.memory_layout.specs.View.{marketOf, rosterOf, tradingOf}
 use Rattle.memory_layout.specs.Judged.{judged}
 use Rattle.memory_soundness.proofs.Bounded.{sound-readable}
 use Rattle.memory_soundness.proofs.Asked.{answered-no, answered-yes}
@@ -25,12 +25,11 @@ listed : (c : tie.Else2) → let a = c .before .before .before .before .before .
     between 1 (rosterOf (a .m .now) .instruments) (a .instrument) ≡ true
 listed c = answered-yes _ _ (c .before .instrument-known .ensures) (c .if2 .left)
 
-in-range : (c : tie.Else3) → let a = c .before .before .before .before .before .before .before .args in
-    betweenℤ (negsuc 999999999) (pos 1000000000) (a .balance) ≡ true
-in-range c =
-    let s = c .before .before .before .before .before .before .before in
-    answered-yes _ _ (test-handed-on (betweenℤ (negsuc 999999999) (pos 1000000000)) (s .fits .balance) (c .before .in-range .ensures))
-    (c .if3 .left)
+-- the third's answer z, of the market's largest figure
+ranged : (c : tie.After-is-balance) (z : Bool) → let a = c .before .before .before .before .before .before .before .args in
+    betweenℤ (negℤ (pos (c .before .market .result .largest))) (pos (c .before .market .result .largest)) (a .balance) ≡ z
+    → betweenℤ (negℤ (pos (marketOf (a .m .now) .largest))) (pos (marketOf (a .m .now) .largest)) (a .balance) ≡ z
+ranged c z e = rw (c .before .market .ensures) at e
 
 returns : tie.Need-returns
 unfolding numberOf
@@ -42,28 +41,36 @@ returns-2 c =
     sym (balance-answer _ _ _ _ true false _ _ (known (c .before .before))
     (answered-no _ _ (c .before .instrument-known .ensures) (c .if2 .taken)) refl refl)
 
+-- what `is_balance` says is of the balance itself
+said : (c : tie.After-is-balance) → let s = c .before .before .before .before .before .before .before in
+    let most = c .before .market .result .largest in
+    c .is-balance .result ≡ betweenℤ (negℤ (pos most)) (pos most) (s .args .balance)
+said c =
+    let s = c .before .before .before .before .before .before .before in
+    let most = c .before .market .result .largest in
+    test-handed-on (betweenℤ (negℤ (pos most)) (pos most)) (s .fits .balance) (c .is-balance .ensures)
+
 returns-3 : tie.Need-returns-3
 unfolding numberOf
 returns-3 c =
-    let two = c .before .before in
-    let s = two .before .before .before .before .before in
+    let two = c .before .before .before in
     sym (balance-answer _ _ _ _ true true false _ (known (two .before .before)) (listed two)
-    (answered-no _ _ (test-handed-on (betweenℤ (negsuc 999999999) (pos 1000000000)) (s .fits .balance) (c .before .in-range .ensures))
-    (c .if3 .taken)) refl)
+    (ranged (c .before) false (answered-no _ _ (said (c .before)) (c .if3 .taken))) refl)
 
 is-trading-requires : tie.Need-is-trading-requires
 is-trading-requires c κs =
-    let one = c .before .before .before .before in
+    let one = c .before .before .before .before .before in
     let s = one .before .before .before in
     (sound-readable _ (s .pre), between-numbered (rosterOf (s .args .m .now) .accounts) (s .args .account) (known one))
 
 -- the three tests are passed, and t says whether the account trades
-answered : (c : tie.After-is-trading) (t : Bool) → let a = c .before .before .before .before .before .before .before .before .args in
+answered : (c : tie.After-is-trading) (t : Bool) → let a = c .before .before .before .before .before .before .before .before .before .args in
     tradingOf (a .m .now) (a .account) ≡ t → judged (a .m .now) (Balance (a .account) (a .instrument) (a .balance)) ≡ cond (not t) 0 10
 answered c t e =
     let three = c .before in
-    let two = three .before .before in
-    balance-answer _ _ _ _ true true true t (known (two .before .before)) (listed two) (in-range three) e
+    let two = three .before .before .before in
+    balance-answer _ _ _ _ true true true t (known (two .before .before)) (listed two)
+    (ranged (three .before) true (answered-yes _ _ (said (three .before)) (three .if3 .left))) e
 
 returns-4 : tie.Need-returns-4
 unfolding numberOf
@@ -75,5 +82,5 @@ returns-5 c = sym (answered (c .before) false (sym (c .before .is-trading .ensur
 
 pub judge-balance-spec : {M : Type 1} → statement M
 judge-balance-spec =
-    tie.close (tie.spec (λ c κs. search needs) returns (λ c κs. search needs) returns-2 (λ c κs. search needs) returns-3 is-trading-requires
+    tie.close (tie.spec (λ c κs. search needs) returns (λ c κs. search needs) returns-2 (λ c κs. search needs) (λ c κs. search needs) returns-3 is-trading-requires
     returns-4 returns-5)

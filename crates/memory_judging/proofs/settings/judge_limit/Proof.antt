@@ -3,7 +3,6 @@ use mathlib.Core.Path.{_≡_, refl, sym}
 use mathlib.Core.Bool.{Bool, true, false, cond}
 use borrow.Author.Needs.{needs}
 use Rattle.book.specs.declared.Event.the-variants.{Limit}
-use Rattle.book.specs.Market.{derivatives}
 use Rattle.limits.specs.Answers.{numberOf}
 use Rattle.book.specs.Decoding.{between}
 use Rattle.book.specs.Names.{limitedItem}
@@ -33,9 +32,11 @@ returns-2 c =
     refl)
 
 -- the two questions before the figures are passed, and z says whether those fit
-answered : (c : tie.After-limit-fits) (z : Bool) → let a = c .before .before .before .before .before .before .args in
-    lineFits derivatives (a .line) ≡ z → judged (a .m .now) (Limit (a .account) (a .line)) ≡ cond z 0 9
-answered c z e = limit-answer _ _ _ true true z (known (c .before .before .before)) (listed (c .before)) e
+answered : (c : tie.After-limit-fits) (z : Bool) → let a = c .before .before .before .before .before .before .before .args in
+    lineFits (c .before .market .result .largest) (a .line) ≡ z → judged (a .m .now) (Limit (a .account) (a .line)) ≡ cond z 0 9
+answered c z e =
+    let two = c .before .before in
+    limit-answer _ _ _ true true z (known (two .before .before)) (listed two) (rw (c .before .market .ensures) at e)
 
 returns-3 : tie.Need-returns-3
 unfolding numberOf
@@ -47,4 +48,4 @@ returns-4 c = sym (answered (c .before) true (answered-yes _ _ (c .before .limit
 
 pub judge-limit-spec : {M : Type 1} → statement M
 judge-limit-spec =
-    tie.close (tie.spec (λ c κs. search needs) returns (λ c κs. search needs) returns-2 (λ c κs. search needs) returns-3 returns-4)
+    tie.close (tie.spec (λ c κs. search needs) returns (λ c κs. search needs) returns-2 (λ c κs. search needs) (λ c κs. search needs) returns-3 returns-4)

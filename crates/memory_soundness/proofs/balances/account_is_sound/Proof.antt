@@ -9,36 +9,26 @@ use Rattle.memory_layout.specs.Rosters.{every}
 use Rattle.memory_layout.specs.View.{rosterOf}
 use Rattle.memory_soundness.specs.Soundness.{instrumentSound, accountSound}
 use Rattle.memory_layout.proofs.Every.{every-none, every-no, every-on, every-all}
-use Rattle.memory_layout.proofs.FieldsRead.{balances-long}
 use Rattle.memory_soundness.proofs.PositionTests.{row-small}
 use Rattle.memory_soundness.proofs.balances.account_is_sound.Statement.{statement}
 use Rattle.memory_soundness.proofs.balances.account_is_sound.Tie as tie
 
 abbrev Inv-loop : tie.InvT-loop
-Inv-loop m cells a n j₀ j = (n ≡ rosterOf m .instruments) × (j ≤ n) × (every j (instrumentSound m a) ≡ true)
+Inv-loop m market cells a n j₀ j = (n ≡ rosterOf m .instruments) × (j ≤ n) × (every j (instrumentSound m a) ≡ true)
 
 abbrev μ-loop : tie.MeasureT-loop
-μ-loop m cells a n j₀ j = n - j
-
-balances-requires : tie.Need-balances-requires Inv-loop μ-loop
-balances-requires c κs = (c .before .pre .0 .long, omega (arith, c .before .pre .2, c .before .pre .0 .accounts))
-
-all-small-requires : tie.Need-all-small-requires Inv-loop μ-loop
-all-small-requires c κs =
-    let s = c .before .before in
-    rw (c .balances .ensures) (omega (arith, balances-long _ _ (s .pre .2) (s .pre .0)))
+μ-loop m market cells a n j₀ j = n - j
 
 instrument-is-sound-requires : tie.Need-instrument-is-sound-requires Inv-loop μ-loop
 instrument-is-sound-requires c κs =
-    let s = c .before .before .before .before .before .before .before in
-    (s .pre .0, s .pre .1, s .pre .2, (omega arith, omega arith))
+    let s = c .before .before .before .before .before .before in
+    (s .pre .0, s .pre .1, s .pre .2, (omega arith, omega arith), s .pre .3)
 
 returns : tie.Need-returns Inv-loop μ-loop
 unfolding accountSound
 returns c =
-    let row = c .before .before in
-    let s = row .before .before in
-    row-small _ _ _ (s .pre .0) (s .pre .1) (s .pre .2) (rw (row .balances .ensures) at (c .before .all-small .ensures (c .if1 .taken)))
+    let s = c .before .before .before in
+    row-small _ _ _ (s .pre .0) (s .pre .1) (s .pre .2) (rw (s .pre .3) at (c .before .balances-are-small .ensures (c .if1 .taken)))
 
 returns-2 : tie.Need-returns-2 Inv-loop μ-loop
 unfolding accountSound
@@ -57,6 +47,6 @@ returns-3 c = every-all _ _ (c .before .loop .j) (omega arith) (omega arith) (c 
 
 pub account-is-sound-spec : {M : Type 1} → statement M
 account-is-sound-spec =
-    tie.close (tie.spec Inv-loop μ-loop balances-requires all-small-requires returns (λ c κs. search needs) (λ c.
+    tie.close (tie.spec Inv-loop μ-loop (λ c κs. search needs) returns (λ c κs. search needs) (λ c.
     (c .instruments .ensures, omega arith, every-none _))
     (λ c. omega arith) instrument-is-sound-requires returns-2 (λ c. omega arith) (λ c. omega arith) loop-again returns-3)

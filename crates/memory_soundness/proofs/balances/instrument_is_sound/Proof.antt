@@ -10,6 +10,8 @@ use mir.Syntax.{w64}
 use mir.ValLaws.{toZ-ofZ}
 use Rattle.ledger.specs.declared.order.Side.the-variants.{Buy, Sell}
 use Rattle.ledger.proofs.Fits.{again}
+use Rattle.memory_layout.proofs.MarketRead.{market-most}
+use Rattle.memory_layout.specs.View.{marketOf}
 use Rattle.memory_soundness.specs.Soundness.{instrumentSound}
 use Rattle.memory_soundness.proofs.PositionTests.{cell-small, instrument-tested}
 use Rattle.memory_soundness.proofs.balances.instrument_is_sound.Statement.{statement}
@@ -25,30 +27,58 @@ of-requires-2 c κs =
     let s = c .before .before .before .before .before in
     omega (arith, cell-small _ _ _ _ (s .pre .0) (s .pre .1) (s .pre .2) (s .pre .3) Sell)
 
+of-requires-3 : tie.Need-of-requires-3
+of-requires-3 c κs =
+    let s = c .before .before .before .before .before .before in
+    omega (arith, s .pre .4, market-most (s .args .m .now))
+
+-- the largest figure as the code has it is the market's
+most : (c : tie.After-of3) → let s = c .before .before .before .before .before .before .before in
+    c .of3 .result .0 ≡ pos (marketOf (s .args .m .now) .largest)
+most c = c .of3 .ensures ∙ ap pos (c .before .before .before .before .before .before .before .pre .4)
+
 less-requires : tie.Need-less-requires
 less-requires c κs =
-    let b = c .before .before in
+    let b = c .before .before .before in
     let s = b .before .before .before .before in
-    omega (arith, ap natAbs (b .of .ensures), cell-small _ _ _ _ (s .pre .0) (s .pre .1) (s .pre .2) (s .pre .3) Buy)
+    omega (
+      arith,
+      ap natAbs (most c),
+      market-most (s .args .m .now),
+      ap natAbs (b .of .ensures),
+      cell-small _ _ _ _ (s .pre .0) (s .pre .1) (s .pre .2) (s .pre .3) Buy,
+    )
 
 less-requires-2 : tie.Need-less-requires-2
 less-requires-2 c κs =
-    let v = c .before .before .before in
+    let v = c .before .before .before .before in
     let s = v .before .before .before .before .before .before in
-    omega (arith, ap natAbs (v .of2 .ensures), cell-small _ _ _ _ (s .pre .0) (s .pre .1) (s .pre .2) (s .pre .3) Sell)
+    omega (
+      arith,
+      ap natAbs (most (c .before .before .before)),
+      market-most (s .args .m .now),
+      ap natAbs (v .of2 .ensures),
+      cell-small _ _ _ _ (s .pre .0) (s .pre .1) (s .pre .2) (s .pre .3) Sell,
+    )
 
 -- the first test, and what the second is to be
 tests : (c : tie.After-at-most) →
-    let s = c .before .before .before .before .before .before .before .before in
-    (z : ℤ) → z ≡ c .before .before .of2 .result .0 +ℤ negℤ (pos 1000000000) →
-    (c .at-most .result && leZ z (again (c .before .before .before .before .before .before .balance .result)))
+    let s = c .before .before .before .before .before .before .before .before .before in
+    (z : ℤ) → z ≡ c .before .before .before .of2 .result .0 +ℤ negℤ (c .before .before .of3 .result .0) →
+    (c .at-most .result && leZ z (again (c .before .before .before .before .before .before .before .balance .result)))
     ≡ instrumentSound (s .args .m .now) (s .args .a) (s .args .i)
 tests c z e =
-    let v = c .before .before in
+    let v = c .before .before .before in
     let b = v .before .before in
     let w = b .before .before in
     let s = w .before .before in
-    rw (c .at-most .ensures, c .before .less .ensures, e, toZ-ofZ w64 (w .balance .result) (record { sfits = w .balance .ok }))
+    rw (
+      c .at-most .ensures,
+      c .before .less .ensures,
+      e,
+      most (c .before .before),
+      toZ-ofZ w64 (w .balance .result) (record { sfits = w .balance .ok }),
+    )
     (instrument-tested _ _ _ _ (s .pre .0) (s .pre .1) (s .pre .2) (s .pre .3) _ _ _ (w .balance .ensures) (b .of .ensures)
     (v .of2 .ensures))
 
@@ -65,5 +95,5 @@ pub instrument-is-sound-spec : {M : Type 1} → statement M
 instrument-is-sound-spec =
     tie.close (tie.spec (λ c κs. search needs) (λ c. search needs)
     (λ c. search needs) (λ c. search needs) (λ c. search needs) of-requires (λ c. search needs) (λ c. search needs) (λ c. search needs)
-    (λ c. search needs) (λ c. search needs) of-requires-2 less-requires (λ c κs. search needs) returns less-requires-2
+    (λ c. search needs) (λ c. search needs) of-requires-2 of-requires-3 less-requires (λ c κs. search needs) returns less-requires-2
     (λ c κs. search needs) returns-2)

@@ -13,7 +13,8 @@ returns c = (rw (answered-no _ _ (c .before .orders-are-sound .ensures .0) (c .i
 positions-are-sound-requires : tie.Need-positions-are-sound-requires
 positions-are-sound-requires c κs =
     let at = c .before in
-    (at .before .before .before .before .pre .0, at .before .orders-are-sound .ensures .1 (not-false _ (at .if1 .left)))
+    let pre = at .before .before .before .before .pre in
+    (pre .0, at .before .orders-are-sound .ensures .1 (not-false _ (at .if1 .left)), pre .3)
 
 returns-2 : tie.Need-returns-2
 returns-2 c =

@@ -12,15 +12,15 @@ use Rattle.memory_soundness.proofs.balances.positions_are_sound.Stateme
 use Rattle.memory_soundness.proofs.balances.positions_are_sound.Tie as tie
 
 abbrev Inv-loop : tie.InvT-loop
-Inv-loop m cells n j₀ j = (n ≡ rosterOf m .accounts) × (j ≤ n) × (every j (accountSound m) ≡ true)
+Inv-loop m market cells n j₀ j = (n ≡ rosterOf m .accounts) × (j ≤ n) × (every j (accountSound m) ≡ true)
 
 abbrev μ-loop : tie.MeasureT-loop
-μ-loop m cells n j₀ j = n - j
+μ-loop m market cells n j₀ j = n - j
 
 account-is-sound-requires : tie.Need-account-is-sound-requires Inv-loop μ-loop
 account-is-sound-requires c κs =
     let s = c .before .before .before .before in
-    (s .pre .0, s .pre .1, (omega arith, omega arith))
+    (s .pre .0, s .pre .1, (omega arith, omega arith), s .pre .2)
 
 returns : tie.Need-returns Inv-loop μ-loop
 unfolding positionsSound

@@ -1,4 +1,4 @@
--- Every number is at most the bits of all, so where that is at most 1,000,000,000 each is: a word's two figures are two of them.
+-- Every number is at most the bits of all, so where that is at most `largest` each is: a word's two figures are two of them.
 -- A no says nothing.
 use Prim.Native.Nat.{_+_, _*_}
 use mathlib.Core.Path.{_≡_}
@@ -16,7 +16,7 @@ returns c e j l =
     let known = c .before in
     let first : j * 2 * 4 ≡ j * 8 = omega arith in
     let second : (j * 2 + 1) * 4 ≡ j * 8 + 4 = omega arith in
-    let most = leb-true (c .bits-of-all .result) 1000000000 e in
+    let most = leb-true (c .bits-of-all .result) _ e in
     let lower = rw first at (c .bits-of-all .ensures (j * 2) (omega arith) (omega arith)) in
     let upper = rw second at (c .bits-of-all .ensures (j * 2 + 1) (omega arith) (omega arith)) in
     record {
@@ -25,4 +25,4 @@ returns c e j l =
     }
 
 pub all-in-range-spec : {M : Type 1} → statement M
-all-in-range-spec = tie.close (tie.spec (λ c. search needs) (λ c κs. search needs) returns)
+all-in-range-spec = tie.close (tie.spec (λ c. search needs) (λ c κs. search needs) (λ c. search needs) returns)

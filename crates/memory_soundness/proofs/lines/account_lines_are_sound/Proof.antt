@@ -3,7 +3,7 @@ use mathlib.Core.Path.{_≡_, _∙_, sym, ap}
 use native.Mathlib.Omega.{arith}
 use borrow.Author.Needs.{needs}
 use Rattle.memory_layout.specs.Rosters.{every}
-use Rattle.memory_layout.specs.View.{rosterOf, ownFigures, defaultFigures, groupFigures}
+use Rattle.memory_layout.specs.View.{marketOf, rosterOf, ownFigures, defaultFigures, groupFigures}
 use Rattle.memory_layout.proofs.Every.{every-same}
 use Rattle.memory_layout.proofs.LinesInRows.{row-long, own-long, default-long, groups-long, own-figures, default-figures, group-figures}
 use Rattle.memory_soundness.specs.Soundness.{lineInRange, groupLineInRange, accountLinesSound}
@@ -36,36 +36,36 @@ group-row-in-range-requires c κs =
 
 -- what each call says of the account's rows
 own : (c : tie.After-row-in-range) → let a = c .before .before .before .before .before .before .before .args in
-    c .row-in-range .result ≡ every (rosterOf (a .m .now) .instruments) (λ i. lineInRange (ownFigures (a .m .now) (a .a) i))
+    c .row-in-range .result ≡ every (rosterOf (a .m .now) .instruments) (λ i. lineInRange (marketOf (a .m .now) .largest) (ownFigures (a .m .now) (a .a) i))
 own c =
     let s = c .before .before .before .before .before .before .before in
     c .row-in-range .ensures
-    ∙ rw (c .before .instruments .ensures, c .before .before .own-lines .ensures)
-    (every-same _ _ _ (λ i h. ap lineInRange (own-figures _ (s .pre .0) _ (s .pre .1) i h)))
+    ∙ rw (c .before .instruments .ensures, s .pre .2, c .before .before .own-lines .ensures)
+    (every-same _ _ _ (λ i h. ap (lineInRange _) (own-figures _ (s .pre .0) _ (s .pre .1) i h)))
 
 default : (c : tie.After-row-in-range2) → let a =
     c .before .before .before .before .before .before .before .before .before .before .before .args in
-    c .row-in-range2 .result ≡ every (rosterOf (a .m .now) .contracts) (λ i. lineInRange (defaultFigures (a .m .now) (a .a) i))
+    c .row-in-range2 .result ≡ every (rosterOf (a .m .now) .contracts) (λ i. lineInRange (marketOf (a .m .now) .largest) (defaultFigures (a .m .now) (a .a) i))
 default c =
     let s = c .before .before .before .before .before .before .before .before .before .before .before in
     c .row-in-range2 .ensures
-    ∙ rw (c .before .contracts .ensures, c .before .before .default-lines .ensures)
-    (every-same _ _ _ (λ i h. ap lineInRange (default-figures _ (s .pre .0) _ (s .pre .1) i h)))
+    ∙ rw (c .before .contracts .ensures, s .pre .2, c .before .before .default-lines .ensures)
+    (every-same _ _ _ (λ i h. ap (lineInRange _) (default-figures _ (s .pre .0) _ (s .pre .1) i h)))
 
 of-group : (c : tie.After-group-row-in-range) → let a =
     c .before .before .before .before .before .before .before .before .before .before .before .before .before .before .before .args in
-    c .group-row-in-range .result ≡ every (rosterOf (a .m .now) .groups) (λ i. groupLineInRange (groupFigures (a .m .now) (a .a) i))
+    c .group-row-in-range .result ≡ every (rosterOf (a .m .now) .groups) (λ i. groupLineInRange (marketOf (a .m .now) .largest) (groupFigures (a .m .now) (a .a) i))
 of-group c =
     let s = c .before .before .before .before .before .before .before .before .before .before .before .before .before .before .before in
     c .group-row-in-range .ensures
-    ∙ rw (c .before .groups .ensures, c .before .before .group-lines .ensures)
-    (every-same _ _ _ (λ i h. ap groupLineInRange (group-figures _ (s .pre .0) _ (s .pre .1) i h)))
+    ∙ rw (c .before .groups .ensures, s .pre .2, c .before .before .group-lines .ensures)
+    (every-same _ _ _ (λ i h. ap (groupLineInRange _) (group-figures _ (s .pre .0) _ (s .pre .1) i h)))
 
 returns : tie.Need-returns
 returns c =
     let row = c .before .before in
     let s = row .before .before in
-    sym (row-within _ (s .pre .0) _ (s .pre .1) (rw (row .lines-row .ensures) at (c .before .all-in-range .ensures (c .if1 .taken))))
+    sym (row-within _ (s .pre .0) _ (s .pre .1) (rw (row .lines-row .ensures, s .pre .2) at (c .before .all-in-range .ensures (c .if1 .taken))))
 
 returns-2 : tie.Need-returns-2
 unfolding accountLinesSound

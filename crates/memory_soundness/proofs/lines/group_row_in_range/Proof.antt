@@ -8,10 +8,10 @@ use Rattle.memory_soundness.proofs.lines.group_row_in_range.Statement.{
 use Rattle.memory_soundness.proofs.lines.group_row_in_range.Tie as tie
 
 abbrev Inv-loop : tie.InvT-loop
-Inv-loop row n j₀ j = SoFar (λ i. groupLineInRange (groupLineAt row i)) n j
+Inv-loop row n largest j₀ j = SoFar (λ i. groupLineInRange largest (groupLineAt row i)) n j
 
 abbrev μ-loop : tie.MeasureT-loop
-μ-loop row n j₀ j = n - j
+μ-loop row n largest j₀ j = n - j
 
 pub group-row-in-range-spec : {M : Type 1} → statement M
 group-row-in-range-spec =

@@ -10,15 +10,15 @@ use Rattle.memory_soundness.proofs.lines.lines_are_sound.Statement.{sta
 use Rattle.memory_soundness.proofs.lines.lines_are_sound.Tie as tie
 
 abbrev Inv-loop : tie.InvT-loop
-Inv-loop m n j₀ j = (n ≡ rosterOf m .accounts) × SoFar (accountLinesSound m) (rosterOf m .accounts) j
+Inv-loop m market n j₀ j = (n ≡ rosterOf m .accounts) × SoFar (accountLinesSound m) (rosterOf m .accounts) j
 
 abbrev μ-loop : tie.MeasureT-loop
-μ-loop m n j₀ j = n - j
+μ-loop m market n j₀ j = n - j
 
 account-lines-are-sound-requires : tie.Need-account-lines-are-sound-requires Inv-loop μ-loop
 account-lines-are-sound-requires c κs =
     let s = c .before .before .before .before in
-    (s .pre, (omega arith, omega arith))
+    (s .pre .0, (omega arith, omega arith), s .pre .1)
 
 loop-again : tie.Need-loop-again Inv-loop μ-loop
 loop-again c =

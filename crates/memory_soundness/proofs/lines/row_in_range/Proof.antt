@@ -8,10 +8,10 @@ use Rattle.memory_soundness.proofs.lines.row_in_range.Statement.{statem
 use Rattle.memory_soundness.proofs.lines.row_in_range.Tie as tie
 
 abbrev Inv-loop : tie.InvT-loop
-Inv-loop row n j₀ j = SoFar (λ i. lineInRange (lineAt row (i * 2))) n j
+Inv-loop row n largest j₀ j = SoFar (λ i. lineInRange largest (lineAt row (i * 2))) n j
 
 abbrev μ-loop : tie.MeasureT-loop
-μ-loop row n j₀ j = n - j
+μ-loop row n largest j₀ j = n - j
 
 pub row-in-range-spec : {M : Type 1} → statement M
 row-in-range-spec =

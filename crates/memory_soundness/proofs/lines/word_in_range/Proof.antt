@@ -1,4 +1,4 @@
--- A word's lower and upper half are the group line's two figures, and each is compared with 1,000,000,000.
+-- A word's lower and upper half are the group line's two figures, and each is compared with the largest.
 use mathlib.Core.Path.{ap}
 use borrow.Author.Needs.{needs}
 use Rattle.words.specs.Words.{lower}

@@ -8,26 +8,26 @@ use Rattle.memory_working.proofs.settings.limits_of.Tie as tie
 cast-t2 : tie.Need-cast-t2
 cast-t2 c =
     let start = c .before .before in
-    limit-cast (start .args .figures .tci) (record { sfits = c .struct-told .given .0 .1 })
-    (all-limits _ (start .pre .0) (start .pre .1) .tci)
+    limit-cast _ (start .pre .0 .most) (start .args .figures .tci) (record { sfits = c .struct-told .given .0 .1 })
+    (all-limits _ _ (start .pre .0 .fits) (start .pre .1) .tci)
 
 cast-t3 : tie.Need-cast-t3
 cast-t3 c =
     let start = c .before .before .before .before in
-    limit-cast (start .args .figures .tvi) (record { sfits = c .struct-told2 .given .1 .0 .1 })
-    (all-limits _ (start .pre .0) (start .pre .1) .tvi)
+    limit-cast _ (start .pre .0 .most) (start .args .figures .tvi) (record { sfits = c .struct-told2 .given .1 .0 .1 })
+    (all-limits _ _ (start .pre .0 .fits) (start .pre .1) .tvi)
 
 cast-t4 : tie.Need-cast-t4
 cast-t4 c =
     let start = c .before .before .before .before .before .before in
-    limit-cast (start .args .figures .lci) (record { sfits = c .struct-told3 .given .1 .1 .0 .1 })
-    (all-limits _ (start .pre .0) (start .pre .1) .lci)
+    limit-cast _ (start .pre .0 .most) (start .args .figures .lci) (record { sfits = c .struct-told3 .given .1 .1 .0 .1 })
+    (all-limits _ _ (start .pre .0 .fits) (start .pre .1) .lci)
 
 cast-t5 : tie.Need-cast-t5
 cast-t5 c =
     let start = c .before .before .before .before .before .before .before .before in
-    limit-cast (start .args .figures .lvi) (record { sfits = c .struct-told4 .given .1 .1 .1 .0 .1 })
-    (all-limits _ (start .pre .0) (start .pre .1) .lvi)
+    limit-cast _ (start .pre .0 .most) (start .args .figures .lvi) (record { sfits = c .struct-told4 .given .1 .1 .1 .0 .1 })
+    (all-limits _ _ (start .pre .0 .fits) (start .pre .1) .lvi)
 
 returns : tie.Need-returns
 returns c =

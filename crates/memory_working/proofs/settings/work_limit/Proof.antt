@@ -5,7 +5,7 @@ use native.Mathlib.Omega.{arith}
 use borrow.Author.Needs.{needs}
 use Rattle.memory_working.proofs.AcceptedFacts.{accepted-facts}
 use Rattle.memory_working.proofs.Rooms.{room}
-use Rattle.memory_working.proofs.LineFigures.{ready-line, worked-line, group-handed}
+use Rattle.memory_working.proofs.LineFigures.{storable-figures, ready-line, worked-line, group-handed}
 use Rattle.memory_working.proofs.settings.work_limit.Statement.{statement}
 use Rattle.memory_working.proofs.settings.work_limit.Tie as tie
 
@@ -17,7 +17,7 @@ own-line-requires c κs =
 work-line-requires : tie.Need-work-line-requires
 work-line-requires c κs =
     let ready = ready-line (c .before .before .before .line .given .1) (c .before .before .before .before .before .before .pre) in
-    (omega (arith, room ready), omega (arith, room ready), accepted-facts _ (ready .held) _ (ready .accepted) .2)
+    (omega (arith, room ready), omega (arith, room ready), storable-figures _ _ (accepted-facts _ (ready .held) _ (ready .accepted) .2))
 
 default-line-requires : tie.Need-default-line-requires
 default-line-requires c κs =
@@ -27,7 +27,7 @@ default-line-requires c κs =
 work-line-requires-2 : tie.Need-work-line-requires-2
 work-line-requires-2 c κs =
     let ready = ready-line (c .before .before .before .line2 .given .1) (c .before .before .before .before .before .before .pre) in
-    (omega (arith, room ready), omega (arith, room ready), accepted-facts _ (ready .held) _ (ready .accepted) .2)
+    (omega (arith, room ready), omega (arith, room ready), storable-figures _ _ (accepted-facts _ (ready .held) _ (ready .accepted) .2))
 
 work-of-group-requires : tie.Need-work-of-group-requires
 work-of-group-requires c κs =

@@ -6,9 +6,8 @@ use Rattle.words.proofs.Complement.{read-signed}
 use Rattle.words.proofs.fields.i32_at.Statement.{statement}
 use Rattle.words.proofs.fields.i32_at.Tie as tie
 
-returns : tie.Need-returns
-unfolding u32At i32At
-returns c = read-signed w32 _ (record { sfits = c .signed32 .ok }) (c .signed32 .ensures) (c .before .u32-at .ensures)
-
 pub i32-at-spec : {M : Type 1} → statement M
-i32-at-spec = tie.close (tie.spec (λ c κs. search needs) (λ c κs. search needs) returns)
+unfolding u32At i32At
+i32-at-spec =
+    tie.close (tie.spec (λ c κs. search needs) (λ c κs. search needs)
+    (λ c. read-signed w32 _ (record { sfits = c .signed32 .ok }) (c .signed32 .ensures) (c .before .u32-at .ensures)))

@@ -6,9 +6,8 @@ use Rattle.words.proofs.Complement.{read-signed}
 use Rattle.words.proofs.fields.i64_at.Statement.{statement}
 use Rattle.words.proofs.fields.i64_at.Tie as tie
 
-returns : tie.Need-returns
-unfolding u64At i64At
-returns c = read-signed w64 _ (record { sfits = c .signed64 .ok }) (c .signed64 .ensures) (c .before .u64-at .ensures)
-
 pub i64-at-spec : {M : Type 1} → statement M
-i64-at-spec = tie.close (tie.spec (λ c κs. search needs) (λ c κs. search needs) returns)
+unfolding u64At i64At
+i64-at-spec =
+    tie.close (tie.spec (λ c κs. search needs) (λ c κs. search needs)
+    (λ c. read-signed w64 _ (record { sfits = c .signed64 .ok }) (c .signed64 .ensures) (c .before .u64-at .ensures)))

@@ -13,10 +13,8 @@ cast-result c =
     let byte = c .before .shared-slice-known3 .given in
     omega (arith, c .join .ensures, byte a, byte (a + 1))
 
-returns : tie.Need-returns
-unfolding u16At number
-returns c = c .join .ensures
-
 pub u16-at-spec : {M : Type 1} → statement M
+unfolding u16At number
 u16-at-spec =
-    tie.close (tie.spec (λ c. search needs) (λ c. search needs) (λ c. search needs) (λ c κs. search needs) cast-result returns)
+    tie.close (tie.spec (λ c. search needs) (λ c. search needs) (λ c. search needs) (λ c κs. search needs) cast-result
+    (λ c. c .join .ensures))

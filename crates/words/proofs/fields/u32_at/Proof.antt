@@ -14,11 +14,8 @@ cast-result c =
     let byte = c .before .shared-slice-known5 .given in
     omega (arith, c .join .ensures, byte a, byte (a + 1), byte (a + 2), byte (a + 3))
 
-returns : tie.Need-returns
-unfolding u32At
-returns c = c .join .ensures ∙ sym (number-four _ _)
-
 pub u32-at-spec : {M : Type 1} → statement M
+unfolding u32At
 u32-at-spec =
     tie.close (tie.spec (λ c. search needs) (λ c. search needs) (λ c. search needs) (λ c. search needs) (λ c. search needs)
-    (λ c. search needs) (λ c. search needs) (λ c κs. search needs) cast-result returns)
+    (λ c. search needs) (λ c. search needs) (λ c κs. search needs) cast-result (λ c. c .join .ensures ∙ sym (number-four _ _)))

@@ -6,9 +6,6 @@ use Rattle.words.specs.Fields.{u8At}
 use Rattle.words.proofs.fields.u8_at.Statement.{statement}
 use Rattle.words.proofs.fields.u8_at.Tie as tie
 
-returns : tie.Need-returns
-unfolding u8At number
-returns c = omega arith
-
 pub u8-at-spec : {M : Type 1} → statement M
-u8-at-spec = tie.close (tie.spec (λ c. search needs) returns)
+unfolding u8At number
+u8-at-spec = tie.close (tie.spec (λ c. search needs) (λ c. omega arith))

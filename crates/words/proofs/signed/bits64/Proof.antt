@@ -16,9 +16,6 @@ negative c = omega (signed, read-back w64 (c .before .args .z) (c .before .fits 
 natural : (c : tie.Else1) → pos 0 ≤ℤ c .before .args .z
 natural c = omega (signed, read-back w64 (c .before .args .z) (c .before .fits .z))
 
-sub-result : tie.Need-sub-result
-sub-result c = below-fits w64 (c .before .args .z) (c .before .fits .z) (negative c)
-
 cast-result : tie.Need-cast-result
 cast-result c =
     let z = c .before .args .z in
@@ -42,11 +39,7 @@ returns c =
     let z = c .before .args .z in
     rw (below-read w64 z (c .before .fits .z) (negative c), bits-negative 64 z (negative c)) (omega (signed, negative c, magnitude-parts z))
 
-returns-2 : tie.Need-returns-2
-returns-2 c =
-    let z = c .before .args .z in
-    rw (read-back w64 z (c .before .fits .z)) (sym (bits-nonneg 64 z (natural c)))
-
 pub bits64-spec : {M : Type 1} → statement M
 bits64-spec =
-    tie.close (tie.spec sub-result cast-result sub-result-2 cast-result-2 returns returns-2)
+    tie.close (tie.spec (λ c. below-fits w64 (c .before .args .z) (c .before .fits .z) (negative c)) cast-result sub-result-2 cast-result-2
+    returns (λ c. let z = c .before .args .z in rw (read-back w64 z (c .before .fits .z)) (sym (bits-nonneg 64 z (natural c)))))

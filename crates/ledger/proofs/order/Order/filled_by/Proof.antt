@@ -5,9 +5,6 @@ use Rattle.ledger.specs.Orders.{filledBy}
 use Rattle.ledger.proofs.order.Order.filled_by.Statement.{statement}
 use Rattle.ledger.proofs.order.Order.filled_by.Tie as tie
 
-returns : tie.Need-returns
-unfolding filledBy
-returns c = refl
-
 pub filled-by-spec : {M : Type 1} → statement M
-filled-by-spec = tie.close (tie.spec (λ c. search needs) returns)
+unfolding filledBy
+filled-by-spec = tie.close (tie.spec (λ c. search needs) (λ c. refl))

@@ -4,9 +4,6 @@ use Rattle.ledger.specs.Orders.{replacedTotal}
 use Rattle.ledger.proofs.order.Order.replaced_total.Statement.{statement}
 use Rattle.ledger.proofs.order.Order.replaced_total.Tie as tie
 
-returns : tie.Need-returns
-unfolding replacedTotal
-returns c = refl
-
 pub replaced-total-spec : {M : Type 1} → statement M
-replaced-total-spec = tie.close (tie.spec returns)
+unfolding replacedTotal
+replaced-total-spec = tie.close (tie.spec (λ c. refl))

@@ -3,11 +3,8 @@ use Rattle.ledger.proofs.Fits.{difference-fits, difference-again}
 use Rattle.ledger.proofs.units.Contracts.less.Statement.{statement}
 use Rattle.ledger.proofs.units.Contracts.less.Tie as tie
 
-sub-t3 : tie.Need-sub-t3
-sub-t3 c = let at = c .before .before .before .before in difference-fits (at .args .self .0) (at .args .taken .0) (at .pre)
-
-returns : tie.Need-returns
-returns c = let at = c .before .before .before .before in difference-again (at .args .self .0) (at .args .taken .0) (at .pre)
-
 pub less-spec : {M : Type 1} → statement M
-less-spec = tie.close (tie.spec sub-t3 returns)
+less-spec =
+    tie.close (tie.spec
+    (λ c. let at = c .before .before .before .before in difference-fits (at .args .self .0) (at .args .taken .0) (at .pre))
+    (λ c. let at = c .before .before .before .before in difference-again (at .args .self .0) (at .args .taken .0) (at .pre)))

@@ -3,11 +3,7 @@ use Rattle.ledger.proofs.Fits.{negation-fits, negation-again}
 use Rattle.ledger.proofs.units.Contracts.negated.Statement.{statement}
 use Rattle.ledger.proofs.units.Contracts.negated.Tie as tie
 
-sub-t2 : tie.Need-sub-t2
-sub-t2 c = let at = c .before .before in negation-fits (at .args .self .0) (at .pre)
-
-returns : tie.Need-returns
-returns c = let at = c .before .before in negation-again (at .args .self .0) (at .pre)
-
 pub negated-spec : {M : Type 1} → statement M
-negated-spec = tie.close (tie.spec sub-t2 returns)
+negated-spec =
+    tie.close (tie.spec (λ c. let at = c .before .before in negation-fits (at .args .self .0) (at .pre))
+    (λ c. let at = c .before .before in negation-again (at .args .self .0) (at .pre)))

@@ -6,8 +6,5 @@ use mir.ValLaws.{toZ-pos}
 use Rattle.ledger.proofs.units.Contracts.of.Statement.{statement}
 use Rattle.ledger.proofs.units.Contracts.of.Tie as tie
 
-returns : tie.Need-returns
-returns c = toZ-pos w64 _ (omega (arith, c .pre))
-
 pub of-spec : {M : Type 1} → statement M
-of-spec = tie.close (tie.spec (λ c. search needs) returns)
+of-spec = tie.close (tie.spec (λ c. search needs) (λ c. toZ-pos w64 _ (omega (arith, c .pre))))

@@ -3,11 +3,7 @@ use Rattle.ledger.proofs.Fits.{sum-fits, sum-again}
 use Rattle.ledger.proofs.units.Contracts.plus.Statement.{statement}
 use Rattle.ledger.proofs.units.Contracts.plus.Tie as tie
 
-add-t3 : tie.Need-add-t3
-add-t3 c = let at = c .before .before .before .before in sum-fits (at .args .self .0) (at .args .other .0) (at .pre)
-
-returns : tie.Need-returns
-returns c = let at = c .before .before .before .before in sum-again (at .args .self .0) (at .args .other .0) (at .pre)
-
 pub plus-spec : {M : Type 1} → statement M
-plus-spec = tie.close (tie.spec add-t3 returns)
+plus-spec =
+    tie.close (tie.spec (λ c. let at = c .before .before .before .before in sum-fits (at .args .self .0) (at .args .other .0) (at .pre))
+    (λ c. let at = c .before .before .before .before in sum-again (at .args .self .0) (at .args .other .0) (at .pre)))

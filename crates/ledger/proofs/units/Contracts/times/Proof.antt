@@ -3,11 +3,7 @@ use Rattle.ledger.proofs.Fits.{product-fits, product-again}
 use Rattle.ledger.proofs.units.Contracts.times.Statement.{statement}
 use Rattle.ledger.proofs.units.Contracts.times.Tie as tie
 
-mul-t3 : tie.Need-mul-t3
-mul-t3 c = let at = c .before .before in product-fits (at .args .weight) (at .args .self .0) (at .pre .0) (at .pre .1)
-
-returns : tie.Need-returns
-returns c = let at = c .before .before in product-again (at .args .weight) (at .args .self .0) (at .pre .0) (at .pre .1)
-
 pub times-spec : {M : Type 1} → statement M
-times-spec = tie.close (tie.spec mul-t3 returns)
+times-spec =
+    tie.close (tie.spec (λ c. let at = c .before .before in product-fits (at .args .weight) (at .args .self .0) (at .pre .0) (at .pre .1))
+    (λ c. let at = c .before .before in product-again (at .args .weight) (at .args .self .0) (at .pre .0) (at .pre .1)))

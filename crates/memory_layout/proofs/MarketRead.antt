@@ -1,0 +1,25 @@
+-- The market of a memory: which word says it, and what is known of it.
+use Prim.Native.Nat.{ℕ, _≤_}
+use mathlib.Core.Path.{_≡_, ap}
+use mathlib.Core.List.{List}
+use Rattle.words.specs.Words.{wordAt}
+use Rattle.ledger.specs.Derivatives.{one}
+use Rattle.book.specs.Market.{derivatives, marketOfKind}
+use Rattle.book.proofs.MarketLaws.{unit-one, largest-most, market-of-one}
+use Rattle.memory_layout.specs.Layout.{kindWord}
+use Rattle.memory_layout.specs.View.{marketOf}
+
+pub market-same : (l m : List ℕ) → wordAt l kindWord ≡ wordAt m kindWord → marketOf l ≡ marketOf m
+market-same l m same = ap marketOfKind same
+
+-- one contract counts for 1
+pub market-unit : (m : List ℕ) → marketOf m .unit ≡ one
+market-unit m = unit-one (wordAt m kindWord)
+
+-- no figure is above 1,000,000,000
+pub market-most : (m : List ℕ) → marketOf m .largest ≤ 1000000000
+market-most m = largest-most (wordAt m kindWord)
+
+-- that of a desk of kind 1
+pub market-derivatives : (m : List ℕ) → wordAt m kindWord ≡ 1 → marketOf m ≡ derivatives
+market-derivatives m same = market-of-one (wordAt m kindWord) same
