@@ -4,9 +4,6 @@ use Rattle.ledger.specs.Records.{orderAt}
 use Rattle.ledger.proofs.records.load.Statement.{statement}
 use Rattle.ledger.proofs.records.load.Tie as tie
 
-returns : tie.Need-returns
-unfolding orderAt
-returns c = cc
-
 pub load-spec : {M : Type 1} → statement M
-load-spec = tie.close (tie.spec (λ c κs. search needs) (λ c κs. search needs) (λ c κs. search needs) returns)
+unfolding orderAt
+load-spec = tie.close (tie.spec (λ c κs. search needs) (λ c κs. search needs) (λ c κs. search needs) (λ c. cc))

@@ -7,9 +7,8 @@ use Rattle.ledger.proofs.Details.{moved}
 use Rattle.ledger.proofs.detail.Detail.filled_by.Statement.{statement}
 use Rattle.ledger.proofs.detail.Detail.filled_by.Tie as tie
 
-returns : tie.Need-returns
-unfolding filledBy orderOf
-returns c id = moved id _ _ _ _ (omega arith) (omega arith) (omega arith) (omega arith)
-
 pub filled-by-spec : {M : Type 1} → statement M
-filled-by-spec = tie.close (tie.spec (λ c. search needs) (λ c. search needs) (λ c. search needs) (λ c. search needs) returns)
+unfolding filledBy orderOf
+filled-by-spec =
+    tie.close (tie.spec (λ c. search needs) (λ c. search needs) (λ c. search needs) (λ c. search needs)
+    (λ c id. moved id _ _ _ _ (omega arith) (omega arith) (omega arith) (omega arith)))

@@ -13,20 +13,14 @@ add-t5 c =
     let o = start .args .o in
     omega (arith, c .before .pack .ensures, packed-below (o .account) (o .instrument) (start .pre .packable) (o .side))
 
-mul-t7 : tie.Need-mul-t7
-unfolding remaining
-mul-t7 c = omega arith
-
 add-t8 : tie.Need-add-t8
 unfolding detail remaining
 add-t8 c =
     let start = c .before .before .before in
     omega (arith, c .before .before .pack .ensures, detail-below (start .args .o) (start .pre))
 
-returns : tie.Need-returns
-unfolding detail remaining
-returns c = let start = c .before .before .before in rw (c .before .before .pack .ensures) (detail-back (start .args .o) (start .pre))
-
 pub of-spec : {M : Type 1} → statement M
+unfolding detail remaining
 of-spec =
-    tie.close (tie.spec (λ c κs. search needs) (λ c. search needs) add-t5 (λ c. search needs) mul-t7 add-t8 returns)
+    tie.close (tie.spec (λ c κs. search needs) (λ c. search needs) add-t5 (λ c. search needs) (λ c. omega arith) add-t8
+    (λ c. let start = c .before .before .before in rw (c .before .before .pack .ensures) (detail-back (start .args .o) (start .pre))))

@@ -4,11 +4,8 @@ use Rattle.ledger.specs.Records.{orderOf}
 use Rattle.ledger.proofs.detail.Detail.order.Statement.{statement}
 use Rattle.ledger.proofs.detail.Detail.order.Tie as tie
 
-returns : tie.Need-returns
-unfolding orderOf
-returns c = cc
-
 pub order-spec : {M : Type 1} → statement M
+unfolding orderOf
 order-spec =
     tie.close (tie.spec (λ c κs. search needs) (λ c κs. search needs) (λ c κs. search needs) (λ c κs. search needs) (λ c κs. search needs)
-    (λ c. search needs) returns)
+    (λ c. search needs) (λ c. cc))

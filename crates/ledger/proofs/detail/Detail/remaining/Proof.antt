@@ -5,8 +5,5 @@ use Rattle.ledger.proofs.Details.{remaining-of}
 use Rattle.ledger.proofs.detail.Detail.remaining.Statement.{statement}
 use Rattle.ledger.proofs.detail.Detail.remaining.Tie as tie
 
-returns : tie.Need-returns
-returns c id = c .remaining-of .ensures ∙ sym (remaining-of id _)
-
 pub remaining-spec : {M : Type 1} → statement M
-remaining-spec = tie.close (tie.spec (λ c κs. search needs) returns)
+remaining-spec = tie.close (tie.spec (λ c κs. search needs) (λ c id. c .remaining-of .ensures ∙ sym (remaining-of id _)))
