@@ -42,17 +42,17 @@ remaining-below w h = omega arith
 -- ---- what remains where the account is a, else 0, by a product with 1 or 0
 module _ (w a : ℕ) (on : Numbered 16 a) (r : ℕ) where
   abbrev part : ℕ
-  part = r * ((16 - (w / 64 + (17 - a)) % 16) / 16)
+  part = r * (((w / 64 + (16 - a)) % 16 + 1) / 16)
 
   pub part-is : part ≡ cond (eqb (packedAccount w) a) r 0
   part-is = by (ℕ-discrete (packedAccount w) a)
     where
       by : Dec (packedAccount w ≡ a) → part ≡ cond (eqb (packedAccount w) a) r 0
       by (yes own) =
-          let once : (16 - (w / 64 + (17 - a)) % 16) / 16 ≡ 1 = omega arith in
+          let once : ((w / 64 + (16 - a)) % 16 + 1) / 16 ≡ 1 = omega arith in
           rw (eq-eqb (packedAccount w) a own, once) (omega arith)
       by (no other) =
-          let none : (16 - (w / 64 + (17 - a)) % 16) / 16 ≡ 0 = omega (arith, other) in
+          let none : ((w / 64 + (16 - a)) % 16 + 1) / 16 ≡ 0 = omega (arith, other) in
           rw (ne-eqb (packedAccount w) a other, none) (omega arith)
 
   pub part-small : part ≤ r

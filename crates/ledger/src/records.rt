@@ -72,13 +72,14 @@ pub fn remaining_of(w: u64) -> u64
     w / 137438953472
 }
 
-// What remains where the detail's account is the given one, else 0; with no branch, so that none is mispredicted.
+// What remains where the detail's account is the given one, else 0; with no branch, so that none is mispredicted. `near` is 15 for that
+// account alone.
 pub fn remaining_for(w: u64, account: u64) -> u64
     requires { ⌜ Numbered 16 account ⌝ }
     ensures { λ r. ⌜ r ≡ cond (eqb (packedAccount w) account) (detailRemaining w) 0 ⌝ }
 {
-    let far = (w / 64 + (17 - account)) % 16;
-    remaining_of(w) * ((16 - far) / 16)
+    let near = (w / 64 + (16 - account)) % 16;
+    remaining_of(w) * ((near + 1) / 16)
 }
 
 // A detail with the bits of `all` and of `w`: each figure is at least that of either.

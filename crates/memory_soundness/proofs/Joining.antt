@@ -1,5 +1,5 @@
 -- A number that has the bits of others is at least each of them.
-use Prim.Native.Nat.{ℕ, _+_, _^_, _≤_, _<_}
+use Prim.Native.Nat.{ℕ, _+_, _*_, _^_, _≤_, _<_}
 use mathlib.Core.Path.{_≡_}
 use native.Mathlib.Decide.{ℕ-discrete, decLe}
 use native.Mathlib.Omega.{arith}
@@ -8,6 +8,7 @@ use lib.Bits.{bitOr}
 use Rattle.integers.specs.Parts.{signed, difference-parts, magnitude-parts}
 use Rattle.integers.specs.TwosComplement.{signedOf, signed-small, signed-large}
 use Rattle.words.proofs.Bits.{or-left, or-right}
+use Rattle.ledger.specs.Roster.{Numbered}
 use Rattle.memory_soundness.specs.Cells.{offsetWord}
 
 -- one number more: r is at least f of the j numbers from k on, x at least f of the next
@@ -20,10 +21,10 @@ bits-more f k j r x was here p h l = by (ℕ-discrete p (k + j))
     by (no apart) = omega (arith, was p h (omega (arith, apart)), or-left r x)
 
 -- ---- a signed number of 64 bits that is small with the offset added
-pub offset-small : (n : ℕ) → n < 2 ^ 64 → offsetWord n < 1073741824 → natAbs (signedOf 64 n) ≤ 536870912
-offset-small n word h = by (decLe 9223372036854775808 n)
+pub offset-small : (half n : ℕ) → half ≤ 1000000000 → n < 2 ^ 64 → offsetWord half n < half * 2 → natAbs (signedOf 64 n) ≤ half
+offset-small half n few word h = by (decLe 9223372036854775808 n)
   where
-    by : Dec (9223372036854775808 ≤ n) → natAbs (signedOf 64 n) ≤ 536870912
+    by : Dec (9223372036854775808 ≤ n) → natAbs (signedOf 64 n) ≤ half
     by (yes large) =
         let z = pos n -ℤ pos 18446744073709551616 in
         rw (signed-large 64 n large)
@@ -31,3 +32,7 @@ offset-small n word h = by (decLe 9223372036854775808 n)
     by (no small) =
         let low : n < 9223372036854775808 = omega (arith, small) in
         rw (signed-small 64 n low) (omega arith)
+
+-- ---- a word that is small with 1 taken off
+pub numbered-less : (n r most : ℕ) → n < 2 ^ 64 → most < 2 ^ 64 → offsetWord 18446744073709551615 n ≤ r → r < most → Numbered most n
+numbered-less n r most word size h l = (omega arith, omega arith)

@@ -69,8 +69,8 @@ module _ (m s : List ℕ) (n : ℕ) (count : n ≡ wordAt m countWord) (records 
   ids-same = rw (count, records)
 
   -- the pass ends at record p: behind the last record, or where a record is refused
-  pub ended : (p : ℕ) → p ≤ n → (t : Bool) (last all : ℕ) → (t ≡ true → Passed s p last all) → (t ≡ true → p ≡ n) → (t ≡ false → Refused s p) →
-      Tells t InOrder × (t ≡ true → Each m (Within all))
+  pub ended : (p : ℕ) → p ≤ n → (t : Bool) (last all : ℕ) → (t ≡ true → Passed s p last all) → (t ≡ true → p ≡ n) →
+      (t ≡ false → Refused s p) → Tells t InOrder × (t ≡ true → Each m (Within all))
   unfolding ordersFrom ascend
   ended p h true last all past end refused =
       let here = past refl in

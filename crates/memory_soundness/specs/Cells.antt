@@ -12,9 +12,9 @@ use Rattle.ledger.specs.Roster.{Numbered}
 use Rattle.positions.specs.Gathered.{cell, Gathered}
 use Rattle.memory_layout.specs.View.{balancesPart}
 
--- a word with 536,870,912 added, as a word
-abbrev pub offsetWord : ℕ → ℕ
-offsetWord w = (w + 536870912) % 2 ^ 64
+-- a word with another added, as a word
+abbrev pub offsetWord : ℕ → ℕ → ℕ
+offsetWord offset w = (w + offset) % 2 ^ 64
 
 -- the first cell of account a
 abbrev pub row : ℕ → ℕ

@@ -36,7 +36,8 @@ pub record Marked (m : List ℕ) (o : Order) : Type 0 where
   pub instrument : Numbered (rosterOf m .instruments) (o .instrument)
   pub marked : tradingOf m (o .account) ≡ true
 
--- ---- the pass over the records: those below p have ascending ids up to `last`, something remains of each, and a detail has the bits of all
+-- ---- the pass over the records
+-- those below p have ascending ids up to `last`, something remains of each, and `details` has the bits of all
 pub record Passed (s : List ℕ) (p last details : ℕ) : Type 0 where
   pub ids : (n : ℕ) → p ≤ n → ascend 0 (ordersFrom s 0 n) ≡ ascend last (ordersFrom s p (n - p))
   pub remain : (q : ℕ) → q < p → Remains (orderAt s q)

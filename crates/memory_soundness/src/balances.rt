@@ -47,7 +47,7 @@ fn balances_are_small(m: &[u8], market: Market, a: usize) -> bool
     if market.largest < 1000000000 {
         return false;
     }
-    all_small(balances(m, a), 1, 32)
+    all_small(balances(m, a), 1, 32, 536870912)
 }
 
 // Of account `a` and each instrument: all balances at once, and where that does not tell, one by one.

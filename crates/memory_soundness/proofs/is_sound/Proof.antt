@@ -17,7 +17,8 @@ use Rattle.memory_soundness.specs.Soundness.{rosterSound}
 use Rattle.memory_layout.specs.Readable.{Readable}
 use Rattle.memory_soundness.proofs.Asked.{answered-no, answered-yes}
 use Rattle.memory_soundness.proofs.RosterLaws.{readable, sound-sizes}
-use Rattle.memory_soundness.proofs.Whole.{too-short, other-kind, too-many, too-far, no-roster, no-lines, no-orders, the-rest, orders-alone}
+use Rattle.memory_soundness.proofs.Whole.{too-short, other-kind, too-many, too-far, no-roster, no-lines}
+use Rattle.memory_soundness.proofs.Whole.{no-orders, the-rest, orders-alone}
 use Rattle.memory_soundness.proofs.is_sound.Statement.{statement}
 use Rattle.memory_soundness.proofs.is_sound.Tie as tie
 

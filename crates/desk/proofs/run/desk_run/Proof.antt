@@ -55,7 +55,8 @@ pub desk-run-spec : {M : Type 1} → statement M
 desk-run-spec =
     tie.close (tie.spec Inv-loop μ-loop (λ c κs. empty-cells 1089 refl)
     (λ c.
-    let asked = c .is-sound-with-sums .ensures in (refl, asked .1 .0, asked .0, λ t. inr (asked .1 .1 t .sums), begins _ _ _)) (λ c κs. search needs)
-    (λ c. search needs) (λ c κs. search needs) (λ c. omega (arith, ltb-true)) add-at (λ c. omega (arith, ltb-true)) loop-less loop-again (λ c. search needs)
-    (λ c. search needs) (λ c. room-ends _ _ _ _ _ _ _ (c .before .before .loop .inv .4) (ltb-false _ _ (c .if1 .left))) (λ c. search needs)
+    let asked = c .is-sound-with-sums .ensures in (refl, asked .1 .0, asked .0, λ t. inr (asked .1 .1 t .sums), begins _ _ _))
+    (λ c κs. search needs) (λ c. search needs) (λ c κs. search needs) (λ c. omega (arith, ltb-true)) add-at (λ c. omega (arith, ltb-true))
+    loop-less loop-again (λ c. search needs) (λ c. search needs)
+    (λ c. room-ends _ _ _ _ _ _ _ (c .before .before .loop .inv .4) (ltb-false _ _ (c .if1 .left))) (λ c. search needs)
     (λ c. search needs) (λ c. events-end _ _ _ _ _ _ _ (c .before .loop .inv .4) (c .loop-test .left)))

@@ -56,5 +56,5 @@ positions-by-requires-2 c κs =
 
 pub positions-of-spec : {M : Type 1} → statement M
 positions-of-spec =
-    tie.close (tie.spec (λ c κs. sound-records _ (c .before .before .before .before .pre .0 .on .held)) (λ c κs. search needs) gather-requires
-    (λ c. search needs) positions-by-requires (λ c. search needs) cells-of-requires positions-by-requires-2 (λ c. search needs))
+    tie.close (tie.spec (λ c κs. sound-records _ (c .before .before .before .before .pre .0 .on .held)) (λ c κs. search needs)
+    gather-requires (λ c. search needs) positions-by-requires (λ c. search needs) cells-of-requires positions-by-requires-2 (λ c. search needs))

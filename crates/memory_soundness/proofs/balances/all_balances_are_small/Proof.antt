@@ -36,5 +36,5 @@ returns-2 c e a on =
 pub all-balances-are-small-spec : {M : Type 1} → statement M
 all-balances-are-small-spec =
     tie.close (tie.spec Inv-loop μ-loop (λ c κs. search needs) (λ c. (c .accounts .ensures, omega arith, λ b h. absurd (omega arith)))
-    (λ c. omega arith) (λ c κs. (c .before .before .before .before .pre, (omega arith, omega arith))) (λ c e. absurd (false≢true e)) (λ c. omega arith)
-    (λ c. omega arith) loop-again returns-2)
+    (λ c. omega arith) (λ c κs. (c .before .before .before .before .pre, (omega arith, omega arith))) (λ c e. absurd (false≢true e))
+    (λ c. omega arith) (λ c. omega arith) loop-again returns-2)

@@ -1,4 +1,4 @@
--- Every word with the offset added is at most the bits of all; one below 2^30 stands for a number of at most 536,870,912 either way
+-- Every word with `half` added is at most the bits of all; one below twice that stands for a number of at most `half` either way
 -- (`offset-small`).
 use native.Mathlib.Omega.{arith}
 use borrow.Author.Needs.{needs}
@@ -13,8 +13,8 @@ returns : tie.Need-returns
 unfolding signedAt
 returns c e p h l =
     let s = c .before in
-    offset-small (wordAt (s .before .args .m .now) p) (word-below _ p (λ i. s .shared-slice-known .given i .fits))
-    (omega (arith, ltb-true (c .bits-of-all-offset .result) 1073741824 e, c .bits-of-all-offset .ensures p h l))
+    offset-small _ (wordAt (s .before .args .m .now) p) (s .before .pre .1) (word-below _ p (λ i. s .shared-slice-known .given i .fits))
+    (omega (arith, ltb-true (c .bits-of-all-offset .result) _ e, c .bits-of-all-offset .ensures p h l))
 
 pub all-small-spec : {M : Type 1} → statement M
-all-small-spec = tie.close (tie.spec (λ c κs. search needs) returns)
+all-small-spec = tie.close (tie.spec (λ c κs. search needs) (λ c. omega arith) returns)

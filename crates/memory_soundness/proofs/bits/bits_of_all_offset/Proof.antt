@@ -9,17 +9,17 @@ use Rattle.memory_soundness.proofs.bits.bits_of_all_offset.Statement.{s
 use Rattle.memory_soundness.proofs.bits.bits_of_all_offset.Tie as tie
 
 abbrev Inv-loop : tie.InvT-loop
-Inv-loop m k n all₀ j₀ all j = (j ≤ n) × ((p : ℕ) → k ≤ p → p < k + j → offsetWord (wordAt m p) ≤ all)
+Inv-loop m k n offset all₀ j₀ all j = (j ≤ n) × ((p : ℕ) → k ≤ p → p < k + j → offsetWord offset (wordAt m p) ≤ all)
 
 abbrev μ-loop : tie.MeasureT-loop
-μ-loop m k n all₀ j₀ all j = n - j
+μ-loop m k n offset all₀ j₀ all j = n - j
 
 loop-again : tie.Need-loop-again Inv-loop μ-loop
 loop-again c =
     let at = c .before .before .before in
     let s = at .before .before .args in (
       omega arith,
-      bits-more (λ p. offsetWord (wordAt (s .m .now) p)) (s .k) (at .loop .j) (at .loop .all) _ (at .loop .inv .1)
+      bits-more (λ p. offsetWord (s .offset) (wordAt (s .m .now) p)) (s .k) (at .loop .j) (at .loop .all) _ (at .loop .inv .1)
           (omega (arith, c .before .word .ensures, c .wrapping-add-u64 .ensures)),
     )
 

@@ -1,14 +1,16 @@
 -- Instrument by instrument, the answer is that of the test of the weight read; the loop leaves at the first no.
 use Prim.Native.Nat.{_+_, _-_}
-use mathlib.Core.Path.{_≡_, _∙_}
+use mathlib.Core.Path.{_≡_, _∙_, sym}
 use native.Mathlib.Omega.{arith}
 use borrow.Author.Needs.{needs}
+use borrow.Author.Tests.{le-leb}
 use lib.Dec.{leb}
 use lib.IntN.{natAbs}
 use mir.Syntax.{w64}
 use mir.ValLaws.{toZ-ofZ}
+use Rattle.words.specs.Words.{signedAt}
 use Rattle.ledger.specs.Records.{rosterIn}
-use Rattle.memory_layout.proofs.Every.{SoFar, so-far-none, so-far-on, so-far-all, every-no}
+use Rattle.memory_layout.proofs.Every.{SoFar, so-far-none, so-far-on, so-far-all, every-no, every-in}
 use Rattle.memory_soundness.proofs.roster.weights_fit.Statement.{statement}
 use Rattle.memory_soundness.proofs.roster.weights_fit.Tie as tie
 
@@ -20,15 +22,24 @@ abbrev μ-loop : tie.MeasureT-loop
 
 -- the answer is the test's
 tested : (c : tie.After-is-weight Inv-loop μ-loop)
-    → let at = c .before .before .before in let a = at .before .before .args in
+    → let at = c .before .before .before in let a = at .before .before .before .before .args in
     c .is-weight .result ≡ leb (natAbs (rosterIn (a .s .now) .weight (at .loop .j + 1))) 1000000
 tested c =
     c .is-weight .ensures
     ∙ rw (toZ-ofZ w64 (c .before .weight-in .result) (record { sfits = c .before .weight-in .ok }), c .before .weight-in .ensures)
 
+returns : tie.Need-returns Inv-loop μ-loop
+unfolding rosterIn
+returns c =
+    let s = c .before .before .before .args .s .now in
+    sym (every-in _ _ (λ i l. le-leb (natAbs (signedAt s (43 + i))) 1000000 (omega (
+      arith,
+      c .before .all-small .ensures (c .if1 .taken) (43 + i) (omega arith) (omega arith),
+    ))))
+
 pub weights-fit-spec : {M : Type 1} → statement M
 weights-fit-spec =
-    tie.close (tie.spec Inv-loop μ-loop (λ c. so-far-none _ _) (λ c. omega arith) (λ c κs. omega arith)
-    (λ c κs. search needs) (λ c. every-no _ _ _ _ (omega arith) (tested (c .before)) (c .if1 .taken)) (λ c. omega arith) (λ c. omega arith)
-    (λ c. so-far-on _ _ (c .before .before .before .before .loop .inv) (omega arith) (tested (c .before)) (c .if1 .left))
+    tie.close (tie.spec Inv-loop μ-loop (λ c κs. omega arith) returns (λ c. so-far-none _ _) (λ c. omega arith) (λ c κs. omega arith)
+    (λ c κs. search needs) (λ c. every-no _ _ _ _ (omega arith) (tested (c .before)) (c .if2 .taken)) (λ c. omega arith) (λ c. omega arith)
+    (λ c. so-far-on _ _ (c .before .before .before .before .loop .inv) (omega arith) (tested (c .before)) (c .if2 .left))
     (λ c. so-far-all _ (c .before .loop .inv) (omega arith)))
