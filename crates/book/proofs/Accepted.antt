@@ -1,11 +1,5 @@
 -- What an answer of 0 says: the event passed every question, each by its name.
-use mathlib.Core.Path.{_≡_, refl}
-use mathlib.Core.Logic.{_≢_}
-use mathlib.Core.Bool.{true, false}
-use mathlib.Core.List.{[], _++_}
-use mathlib.Core.Option.{Option, none, some}
-use native.Mathlib.Omega.{arith}
-use lib.Signed.{_≤ℤ_}
+use Rattle.integers.specs.Basics.{_≡_, refl, _≢_, true, false, [], _++_, Option, none, some, _≤ℤ_, arith}
 use Rattle.ledger.specs.declared.order.Order.{Order}
 use Rattle.ledger.specs.Positions.{Way, Scope}
 use Rattle.ledger.specs.Moves.{Moves}

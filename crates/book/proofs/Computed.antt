@@ -17,8 +17,8 @@ use Rattle.book.specs.Decoding.{named, fieldsFit, wellFormed, eventOf, d
 use Rattle.book.specs.OpenOrders.{find, insert, change, kept}
 use Rattle.book.specs.Books.{emptyBook, unsets, lineOf, groupLineOf, setLine, setBlock, newOrder, changed, changedBalances, bookAfter}
 use Rattle.book.specs.States.{mark}
-use Rattle.book.specs.Table.{isEvent, accountKnown, itemKnown, figuresFit, notYetTrading, idOpen, quantityFits, entered}
-use Rattle.book.specs.Table.{idFree, placeFree, questionsBefore, limitQuestions, answer}
+use Rattle.book.specs.Table.{isEvent, accountKnown, itemKnown, figuresFit, notYetTrading, idOpen, quantityFits, entered, idFree}
+use Rattle.book.specs.Table.{placeFree, questionsBefore, limitQuestions, answer}
 use Rattle.book.specs.EventLists.{keep, memoryAfter, stateAfter}
 use Rattle.book.specs.SetAgain.{lineSet, lineOver}
 use Rattle.book.specs.EventBytes.{bytesOf, figureBytes, eventBytes}

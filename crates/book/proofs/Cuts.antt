@@ -1,14 +1,9 @@
 -- Where an order joins the open orders, where it stands in them, and what changing it changes: the list cut in two.
-use Prim.Native.Nat.{ℕ, suc, _+_, _<_}
-use mathlib.Core.Path.{_≡_, refl, ap, sym}
-use mathlib.Core.Logic.{_↔_, _⊎_, inl, inr, ⊎-elim}
-use mathlib.Core.List.{List, [], _∷_, _++_, List·Memᴰ, List·Memᴰ·head, List·Memᴰ·tail, List·Memᴰ·cases-cons, List·Memᴰ·append-cases}
-use mathlib.Core.List.{Memᴰ·append-left, Memᴰ·append-right}
-use mathlib.Core.Option.{none, some}
-use native.Mathlib.Omega.{arith}
-use lib.Dec.{ltb, eqb}
-use lib.ListN.{length, length-append}
-use borrow.Author.Tests.{eqb-true, eqb-false, ltb-true, ltb-false}
+use Rattle.integers.specs.Basics.{ℕ, suc, _+_, _<_, _≡_, refl, sym, ap, _⊎_, inl, inr, ⊎-elim, _↔_, List, [], _∷_, _++_, List·Memᴰ}
+use Rattle.integers.specs.Basics.{List·Memᴰ·head, List·Memᴰ·tail, none, some, ltb, eqb, length, arith, ltb-true, ltb-false, eqb-true}
+use Rattle.integers.specs.Basics.{eqb-false}
+use mathlib.Core.List.{List·Memᴰ·cases-cons, List·Memᴰ·append-cases, Memᴰ·append-left, Memᴰ·append-right}
+use lib.ListN.{length-append}
 use Rattle.ledger.specs.declared.order.Order.{Order}
 use Rattle.ledger.proofs.Sums.{Joined, Changed, joined-between, changed-between}
 use Rattle.ledger.proofs.Ways.{by-test}

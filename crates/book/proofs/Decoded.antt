@@ -1,12 +1,6 @@
 -- A decoded NEW has an id that is not 0.
-use Prim.Native.Nat.{ℕ, _≤_}
-use mathlib.Core.Path.{_≡_, refl, sym, _∙_}
-use mathlib.Core.Logic.{_≢_}
-use mathlib.Core.Bool.{Bool, true, false, _&&_, cond, and-false, true≢false}
-use mathlib.Core.List.{List}
-use native.Mathlib.Omega.{arith}
-use lib.Dec.{eqb}
-use lib.ListN.{length}
+use Rattle.integers.specs.Basics.{ℕ, _≤_, _≡_, refl, _∙_, sym, _≢_, Bool, true, false, _&&_, cond, true≢false, List, eqb, length, arith}
+use mathlib.Core.Bool.{and-false}
 use Rattle.ledger.proofs.Ways.{by-test}
 use Rattle.limits.proofs.Answers.{both-true}
 use Rattle.book.specs.declared.Event.{Event}

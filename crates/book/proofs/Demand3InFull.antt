@@ -1,11 +1,5 @@
 -- Demand 3 with every premise and conclusion written out, in the order of document 01's words.
-use Prim.Native.Nat.{ℕ}
-use mathlib.Core.Path.{_≡_, sym, ap, _∙_, subst}
-use mathlib.Core.Logic.{_⊎_, _↔_}
-use mathlib.Core.Bool.{true}
-use mathlib.Core.List.{List, _∷_, _++_}
-use mathlib.Core.Option.{some}
-use lib.Signed.{_≤ℤ_, _<ℤ_}
+use Rattle.integers.specs.Basics.{ℕ, _≡_, _∙_, sym, ap, subst, _⊎_, _↔_, true, List, _∷_, _++_, some, _≤ℤ_, _<ℤ_}
 use Rattle.ledger.specs.declared.order.Order.{Order}
 use Rattle.ledger.specs.Positions.{Scope, Way, position}
 use Rattle.ledger.specs.Fillings.{Filling, balanceAfter}

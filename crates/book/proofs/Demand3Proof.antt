@@ -1,15 +1,6 @@
 -- Demand 3, of every desk that meets the contract.
-use Prim.Native.Nat.{ℕ}
-use mathlib.Core.Path.{_≡_, sym, _∙_, ap}
-use mathlib.Core.Logic.{by-cases}
-use mathlib.Core.Bool.{true, true≢false}
-use mathlib.Core.List.{List, [], _∷_}
-use mathlib.Core.Option.{some}
-use native.Mathlib.Decide.{ℕ-discrete}
-use lib.IntN.{ℤ}
-use lib.Signed.{_≤ℤ_}
-use borrow.Author.Tests.{not-true}
-use Rattle.integers.specs.Parts.{signed}
+use Rattle.integers.specs.Basics.{ℕ, _≡_, _∙_, sym, ap, by-cases, true, true≢false, List, [], _∷_, some, ℤ, _≤ℤ_, ℕ-discrete, not-true}
+use Rattle.integers.specs.Basics.{signed}
 use Rattle.ledger.specs.declared.order.Order.{Order}
 use Rattle.ledger.specs.Positions.{Scope, Way}
 use Rattle.ledger.specs.Moves.{Moves}

@@ -1,10 +1,5 @@
 -- Document 01's starred edges, computed as one table; and examples of each question's edge. Each is a day of events, in bytes.
-use Prim.Native.Nat.{ℕ, zero, suc}
-use mathlib.Core.Path.{_≡_, refl}
-use mathlib.Core.Bool.{true, cond}
-use mathlib.Core.List.{List, [], _∷_, _++_, map}
-use lib.Dec.{eqb}
-use lib.IntN.{ℤ, pos, negℤ}
+use Rattle.integers.specs.Basics.{ℕ, zero, suc, _≡_, refl, true, cond, List, [], _∷_, _++_, map, ℤ, pos, negℤ, eqb}
 use Rattle.ledger.specs.declared.order.Order.{Order}
 use Rattle.ledger.specs.declared.order.Side.the-variants.{Buy, Sell}
 use Rattle.ledger.specs.Roster.{Roster}
@@ -18,8 +13,8 @@ use Rattle.book.specs.States.{State, begun, work}
 use Rattle.book.specs.Table.{answer}
 use Rattle.book.specs.Positions.{instrumentIn}
 use Rattle.book.specs.Days.{answersTo, endOf, decoded}
-use Rattle.book.specs.EventBytes.{line, groupLine, balance, buy}
-use Rattle.book.specs.EventBytes.{limitBytes, balanceBytes, blockBytes, replaceBytes, cancelBytes, fillBytes}
+use Rattle.book.specs.EventBytes.{line, groupLine, balance, buy, limitBytes, balanceBytes, blockBytes, replaceBytes, cancelBytes}
+use Rattle.book.specs.EventBytes.{fillBytes}
 use Rattle.book.specs.Rosters.{rosterOfTables}
 use Rattle.book.specs.Edges.{edgeTables, starredEdges, outcome, expected}
 use Rattle.book.proofs.Computed.{computes}

@@ -1,16 +1,8 @@
 -- Accepted FILLs are a filling: whatever FILLs the table accepts one after the other, what they make of a sound book is
 -- what one filling of its open orders makes of it.
-use Prim.Native.Nat.{ℕ, _+_, _*_, _≤_}
-use mathlib.Core.Path.{_≡_, refl, sym, _∙_, ap, subst, fun-ext}
-use mathlib.Core.Logic.{by-cases}
-use mathlib.Core.List.{List, [], _∷_, _++_, List·Memᴰ, List·Memᴰ·head, List·Memᴰ·tail}
-use mathlib.Core.Option.{some}
-use native.Mathlib.Decide.{ℕ-discrete}
-use native.Mathlib.Omega.{arith}
-use lib.Dec.{eqb}
-use lib.IntN.{ℤ, pos, natAbs, _+ℤ_, +ℤ-idr}
-use borrow.Author.Tests.{leb-true}
-use Rattle.integers.specs.Parts.{sum-parts}
+use Rattle.integers.specs.Basics.{ℕ, _+_, _*_, _≤_, _≡_, refl, _∙_, sym, ap, subst, fun-ext, by-cases, List, [], _∷_, _++_, List·Memᴰ}
+use Rattle.integers.specs.Basics.{List·Memᴰ·head, List·Memᴰ·tail, some, ℤ, pos, natAbs, _+ℤ_, +ℤ-idr, eqb, ℕ-discrete, arith, leb-true}
+use Rattle.integers.specs.Basics.{sum-parts}
 use Rattle.ledger.specs.declared.order.Order.{Order}
 use Rattle.ledger.specs.Orders.{remaining, filledBy}
 use Rattle.ledger.specs.Positions.{wayOf, standsIn}

@@ -1,16 +1,7 @@
 -- Every filling of a sound book's open orders is worked by FILLs that the table accepts one after the other.
-use Prim.Native.Nat.{ℕ, _≤_, _+_}
-use mathlib.Core.Path.{_≡_, refl, sym, _∙_, ap}
-use mathlib.Core.Logic.{_≢_, by-cases}
-use mathlib.Core.Bool.{true}
-use mathlib.Core.List.{List, [], _∷_, _++_, append-assoc, List·Memᴰ, List·Memᴰ·head, Memᴰ·append-right}
-use mathlib.Core.Option.{some}
-use native.Mathlib.Decide.{ℕ-discrete}
-use native.Mathlib.Omega.{arith}
-use lib.IntN.{ℤ, pos, _+ℤ_, +ℤ-idr}
-use lib.Signed.{leZ}
-use borrow.Author.Tests.{le-leb}
-use Rattle.integers.specs.Parts.{signed, sum-parts}
+use Rattle.integers.specs.Basics.{ℕ, _+_, _≤_, _≡_, refl, _∙_, sym, ap, _≢_, by-cases, true, List, [], _∷_, _++_, List·Memᴰ, List·Memᴰ·head}
+use Rattle.integers.specs.Basics.{some, ℤ, pos, _+ℤ_, +ℤ-idr, leZ, ℕ-discrete, arith, le-leb, signed, sum-parts}
+use mathlib.Core.List.{append-assoc, Memᴰ·append-right}
 use Rattle.ledger.specs.declared.order.Order.{Order}
 use Rattle.ledger.specs.Orders.{remaining, filledBy}
 use Rattle.ledger.specs.Fillings.{Filling, none, fill, fillMoves, balanceAfter}

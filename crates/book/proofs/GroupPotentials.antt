@@ -1,11 +1,7 @@
 -- By how much an event moves a group's potential positions: the magnitude of the weight times what it moves those of the instrument.
-use Prim.Native.Nat.{ℕ, _*_, _-_, _≤_}
-use mathlib.Core.Path.{_≡_, refl, sym, ap, _∙_}
-use mathlib.Core.Logic.{_≢_}
-use mathlib.Core.Option.{some}
-use native.Mathlib.Omega.{arith}
-use lib.IntN.{ℤ, pos, negsuc, negℤ, natAbs, _+ℤ_, _-ℤ_, _*ℤ_, +ℤ-idr}
-use Rattle.integers.specs.Parts.{signed, sum-parts, difference-parts, negation-parts, scaled-parts}
+use Rattle.integers.specs.Basics.{ℕ, _*_, _-_, _≤_, _≡_, refl, _∙_, sym, ap, _≢_, some, ℤ, pos, negsuc, negℤ, natAbs, _+ℤ_, _-ℤ_, _*ℤ_}
+use Rattle.integers.specs.Basics.{+ℤ-idr, arith, signed, negation-parts, sum-parts, difference-parts}
+use Rattle.integers.specs.Parts.{scaled-parts}
 use Rattle.integers.specs.Ring.{*ℤ-negℤ}
 use Rattle.ledger.specs.declared.order.Order.{Order}
 use Rattle.ledger.specs.declared.order.Side.{Side}

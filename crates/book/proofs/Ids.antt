@@ -1,16 +1,9 @@
 -- Ids of the open orders: they stay strictly ascending, so each names at most one order, and an order is found by its id
 -- wherever it stands.
-use Prim.Native.Nat.{ℕ, _≤_, _<_}
-use mathlib.Core.Path.{_≡_, refl, ap}
-use mathlib.Core.Logic.{_↔_, _≢_, _⊎_, inl, inr, ⊎-elim}
-use mathlib.Core.Bool.{Bool, true, false, cond}
-use mathlib.Core.List.{List, [], _∷_, _++_, List·Memᴰ, List·Memᴰ·head, List·Memᴰ·tail, List·Memᴰ·not-nil, List·Memᴰ·cases-cons}
-use mathlib.Core.List.{List·Memᴰ·append-cases, Memᴰ·append-left, Memᴰ·append-right}
-use mathlib.Core.Option.{some}
-use native.Mathlib.Omega.{arith}
-use lib.Dec.{eqb}
-use lib.IntN.{natAbs}
-use borrow.Author.Tests.{eqb-true, eqb-false, eq-eqb, ne-eqb}
+use Rattle.integers.specs.Basics.{ℕ, _≤_, _<_, _≡_, refl, ap, _⊎_, inl, inr, ⊎-elim, _↔_, _≢_, Bool, true, false, cond, List, [], _∷_, _++_}
+use Rattle.integers.specs.Basics.{List·Memᴰ, List·Memᴰ·head, List·Memᴰ·tail, List·Memᴰ·not-nil, some, natAbs, eqb, arith, eqb-true}
+use Rattle.integers.specs.Basics.{eqb-false, eq-eqb, ne-eqb}
+use mathlib.Core.List.{List·Memᴰ·cases-cons, List·Memᴰ·append-cases, Memᴰ·append-left, Memᴰ·append-right}
 use Rattle.ledger.specs.declared.order.Order.{Order}
 use Rattle.ledger.specs.Orders.{filledBy, replacedTotal, closes}
 use Rattle.ledger.proofs.Ways.{by-number, by-test}

@@ -1,10 +1,5 @@
 -- "Set again", by lines; and a limit stays as it is unless it is set again.
-use Prim.Native.Nat.{ℕ}
-use mathlib.Core.Path.{_≡_, refl, sym, _∙_, ap}
-use mathlib.Core.Logic.{_↔_, ⊎-elim, inl, inr, by-cases}
-use mathlib.Core.Bool.{true, false}
-use mathlib.Core.Option.{some}
-use native.Mathlib.Decide.{ℕ-discrete}
+use Rattle.integers.specs.Basics.{ℕ, _≡_, refl, _∙_, sym, ap, inl, inr, ⊎-elim, _↔_, by-cases, true, false, some, ℕ-discrete}
 use Rattle.ledger.specs.Roster.{Roster}
 use Rattle.ledger.specs.Positions.{Way, Scope, instrument, group}
 use Rattle.ledger.proofs.Ways.{by-test}

@@ -1,10 +1,5 @@
 -- Document 01's listing from its bytes: the answers, and the positions at the end.
-use Prim.Native.Nat.{ℕ}
-use mathlib.Core.Path.{_≡_, refl}
-use native.Mathlib.Omega.{arith}
-use lib.ListN.{take, getD, set}
-use mathlib.Core.List.{List, [], _∷_, _++_}
-use lib.IntN.{pos, negsuc}
+use Rattle.integers.specs.Basics.{ℕ, _≡_, refl, List, [], _∷_, _++_, pos, negsuc, getD, set, take, arith}
 use Rattle.ledger.specs.Roster.{Roster}
 use Rattle.ledger.specs.Positions.{instrument, group, long}
 use Rattle.ledger.specs.Fillings.{none, fill}

@@ -1,11 +1,5 @@
 -- Document 01's listing judged by demand 3: its fifth event is refused exactly as it says, and its fourth is kept to the end.
-use Prim.Native.Nat.{ℕ, _≤_}
-use mathlib.Core.Path.{refl}
-use mathlib.Core.Logic.{inl, inr}
-use mathlib.Core.List.{List, []}
-use native.Mathlib.Omega.{arith}
-use lib.IntN.{pos, natAbs}
-use lib.ListN.{take, drop, getD}
+use Rattle.integers.specs.Basics.{ℕ, _≤_, refl, inl, inr, List, [], pos, natAbs, getD, take, drop, arith}
 use Rattle.ledger.specs.declared.order.Side.the-variants.{Buy, Sell}
 use Rattle.ledger.specs.Roster.{Numbered}
 use Rattle.ledger.specs.Positions.{instrument, group, long}

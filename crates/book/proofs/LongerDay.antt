@@ -1,11 +1,5 @@
 -- The longer day, in bytes, at the plain desk: its answers, and its orders judged by demand 3.
-use Prim.Native.Nat.{ℕ, _≤_}
-use mathlib.Core.Path.{_≡_, refl}
-use mathlib.Core.Logic.{_≢_, inl, inr}
-use mathlib.Core.List.{List, [], _∷_, _++_}
-use native.Mathlib.Omega.{arith}
-use lib.ListN.{length}
-use lib.IntN.{pos, negsuc, natAbs}
+use Rattle.integers.specs.Basics.{ℕ, _≤_, _≡_, refl, inl, inr, _≢_, List, [], _∷_, _++_, pos, negsuc, natAbs, length, arith}
 use Rattle.ledger.specs.declared.order.Order.{Order}
 use Rattle.ledger.specs.declared.order.Side.{Side}
 use Rattle.ledger.specs.declared.order.Side.the-variants.{Buy, Sell}

@@ -1,11 +1,5 @@
 -- The longer day's accepted orders: what demand 3 promises after each later list, until a LIMIT sets the limit again.
-use Prim.Native.Nat.{ℕ}
-use mathlib.Core.Path.{_≡_, refl}
-use mathlib.Core.Logic.{inl}
-use mathlib.Core.Bool.{true}
-use mathlib.Core.List.{List, [], _∷_, _++_}
-use native.Mathlib.Omega.{arith}
-use lib.IntN.{ℤ, pos, negsuc}
+use Rattle.integers.specs.Basics.{ℕ, _≡_, refl, inl, true, List, [], _∷_, _++_, ℤ, pos, negsuc, arith}
 use Rattle.ledger.specs.declared.order.Side.{Side}
 use Rattle.ledger.specs.declared.order.Side.the-variants.{Buy, Sell}
 use Rattle.ledger.specs.Positions.{Scope, Way, instrument, group, long, short}

@@ -1,9 +1,5 @@
 -- What is known of the markets of all kinds of desk.
-use Prim.Native.Nat.{ℕ, _≤_}
-use mathlib.Core.Path.{_≡_, refl, ap}
-use mathlib.Core.Bool.{Bool, true, false, cond}
-use native.Mathlib.Omega.{arith}
-use lib.Dec.{eqb}
+use Rattle.integers.specs.Basics.{ℕ, _≤_, _≡_, refl, ap, Bool, true, false, cond, eqb, arith}
 use Rattle.ledger.specs.Derivatives.{one}
 use Rattle.book.specs.Market.{derivatives, largestOf, marketOfKind}
 

@@ -1,9 +1,5 @@
 -- Trading marks: a NEW sets one, no other kind does, and none fades.
-use Prim.Native.Nat.{ℕ}
-use mathlib.Core.Path.{_≡_, refl}
-use mathlib.Core.Logic.{_⊎_, inl, inr}
-use mathlib.Core.Bool.{Bool, true}
-use lib.IntN.{ℤ}
+use Rattle.integers.specs.Basics.{ℕ, _≡_, refl, _⊎_, inl, inr, Bool, true, ℤ}
 use Rattle.ledger.specs.declared.order.Side.{Side}
 use Rattle.book.specs.declared.Event.{Event}
 use Rattle.book.specs.declared.Event.the-variants.{Limit, Balance, Block, New, Change, Junk}

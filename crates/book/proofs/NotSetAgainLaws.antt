@@ -1,12 +1,6 @@
 -- "Until a limit that applies to them is set again": no event of the list that is accepted sets it, whatever stands around it.
-use Prim.Native.Nat.{ℕ}
-use mathlib.Core.Path.{_≡_, refl, sym, ap}
-use mathlib.Core.Logic.{_↔_, ⊎-elim}
-use mathlib.Core.Bool.{Bool, true, false, true≢false, not, _&&_, _||_}
-use mathlib.Core.List.{List, [], _∷_, _++_}
-use mathlib.Core.Option.{Option, none, some}
-use lib.Dec.{eqb}
-use borrow.Author.Tests.{eq-eqb}
+use Rattle.integers.specs.Basics.{ℕ, _≡_, refl, sym, ap, ⊎-elim, _↔_, Bool, true, false, not, _&&_, _||_, true≢false, List, [], _∷_, _++_}
+use Rattle.integers.specs.Basics.{Option, none, some, eqb, eq-eqb}
 use Rattle.ledger.specs.Positions.{Scope}
 use Rattle.limits.proofs.Answers.{both-true}
 use Rattle.book.specs.declared.Event.{Event}

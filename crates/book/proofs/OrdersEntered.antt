@@ -1,11 +1,5 @@
 -- The event that N is: it enters or raises one order, of a marked account, and leaves every line as it is.
-use Prim.Native.Nat.{_<_}
-use mathlib.Core.Path.{_≡_, refl}
-use mathlib.Core.Bool.{true}
-use mathlib.Core.Option.{Option, none, some}
-use lib.Dec.{ltb}
-use lib.IntN.{ℤ, natAbs}
-use borrow.Author.Tests.{ltb-true}
+use Rattle.integers.specs.Basics.{_<_, _≡_, refl, true, Option, none, some, ℤ, natAbs, ltb, ltb-true}
 use Rattle.ledger.specs.declared.order.Order.{Order}
 use Rattle.ledger.specs.Orders.{replacedTotal}
 use Rattle.ledger.proofs.Ways.{by-test}

@@ -1,10 +1,6 @@
 -- An event of one account leaves every other account's orders, balances and lines as they were.
-use Prim.Native.Nat.{ℕ}
-use mathlib.Core.Path.{_≡_, refl, sym, _∙_, ap}
-use mathlib.Core.Logic.{_↔_, _≢_, inr, ⊎-elim, Iff·rfl}
-use mathlib.Core.List.{List, List·Memᴰ}
-use mathlib.Core.Option.{some}
-use lib.IntN.{_+ℤ_, +ℤ-idr}
+use Rattle.integers.specs.Basics.{ℕ, _≡_, refl, _∙_, sym, ap, inr, ⊎-elim, _↔_, _≢_, List, List·Memᴰ, some, _+ℤ_, +ℤ-idr}
+use mathlib.Core.Logic.{Iff·rfl}
 use Rattle.ledger.specs.declared.order.Order.{Order}
 use Rattle.ledger.proofs.Amounts.{fill-apart}
 use Rattle.book.specs.declared.Event.{Event}

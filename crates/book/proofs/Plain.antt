@@ -1,7 +1,5 @@
 -- The contract can be met: a desk whose memory is what is kept itself.
-use Prim.Native.Nat.{ℕ}
-use mathlib.Core.Path.{_≡_, refl, _∙_, ap}
-use mathlib.Core.List.{List}
+use Rattle.integers.specs.Basics.{ℕ, _≡_, refl, _∙_, ap, List}
 use Rattle.ledger.specs.Roster.{Roster}
 use Rattle.book.specs.Market.{Market}
 use Rattle.book.specs.States.{State, begun, work}

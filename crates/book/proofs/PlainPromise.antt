@@ -1,12 +1,5 @@
 -- Demand 3 at the plain desk, used of events in bytes: N after a list, and a later list after N.
-use Prim.Native.Nat.{ℕ}
-use mathlib.Core.Path.{_≡_}
-use mathlib.Core.Logic.{_⊎_}
-use mathlib.Core.Bool.{Bool, true}
-use mathlib.Core.List.{List, _∷_, _++_}
-use mathlib.Core.Option.{some}
-use lib.IntN.{ℤ}
-use lib.Signed.{_≤ℤ_}
+use Rattle.integers.specs.Basics.{ℕ, _≡_, _⊎_, Bool, true, List, _∷_, _++_, some, ℤ, _≤ℤ_}
 use Rattle.ledger.specs.declared.order.Order.{Order}
 use Rattle.ledger.specs.Roster.{Roster}
 use Rattle.ledger.specs.Positions.{Scope, Way}

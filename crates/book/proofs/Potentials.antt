@@ -1,19 +1,11 @@
 -- What an accepted BALANCE, NEW, REPLACE, CANCEL or FILL does to each potential position; no other kind moves any.
-use Prim.Native.Nat.{ℕ, _+_, _*_, _-_, _≤_}
-use mathlib.Core.Path.{_≡_, refl, _∙_, ap}
-use mathlib.Core.Logic.{_≢_}
-use mathlib.Core.List.{List·Memᴰ}
-use mathlib.Core.Option.{some}
-use native.Mathlib.Omega.{arith}
-use lib.IntN.{ℤ, pos, natAbs, _+ℤ_, _-ℤ_}
-use lib.Signed.{_≤ℤ_}
+use Rattle.integers.specs.Basics.{ℕ, _+_, _*_, _-_, _≤_, _≡_, refl, _∙_, ap, _≢_, List·Memᴰ, some, ℤ, pos, natAbs, _+ℤ_, _-ℤ_, _≤ℤ_, arith}
 use Rattle.ledger.specs.declared.order.Order.{Order}
 use Rattle.ledger.specs.declared.order.Side.{Side}
 use Rattle.ledger.specs.Orders.{remaining}
 use Rattle.ledger.specs.Positions.{Way, Scope, instrument, opposite, wayOf, potential, position}
 use Rattle.ledger.specs.Moves.{Moves}
-use Rattle.ledger.proofs.Changes.{shift-down, shift-unmoved, shift-of-another, shift-own, fill-lowers, fill-opposite, idle}
-use Rattle.ledger.proofs.Changes.{fill-level}
+use Rattle.ledger.proofs.Changes.{shift-down, shift-unmoved, shift-of-another, shift-own, fill-lowers, fill-opposite, idle, fill-level}
 use Rattle.ledger.proofs.Changes.{shift-by}
 use Rattle.ledger.proofs.Ways.{other-side, side-back}
 use Rattle.ledger.proofs.Linear.{linear}

@@ -1,10 +1,6 @@
 -- The manual's example B, dollar options with puts (tables 8 to 14), as a day of events. A buy of a put is judged by the
 -- group's short limit.
-use Prim.Native.Nat.{ℕ, _-_}
-use mathlib.Core.Path.{_≡_, refl}
-use mathlib.Core.List.{List, [], _∷_}
-use lib.ListN.{getD}
-use lib.IntN.{ℤ, pos, negℤ}
+use Rattle.integers.specs.Basics.{ℕ, _-_, _≡_, refl, List, [], _∷_, ℤ, pos, negℤ, getD}
 use Rattle.ledger.specs.declared.order.Side.the-variants.{Buy, Sell}
 use Rattle.ledger.specs.Roster.{Roster}
 use Rattle.book.specs.declared.Figures.{Figures}

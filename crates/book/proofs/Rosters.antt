@@ -1,8 +1,5 @@
 -- What holds of each entry of a table holds at each number of it.
-use Prim.Native.Nat.{ℕ, zero, suc}
-use mathlib.Core.List.{List, [], _∷_}
-use native.Mathlib.Omega.{arith}
-use lib.ListN.{length, getD}
+use Rattle.integers.specs.Basics.{ℕ, zero, suc, List, [], _∷_, length, getD, arith}
 use Rattle.ledger.specs.Roster.{Numbered}
 
 module _ {A : Type 0} (none : A) (P : A → Type 0) where

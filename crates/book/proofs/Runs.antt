@@ -1,10 +1,5 @@
 -- A list of events at a desk that meets the contract: after every list the memory shows the kept book, and that is sound.
-use Prim.Native.Nat.{ℕ}
-use mathlib.Core.Path.{_≡_, sym, _∙_}
-use mathlib.Core.Logic.{_≢_, by-cases}
-use mathlib.Core.List.{List, [], _∷_}
-use native.Mathlib.Decide.{ℕ-discrete}
-use borrow.Author.Tests.{eq-eqb, ne-eqb}
+use Rattle.integers.specs.Basics.{ℕ, _≡_, _∙_, sym, _≢_, by-cases, List, [], _∷_, ℕ-discrete, eq-eqb, ne-eqb}
 use Rattle.book.specs.States.{State, work}
 use Rattle.book.specs.Table.{answer}
 use Rattle.book.specs.Sound.{Sound}

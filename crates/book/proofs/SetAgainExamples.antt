@@ -1,12 +1,5 @@
 -- LIMITs that set a limit again, and LIMITs that do not, computed.
-use Prim.Native.Nat.{ℕ}
-use mathlib.Core.Path.{_≡_, refl}
-use mathlib.Core.Logic.{inl, inr, ⊎-elim}
-use mathlib.Core.Bool.{false}
-use mathlib.Core.List.{[]}
-use mathlib.Core.Option.{none, some}
-use native.Mathlib.Omega.{arith}
-use lib.IntN.{ℤ, pos, negsuc}
+use Rattle.integers.specs.Basics.{ℕ, _≡_, refl, inl, inr, ⊎-elim, false, [], none, some, ℤ, pos, negsuc, arith}
 use Rattle.ledger.specs.Roster.{Roster}
 use Rattle.ledger.specs.Positions.{Scope, instrument, group}
 use Rattle.limits.specs.Lines.{Line}

@@ -1,11 +1,6 @@
 -- "Set again" is document 01's sentence, line by line.
-use Prim.Native.Nat.{ℕ}
-use mathlib.Core.Path.{_≡_, refl, sym, _∙_, ap}
-use mathlib.Core.Logic.{_↔_, Iff·trans, _⊎_, inl, inr, ⊎-elim}
-use mathlib.Core.Bool.{true, false}
-use mathlib.Core.Option.{some}
-use native.Mathlib.Omega.{arith}
-use lib.IntN.{ℤ}
+use Rattle.integers.specs.Basics.{ℕ, _≡_, refl, _∙_, sym, ap, _⊎_, inl, inr, ⊎-elim, _↔_, true, false, some, ℤ, arith}
+use mathlib.Core.Logic.{Iff·trans}
 use Rattle.ledger.specs.Positions.{instrument, group}
 use Rattle.ledger.proofs.Ways.{by-test}
 use Rattle.limits.specs.Lines.{isSet}

@@ -1,15 +1,7 @@
 -- What a NEW and a change do to the open orders: what counts of one order is another number. NEW enters it, REPLACE moves it to
 -- another total, CANCEL takes it out, FILL lowers it by the quantity, and the balances move by what is filled.
-use Prim.Native.Nat.{ℕ, _*_, _-_}
-use mathlib.Core.Path.{_≡_, refl, sym, _∙_, ap}
-use mathlib.Core.Logic.{_≢_, by-cases}
-use mathlib.Core.List.{List, [], _∷_}
-use mathlib.Core.Option.{some}
-use native.Mathlib.Decide.{ℕ-discrete}
-use native.Mathlib.Omega.{arith}
-use lib.IntN.{ℤ, pos, natAbs, _+ℤ_, +ℤ-idr}
-use borrow.Author.Tests.{ne-eqb}
-use Rattle.integers.specs.Parts.{signed}
+use Rattle.integers.specs.Basics.{ℕ, _*_, _-_, _≡_, refl, _∙_, sym, ap, _≢_, by-cases, List, [], _∷_, some, ℤ, pos, natAbs, _+ℤ_, +ℤ-idr}
+use Rattle.integers.specs.Basics.{ℕ-discrete, arith, ne-eqb, signed}
 use Rattle.ledger.specs.declared.order.Order.{Order}
 use Rattle.ledger.specs.declared.order.Side.{Side}
 use Rattle.ledger.specs.Orders.{remaining, filledBy, replacedTotal, closes}

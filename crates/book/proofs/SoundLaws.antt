@@ -1,13 +1,5 @@
 -- "A desk is sound if ..": each condition of document 01's sentence, and no other.
-use Prim.Native.Nat.{ℕ, _≤_, _<_}
-use mathlib.Core.Path.{_≡_}
-use mathlib.Core.Logic.{_↔_}
-use mathlib.Core.Bool.{true}
-use mathlib.Core.List.{List, [], _∷_, List·Memᴰ}
-use mathlib.Core.Option.{some}
-use lib.ListN.{length}
-use lib.IntN.{pos, natAbs}
-use lib.Signed.{_≤ℤ_}
+use Rattle.integers.specs.Basics.{ℕ, _≤_, _<_, _≡_, _↔_, true, List, [], _∷_, List·Memᴰ, some, pos, natAbs, _≤ℤ_, length}
 use Rattle.ledger.specs.declared.order.Order.{Order}
 use Rattle.ledger.specs.Orders.{remaining}
 use Rattle.ledger.specs.Roster.{Roster, Numbered}

@@ -1,11 +1,6 @@
 -- Lines stay in range: the figures that pass question 9 make a line in range, and a line in range gives limits in range.
-use Prim.Native.Nat.{ℕ, _≤_}
-use mathlib.Core.Path.{_≡_, refl}
-use mathlib.Core.Bool.{Bool, true, _&&_, _||_}
-use mathlib.Core.Option.{Option, none, some}
-use lib.IntN.{ℤ, pos, natAbs}
-use lib.Signed.{_≤ℤ_}
-use Rattle.integers.specs.Parts.{signed, magnitude-parts}
+use Rattle.integers.specs.Basics.{ℕ, _≤_, _≡_, refl, Bool, true, _&&_, _||_, Option, none, some, ℤ, pos, natAbs, _≤ℤ_, signed}
+use Rattle.integers.specs.Basics.{magnitude-parts}
 use Rattle.ledger.specs.Roster.{Roster}
 use Rattle.ledger.specs.Positions.{Way, long, short, instrument}
 use Rattle.ledger.proofs.Ways.{by-test}
@@ -40,7 +35,8 @@ module _ (largest : ℕ) where
       by-test (unsets f) (λ t. none-some l (rw t at e))
       (λ t.
       let made = rw t at e in
-      let h = four-true (isLimit largest (f .tci)) (isLimit largest (f .tvi)) (isLimit largest (f .lci)) (isLimit largest (f .lvi)) (rw t at fit) in
+      let h = four-true (isLimit largest (f .tci)) (isLimit largest (f .tvi)) (isLimit largest (f .lci)) (isLimit largest (f .lvi))
+      (rw t at fit) in
       let same : l ≡ record { tci = natAbs (f .tci); tvi = natAbs (f .tvi); lci = natAbs (f .lci); lvi = natAbs (f .lvi) } = cc in
       rw same (record {
         tci = figure-fits (f .tci) (h .0);

@@ -1,15 +1,7 @@
 -- Open orders stay in range, at most 256, and marked: what each kind of accepted event leaves of them.
-use Prim.Native.Nat.{ℕ, _≤_, _<_}
-use mathlib.Core.Path.{_≡_, refl, ap}
-use mathlib.Core.Logic.{_≢_, ⊎-elim, by-cases}
-use mathlib.Core.Bool.{true}
-use mathlib.Core.List.{List, List·Memᴰ, List·Memᴰ·not-nil, List·Memᴰ·eq-of-singleton}
-use mathlib.Core.Option.{some}
-use native.Mathlib.Decide.{ℕ-discrete}
-use native.Mathlib.Omega.{arith}
-use lib.ListN.{length}
-use lib.IntN.{ℤ, natAbs}
-use borrow.Author.Tests.{ltb-true, not-true}
+use Rattle.integers.specs.Basics.{ℕ, _≤_, _<_, _≡_, refl, ap, ⊎-elim, _≢_, by-cases, true, List, List·Memᴰ, List·Memᴰ·not-nil, some, ℤ}
+use Rattle.integers.specs.Basics.{natAbs, length, ℕ-discrete, arith, not-true, ltb-true}
+use mathlib.Core.List.{List·Memᴰ·eq-of-singleton}
 use Rattle.ledger.specs.declared.order.Order.{Order}
 use Rattle.ledger.specs.declared.order.Side.{Side}
 use Rattle.ledger.specs.Orders.{remaining, filledBy, replacedTotal}

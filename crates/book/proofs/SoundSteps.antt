@@ -1,16 +1,7 @@
 -- The empty book is sound, and every accepted event keeps a sound book sound. So question 5 is never answered no after an
 -- accepted opening.
-use Prim.Native.Nat.{ℕ}
-use mathlib.Core.Path.{_≡_, sym, _∙_}
-use mathlib.Core.Logic.{_≢_, by-cases}
-use mathlib.Core.Bool.{true≢false}
-use mathlib.Core.List.{List·Memᴰ, List·Memᴰ·not-nil}
-use native.Mathlib.Decide.{ℕ-discrete}
-use native.Mathlib.Omega.{arith}
-use lib.IntN.{ℤ, pos, negℤ}
-use lib.Signed.{_≤ℤ_}
-use borrow.Author.Tests.{not-true}
-use Rattle.integers.specs.Parts.{signed, negation-parts}
+use Rattle.integers.specs.Basics.{ℕ, _≡_, _∙_, sym, _≢_, by-cases, true≢false, List·Memᴰ, List·Memᴰ·not-nil, ℤ, pos, negℤ, _≤ℤ_, ℕ-discrete}
+use Rattle.integers.specs.Basics.{arith, not-true, signed, negation-parts}
 use Rattle.ledger.specs.declared.order.Order.{Order}
 use Rattle.ledger.specs.Roster.{Roster}
 use Rattle.ledger.specs.Positions.{Way, long, short, instrument, toward, sideTo, ofInstrument, potential, position}

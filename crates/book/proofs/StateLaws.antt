@@ -1,12 +1,5 @@
 -- "The plain book is kept from the roster, the events and their answers": what is kept after a list, event by event.
-use Prim.Native.Nat.{ℕ, _<_}
-use mathlib.Core.Path.{_≡_, refl, _∙_}
-use mathlib.Core.Bool.{false}
-use mathlib.Core.List.{List, [], _∷_, _++_}
-use mathlib.Core.Option.{none}
-use lib.Dec.{eqb}
-use lib.IntN.{pos}
-use lib.ListN.{getD}
+use Rattle.integers.specs.Basics.{ℕ, _<_, _≡_, refl, _∙_, false, List, [], _∷_, _++_, none, pos, eqb, getD}
 use Rattle.ledger.specs.Roster.{Roster}
 use Rattle.ledger.proofs.Ways.{by-test}
 use Rattle.book.specs.declared.Event.{Event}

@@ -1,12 +1,6 @@
 -- The table of an event: its numbers in document 01's order, and the order that its later questions are asked of.
-use Prim.Native.Nat.{ℕ, _<_}
-use mathlib.Core.Path.{_≡_, refl, sym, ap}
-use mathlib.Core.Logic.{_↔_, _⊎_, inl, inr, ⊎-elim}
-use mathlib.Core.Bool.{Bool}
-use mathlib.Core.List.{List, [], _∷_}
-use mathlib.Core.Option.{Option, none, some}
-use lib.IntN.{ℤ, natAbs}
-use borrow.Author.Tests.{lt-ltb}
+use Rattle.integers.specs.Basics.{ℕ, _<_, _≡_, refl, sym, ap, _⊎_, inl, inr, ⊎-elim, _↔_, Bool, List, [], _∷_, Option, none, some, ℤ}
+use Rattle.integers.specs.Basics.{natAbs, lt-ltb}
 use Rattle.ledger.specs.declared.order.Order.{Order}
 use Rattle.ledger.specs.Orders.{replacedTotal}
 use Rattle.limits.specs.Questions.{numbersOf}

@@ -1,13 +1,6 @@
 -- Tables changed at one number, and tests turned into facts.
-use Prim.Native.Nat.{ℕ}
-use mathlib.Core.Path.{_≡_}
-use mathlib.Core.Logic.{_≢_}
-use mathlib.Core.Bool.{true, cond}
-use lib.Dec.{leb}
-use lib.IntN.{ℤ, pos, natAbs}
-use lib.Signed.{_≤ℤ_, leZ}
-use borrow.Author.Tests.{leb-true, eq-eqb, ne-eqb}
-use Rattle.integers.specs.Parts.{signed, magnitude-parts}
+use Rattle.integers.specs.Basics.{ℕ, _≡_, _≢_, true, cond, ℤ, pos, natAbs, _≤ℤ_, leZ, leb, leb-true, eq-eqb, ne-eqb, signed}
+use Rattle.integers.specs.Basics.{magnitude-parts}
 use Rattle.ledger.specs.Roster.{Numbered}
 use Rattle.ledger.proofs.Ways.{by-number}
 use Rattle.limits.proofs.Answers.{both-true}

@@ -1,17 +1,7 @@
 -- An accepted event keeps a potential position within every bound that its limit is within. With the limit itself for the
 -- bound this is demand 3's second half; with the largest figure it is soundness.
-use Prim.Native.Nat.{ℕ, _+_, _≤_, _<_}
-use mathlib.Core.Path.{_≡_, refl}
-use mathlib.Core.Logic.{_≢_, by-cases}
-use mathlib.Core.Bool.{true}
-use mathlib.Core.Option.{none, some}
-use native.Mathlib.Decide.{ℕ-discrete}
-use native.Mathlib.Omega.{arith}
-use lib.Dec.{ltb}
-use lib.IntN.{ℤ, natAbs}
-use lib.Signed.{_≤ℤ_}
-use borrow.Author.Tests.{ltb-true, ltb-false, leb-true, lt-ltb, le-ltb}
-use Rattle.integers.specs.Parts.{signed}
+use Rattle.integers.specs.Basics.{ℕ, _+_, _≤_, _<_, _≡_, refl, _≢_, by-cases, true, none, some, ℤ, natAbs, _≤ℤ_, ltb, ℕ-discrete, arith}
+use Rattle.integers.specs.Basics.{leb-true, ltb-true, ltb-false, lt-ltb, le-ltb, signed}
 use Rattle.ledger.specs.declared.order.Order.{Order}
 use Rattle.ledger.specs.Orders.{remaining, replacedTotal}
 use Rattle.ledger.specs.Roster.{Roster}
@@ -34,8 +24,7 @@ use Rattle.book.specs.Positions.{potentialOf}
 use Rattle.book.specs.Demand3.{limitOf}
 use Rattle.book.proofs.Accepted.{Passed, Accepted}
 use Rattle.book.proofs.Shifts.{remainsAfter, filledIn, change-shift}
-use Rattle.book.proofs.Potentials.{balance-other, new-unmoved, new-other}
-use Rattle.book.proofs.Potentials.{change-lowers}
+use Rattle.book.proofs.Potentials.{balance-other, new-unmoved, new-other, change-lowers}
 
 -- the event sets no balance of account a
 abbrev pub SetsNoBalance : ℕ → Event → Type 0

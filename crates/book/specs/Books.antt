@@ -1,10 +1,5 @@
 -- Document 01, "The plain book", and what an accepted event does to it.
-use Prim.Native.Nat.{ℕ}
-use mathlib.Core.Bool.{Bool, false, not, _&&_, cond}
-use mathlib.Core.List.{List, [], _∷_}
-use mathlib.Core.Option.{Option, none, some}
-use lib.Dec.{eqb}
-use lib.IntN.{ℤ, pos, negsuc, natAbs, _+ℤ_}
+use Rattle.integers.specs.Basics.{ℕ, Bool, false, not, _&&_, cond, List, [], _∷_, Option, none, some, ℤ, pos, negsuc, natAbs, _+ℤ_, eqb}
 use Rattle.ledger.specs.declared.order.Order.{Order}
 use Rattle.ledger.specs.declared.order.Side.{Side}
 use Rattle.ledger.specs.Orders.{filledBy, replacedTotal}

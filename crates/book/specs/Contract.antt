@@ -1,6 +1,5 @@
 -- What demand 3 asks of a desk: that its answers are the table's, and that its memory shows what is kept.
-use mathlib.Core.Path.{_≡_}
-use mathlib.Core.Logic.{_≢_}
+use Rattle.integers.specs.Basics.{_≡_, _≢_}
 use Rattle.book.specs.States.{State, work}
 use Rattle.book.specs.Table.{answer}
 use Rattle.book.specs.Sound.{Sound}

@@ -1,8 +1,5 @@
 -- A day, computed: the answers to a list of events, and what is kept at its end.
-use Prim.Native.Nat.{ℕ}
-use mathlib.Core.Bool.{Bool, true, _&&_}
-use mathlib.Core.List.{List, [], _∷_}
-use lib.Dec.{ltb}
+use Rattle.integers.specs.Basics.{ℕ, Bool, true, _&&_, List, [], _∷_, ltb}
 use Rattle.book.specs.declared.Event.{Event}
 use Rattle.book.specs.Decoding.{decode}
 use Rattle.book.specs.States.{State}

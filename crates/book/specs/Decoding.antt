@@ -1,10 +1,5 @@
 -- Document 01, "Events": 48 bytes decoded (question 6); any other bytes are junk.
-use Prim.Native.Nat.{ℕ, _+_, _*_}
-use mathlib.Core.Bool.{Bool, true, false, not, _&&_, _||_, cond}
-use mathlib.Core.List.{List}
-use lib.Dec.{leb, ltb, eqb}
-use lib.ListN.{length}
-use lib.IntN.{ℤ}
+use Rattle.integers.specs.Basics.{ℕ, _+_, _*_, Bool, true, false, not, _&&_, _||_, cond, List, ℤ, leb, ltb, eqb, length}
 use Rattle.words.specs.Fields.{u8At, u16At, u64At, i64At}
 use Rattle.ledger.specs.Records.{sideOf}
 use Rattle.limits.specs.Asked.{isZero}

@@ -1,12 +1,5 @@
 -- Demand 3, of a desk D whose memory m₀ holds what k₀ says: a single claim about every list of events.
-use Prim.Native.Nat.{ℕ}
-use mathlib.Core.Path.{_≡_}
-use mathlib.Core.Logic.{_⊎_, _↔_}
-use mathlib.Core.Bool.{true}
-use mathlib.Core.List.{List, [], _∷_}
-use mathlib.Core.Option.{some}
-use lib.IntN.{ℤ}
-use lib.Signed.{_≤ℤ_, _<ℤ_}
+use Rattle.integers.specs.Basics.{ℕ, _≡_, _⊎_, _↔_, true, List, [], _∷_, some, ℤ, _≤ℤ_, _<ℤ_}
 use Rattle.ledger.specs.declared.order.Order.{Order}
 use Rattle.ledger.specs.Positions.{Scope, Way, position}
 use Rattle.ledger.specs.Fillings.{Filling, balanceAfter}

@@ -1,8 +1,5 @@
 -- Document 01's starred edges as one table of cases, in bytes, and what the plain book gives of a case.
-use Prim.Native.Nat.{ℕ}
-use mathlib.Core.Bool.{Bool, true}
-use mathlib.Core.List.{List, [], _∷_, _++_}
-use lib.IntN.{ℤ, pos, negsuc, negℤ}
+use Rattle.integers.specs.Basics.{ℕ, Bool, true, List, [], _∷_, _++_, ℤ, pos, negsuc, negℤ}
 use Rattle.ledger.specs.Roster.{Roster}
 use Rattle.book.specs.Market.{derivatives}
 use Rattle.book.specs.Decoding.{between, decode}

@@ -1,7 +1,5 @@
 -- Events written out in their 48 bytes: document 01, "Events".
-use Prim.Native.Nat.{ℕ, zero, suc, _/_, _%_}
-use mathlib.Core.List.{List, [], _∷_, _++_}
-use lib.IntN.{ℤ, pos}
+use Rattle.integers.specs.Basics.{ℕ, zero, suc, _/_, _%_, List, [], _∷_, _++_, ℤ, pos}
 use Rattle.integers.specs.TwosComplement.{bitsOf}
 
 -- the n bytes of a number, least significant first

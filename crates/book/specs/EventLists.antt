@@ -1,8 +1,5 @@
 -- A list of events at a desk, and what is kept from the events and their answers alone.
-use Prim.Native.Nat.{ℕ}
-use mathlib.Core.Bool.{cond}
-use mathlib.Core.List.{List, [], _∷_}
-use lib.Dec.{eqb}
+use Rattle.integers.specs.Basics.{ℕ, cond, List, [], _∷_, eqb}
 use Rattle.words.specs.Bytes.{Bytes}
 use Rattle.book.specs.declared.Event.{Event}
 use Rattle.book.specs.Decoding.{decode}

@@ -1,7 +1,5 @@
 -- Document 01's listing: its roster, and its events in bytes.
-use Prim.Native.Nat.{ℕ}
-use mathlib.Core.List.{List, [], _∷_}
-use lib.IntN.{pos, negsuc, negℤ}
+use Rattle.integers.specs.Basics.{ℕ, List, [], _∷_, pos, negsuc, negℤ}
 use Rattle.book.specs.EventBytes.{line, groupLine, balance, buy, sell, fillBytes, cancelBytes}
 use Rattle.book.specs.Rosters.{Tables}
 

@@ -1,9 +1,6 @@
 -- A day with puts, in bytes, longer than document 01's listing: each way of refusing an order for a position limit, an order that is
 -- accepted at its limit, and what may come after it.
-use Prim.Native.Nat.{ℕ}
-use mathlib.Core.List.{List, [], _∷_, _++_}
-use lib.IntN.{pos, negsuc, negℤ}
-use lib.ListN.{take}
+use Rattle.integers.specs.Basics.{ℕ, List, [], _∷_, _++_, pos, negsuc, negℤ, take}
 use Rattle.book.specs.EventBytes.{limitBytes, line, groupLine, balanceBytes, balance, blockBytes, buy, sell, replaceBytes}
 use Rattle.book.specs.EventBytes.{cancelBytes, fillBytes}
 use Rattle.book.specs.Rosters.{Tables}

@@ -1,8 +1,5 @@
 -- What a desk's figures run to, and what its orders count for.
-use Prim.Native.Nat.{ℕ}
-use mathlib.Core.Path.{_≡_, refl}
-use mathlib.Core.Bool.{cond}
-use lib.Dec.{eqb}
+use Rattle.integers.specs.Basics.{ℕ, _≡_, refl, cond, eqb}
 use Rattle.ledger.specs.declared.order.Order.{Order}
 use Rattle.ledger.specs.Orders.{filledBy, replacedTotal}
 use Rattle.ledger.specs.Derivatives.{one}

@@ -1,6 +1,5 @@
 -- What an event names, in document 01's words: an account, an item, an order that is to be new, an open order and its change.
-use Prim.Native.Nat.{ℕ}
-use mathlib.Core.Option.{Option, none, some}
+use Rattle.integers.specs.Basics.{ℕ, Option, none, some}
 use Rattle.ledger.specs.declared.order.Order.{Order}
 use Rattle.book.specs.declared.LimitLine.{LimitLine}
 use Rattle.book.specs.declared.LimitLine.the-variants.{Own, Default, OfGroup}

@@ -1,9 +1,5 @@
 -- The open orders of the plain book: a list ascending by id.
-use Prim.Native.Nat.{ℕ}
-use mathlib.Core.Bool.{cond}
-use mathlib.Core.List.{List, [], _∷_, _++_}
-use mathlib.Core.Option.{Option, none, some}
-use lib.Dec.{ltb, eqb}
+use Rattle.integers.specs.Basics.{ℕ, cond, List, [], _∷_, _++_, Option, none, some, ltb, eqb}
 use Rattle.ledger.specs.declared.order.Order.{Order}
 use Rattle.ledger.specs.Orders.{closes}
 

@@ -1,7 +1,5 @@
 -- The positions that a state gives: those of its plain book, counted as its market counts.
-use Prim.Native.Nat.{ℕ}
-use mathlib.Core.List.{List, [], _∷_}
-use lib.IntN.{ℤ}
+use Rattle.integers.specs.Basics.{ℕ, List, [], _∷_, ℤ}
 use Rattle.ledger.specs.Positions.{Scope, Way, long, short, instrument, group, potential}
 use Rattle.book.specs.States.{State}
 

@@ -1,8 +1,5 @@
 -- A roster written out as tables, and in bytes: document 01, "Roster".
-use Prim.Native.Nat.{ℕ}
-use mathlib.Core.List.{List, [], _∷_, _++_}
-use lib.IntN.{ℤ, pos}
-use lib.ListN.{length, getD}
+use Rattle.integers.specs.Basics.{ℕ, List, [], _∷_, _++_, ℤ, pos, length, getD}
 use Rattle.integers.specs.TwosComplement.{bitsOf}
 use Rattle.ledger.specs.Roster.{Roster}
 use Rattle.book.specs.EventBytes.{bytesOf}

@@ -1,10 +1,6 @@
 -- "A limit that applies is set again by an accepted LIMIT, −1 included, on the group's line or on a line in force before or
 -- after it": lines are known by name, not by figures.
-use Prim.Native.Nat.{ℕ}
-use mathlib.Core.Path.{_≡_}
-use mathlib.Core.Logic.{_⊎_}
-use mathlib.Core.Bool.{cond}
-use mathlib.Core.Option.{Option, none, some}
+use Rattle.integers.specs.Basics.{ℕ, _≡_, _⊎_, cond, Option, none, some}
 use Rattle.ledger.specs.Roster.{Roster}
 use Rattle.ledger.specs.Positions.{Scope, instrument, group}
 use Rattle.limits.specs.Lines.{isSet}

@@ -1,13 +1,6 @@
 -- Document 01's "sound", sentence by sentence, of what a desk holds. B and V are what the orders say, so that
 -- they equal the orders' sums is no condition.
-use Prim.Native.Nat.{ℕ, _≤_, _<_}
-use mathlib.Core.Bool.{true}
-use mathlib.Core.Path.{_≡_}
-use mathlib.Core.List.{List, [], _∷_, List·Memᴰ}
-use mathlib.Core.Option.{some}
-use lib.ListN.{length}
-use lib.IntN.{pos, natAbs}
-use lib.Signed.{_≤ℤ_}
+use Rattle.integers.specs.Basics.{ℕ, _≤_, _<_, _≡_, true, List, [], _∷_, List·Memᴰ, some, pos, natAbs, _≤ℤ_, length}
 use Rattle.ledger.specs.declared.order.Order.{Order}
 use Rattle.ledger.specs.Orders.{remaining}
 use Rattle.ledger.specs.Roster.{Roster, Numbered}

@@ -1,6 +1,5 @@
 -- What a desk holds: its market, its roster, the plain book, and what stands beside the book; and what an accepted event does to it.
-use Prim.Native.Nat.{ℕ}
-use mathlib.Core.Bool.{Bool, true, false}
+use Rattle.integers.specs.Basics.{ℕ, Bool, true, false}
 use Rattle.ledger.specs.Roster.{Roster}
 use Rattle.book.specs.declared.Event.{Event}
 use Rattle.book.specs.declared.Event.the-variants.{Limit, Balance, Block, New, Change, Junk}

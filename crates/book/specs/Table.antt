@@ -1,13 +1,7 @@
 -- Document 01, "Questions, in order": each question about an event is one definition, true also of an event that is not
 -- asked it, and the table has them in the document's order. Question 5 is asked of the memory, before these.
-use Prim.Native.Nat.{ℕ}
-use mathlib.Core.Bool.{Bool, true, false, not, _&&_, _||_, cond}
-use mathlib.Core.List.{List, [], _∷_, _++_}
-use mathlib.Core.Option.{Option, none, some}
-use lib.Dec.{leb, ltb}
-use lib.ListN.{length}
-use lib.IntN.{ℤ, pos, negℤ, natAbs}
-use lib.Signed.{leZ}
+use Rattle.integers.specs.Basics.{ℕ, Bool, true, false, not, _&&_, _||_, cond, List, [], _∷_, _++_, Option, none, some, ℤ, pos, negℤ}
+use Rattle.integers.specs.Basics.{natAbs, leZ, leb, ltb, length}
 use Rattle.ledger.specs.declared.order.Order.{Order}
 use Rattle.ledger.specs.declared.order.Side.the-variants.{Buy, Sell}
 use Rattle.ledger.specs.Orders.{remaining, replacedTotal}

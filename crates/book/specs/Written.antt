@@ -1,7 +1,5 @@
 -- Events of a list, from numbers written out.
-use Prim.Native.Nat.{ℕ, zero, suc, _%_}
-use mathlib.Core.List.{List, [], _∷_}
-use native.Mathlib.Omega.{arith}
+use Rattle.integers.specs.Basics.{ℕ, zero, suc, _%_, List, [], _∷_, arith}
 use Rattle.words.specs.Bytes.{Bytes}
 use Rattle.book.specs.EventLists.{RawEvent}
 

@@ -1,11 +1,6 @@
 -- The way back: each demand as the claim says it gives the demand as the crate desk says it, so neither can be weakened alone.
-use Prim.Native.Nat.{ℕ, _≤_, _<_}
-use mathlib.Core.Path.{_≡_, refl, sym, ap, _∙_, subst}
-use mathlib.Core.Logic.{inl, inr, _↔_, _≢_, by-cases}
-use mathlib.Core.Bool.{Bool, true, false}
-use mathlib.Core.List.{List, [], _∷_, _++_, List·Memᴰ, List·Memᴰ·head, List·Memᴰ·tail}
-use native.Mathlib.Decide.{ℕ-discrete}
-use lib.ListN.{length}
+use Rattle.integers.specs.Basics.{ℕ, _≤_, _<_, _≡_, refl, _∙_, sym, ap, subst, inl, inr, _↔_, _≢_, by-cases, Bool, true, false, List, []}
+use Rattle.integers.specs.Basics.{_∷_, _++_, List·Memᴰ, List·Memᴰ·head, List·Memᴰ·tail, length, ℕ-discrete}
 use Rattle.limits.specs.Lines.{isSet}
 use Rattle.limits.specs.Questions.{Question, numbersOf, allPass}
 use Rattle.book.specs.Market.{derivatives}

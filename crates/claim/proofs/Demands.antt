@@ -1,13 +1,9 @@
 -- The three demands as the claim says them, each taken from the theorem of the same name in the crate desk.
-use Prim.Native.Nat.{ℕ, suc, _≤_}
-use mathlib.Core.Path.{_≡_, refl, ap, _∙_, subst}
-use mathlib.Core.Logic.{_⊎_, inl, inr, ⊎-elim, _↔_, _≢_}
-use mathlib.Core.Bool.{Bool, true, false, cond}
-use mathlib.Core.List.{List, [], _∷_, _++_, map, List·Memᴰ, List·Memᴰ·head, List·Memᴰ·tail, List·Memᴰ·not-nil}
+use Rattle.integers.specs.Basics.{ℕ, suc, _≤_, _≡_, refl, _∙_, ap, subst, _⊎_, inl, inr, ⊎-elim, _↔_, _≢_, Bool, true, false, cond, List}
+use Rattle.integers.specs.Basics.{[], _∷_, _++_, map, List·Memᴰ, List·Memᴰ·head, List·Memᴰ·tail, List·Memᴰ·not-nil, Option, none, some}
+use Rattle.integers.specs.Basics.{length, arith}
 use mathlib.Core.List.{List·Memᴰ·append-cases, Memᴰ·append-left}
-use mathlib.Core.Option.{Option, none, some}
-use native.Mathlib.Omega.{arith}
-use lib.ListN.{length, length-append, length-map}
+use lib.ListN.{length-append, length-map}
 use Rattle.ledger.specs.declared.order.Order.{Order}
 use Rattle.limits.specs.Lines.{isSet}
 use Rattle.limits.specs.Questions.{Question, numbersOf}

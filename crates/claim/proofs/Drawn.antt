@@ -1,9 +1,6 @@
 -- The days and the starred edges in one memory, 65,536 zeros: nothing is left to assume.
-use Prim.Native.Nat.{ℕ, zero, suc, _≤_, _<_}
-use mathlib.Core.Path.{_≡_, refl, sym, _∙_, ap, subst}
-use mathlib.Core.List.{List, [], _∷_, _++_, map}
-use native.Mathlib.Omega.{arith}
-use lib.ListN.{length, getD, replicate}
+use Rattle.integers.specs.Basics.{ℕ, zero, suc, _≤_, _<_, _≡_, refl, _∙_, sym, ap, subst, List, [], _∷_, _++_, map, length, getD, replicate}
+use Rattle.integers.specs.Basics.{arith}
 use Rattle.words.specs.Bytes.{Bytes}
 use Rattle.book.specs.Edges.{Case, starredEdges, allAccepted}
 use Rattle.book.proofs.Computed.{computes}

@@ -1,13 +1,5 @@
 -- Instances from what is computed of the plain book: each conclusion is drawn by one of the three demands.
-use Prim.Native.Nat.{ℕ}
-use mathlib.Core.Path.{_≡_, refl, sym, ap, _∙_}
-use mathlib.Core.Logic.{_⊎_, inl, ⊎-elim, _≢_}
-use mathlib.Core.Bool.{true}
-use mathlib.Core.List.{List, [], _∷_, _++_}
-use mathlib.Core.Option.{some}
-use native.Mathlib.Omega.{arith}
-use lib.IntN.{ℤ}
-use lib.Signed.{_<ℤ_}
+use Rattle.integers.specs.Basics.{ℕ, _≡_, refl, _∙_, sym, ap, _⊎_, inl, ⊎-elim, _≢_, true, List, [], _∷_, _++_, some, ℤ, _<ℤ_, arith}
 use Rattle.words.specs.Bytes.{Bytes}
 use Rattle.ledger.specs.declared.order.Order.{Order}
 use Rattle.ledger.specs.Derivatives.{one}

@@ -1,9 +1,6 @@
 -- What is kept from an opening holds the opening's roster and the derivatives market: the claim names them, and the theorem of the crate
 -- desk takes them from what is kept.
-use Prim.Native.Nat.{ℕ}
-use mathlib.Core.Path.{_≡_, refl, sym, _∙_, subst}
-use mathlib.Core.Logic.{_⊎_, inl, inr, ⊎-elim, _↔_}
-use mathlib.Core.List.{List}
+use Rattle.integers.specs.Basics.{ℕ, _≡_, refl, _∙_, sym, subst, _⊎_, inl, inr, ⊎-elim, _↔_, List}
 use Rattle.ledger.specs.Derivatives.{one}
 use Rattle.ledger.specs.Positions.{Scope}
 use Rattle.ledger.specs.Roster.{Roster}

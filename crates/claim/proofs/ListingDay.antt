@@ -1,14 +1,6 @@
 -- Document 01's listing as an instance of the demands: computed of the plain book, each conclusion drawn by a demand.
-use Prim.Native.Nat.{ℕ, _≤_}
-use mathlib.Core.Path.{_≡_, refl, ap, _∙_}
-use mathlib.Core.Logic.{inl, inr}
-use mathlib.Core.Bool.{true}
-use mathlib.Core.List.{List, [], _∷_, map, List·Memᴰ}
-use native.Mathlib.Omega.{arith}
-use lib.IntN.{ℤ}
-use lib.ListN.{length, take, drop}
-use lib.Dec.{eqb}
-use borrow.Author.Tests.{eqb-true}
+use Rattle.integers.specs.Basics.{ℕ, _≤_, _≡_, refl, _∙_, ap, inl, inr, true, List, [], _∷_, map, List·Memᴰ, ℤ, eqb, length, take, drop}
+use Rattle.integers.specs.Basics.{arith, eqb-true}
 use Rattle.words.specs.Bytes.{Bytes}
 use Rattle.ledger.specs.declared.order.Side.the-variants.{Buy, Sell}
 use Rattle.ledger.specs.Positions.{group, long, ofInstrument, potential}

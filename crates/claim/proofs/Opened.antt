@@ -1,10 +1,5 @@
 -- By demand 2 a roster that passes questions 2 to 4 opens a memory that is long enough; and what the days compute with.
-use Prim.Native.Nat.{ℕ, _≤_}
-use mathlib.Core.Path.{_≡_}
-use mathlib.Core.Bool.{true}
-use mathlib.Core.List.{List}
-use lib.ListN.{length}
-use borrow.Author.Tests.{le-leb}
+use Rattle.integers.specs.Basics.{ℕ, _≤_, _≡_, true, List, length, le-leb}
 use Rattle.limits.specs.Questions.{allPass}
 use Rattle.memory_layout.specs.Rosters.{longEnough}
 use Rattle.memory_opening.specs.Questions.{openingQuestions, openingAnswer}

@@ -1,8 +1,5 @@
 -- From a fresh desk every answer is that of the table asked of the plain book, so that a list of events written out can be computed.
-use Prim.Native.Nat.{ℕ}
-use mathlib.Core.Path.{_≡_, refl, _∙_}
-use mathlib.Core.Bool.{true}
-use mathlib.Core.List.{List, [], _∷_, _++_, map}
+use Rattle.integers.specs.Basics.{ℕ, _≡_, refl, _∙_, true, List, [], _∷_, _++_, map}
 use Rattle.words.specs.Bytes.{Bytes}
 use Rattle.ledger.specs.Positions.{Scope}
 use Rattle.ledger.specs.Roster.{Roster}

@@ -1,13 +1,7 @@
 -- What follows from the demands alone.
-use Prim.Native.Nat.{ℕ, _≤_, _<_}
-use mathlib.Core.Path.{_≡_, refl, sym, ap, _∙_}
-use mathlib.Core.Logic.{_⊎_, inl, inr, ⊎-elim, _↔_, _≢_}
-use mathlib.Core.Bool.{Bool, true, false, not, _&&_, _||_, cond}
-use mathlib.Core.List.{List, [], _∷_, _++_, List·Memᴰ, List·Memᴰ·head, List·Memᴰ·tail}
-use native.Mathlib.Omega.{arith}
-use lib.Dec.{eqb, leb}
-use lib.ListN.{length, getD}
-use borrow.Author.Tests.{eqb-true, eqb-false, leb-true, lt-leb, not-true}
+use Rattle.integers.specs.Basics.{ℕ, _≤_, _<_, _≡_, refl, _∙_, sym, ap, _⊎_, inl, inr, ⊎-elim, _↔_, _≢_, Bool, true, false, not, _&&_, _||_}
+use Rattle.integers.specs.Basics.{cond, List, [], _∷_, _++_, List·Memᴰ, List·Memᴰ·head, List·Memᴰ·tail, leb, eqb, length, getD, arith}
+use Rattle.integers.specs.Basics.{not-true, leb-true, eqb-true, eqb-false, lt-leb}
 use Rattle.limits.specs.Lines.{isSet}
 use Rattle.limits.specs.Questions.{Question, firstNo, allPass, numbersOf}
 use Rattle.limits.proofs.Answers.{both-true, pass-zero}

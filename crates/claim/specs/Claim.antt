@@ -2,15 +2,8 @@
 -- those of an event: any lists of numbers, of any length. The contracts of the exported functions (include/exported.txt) say that the code
 -- computes the functions named here: openingAnswer and afterOpening (desk_open), answerTo and afterEvent (desk_event), instrumentAnswer,
 -- groupAnswer, their reports and `reported` (the readers), and answerTo and afterEvent along a list of events (desk_run).
-use Prim.Native.Nat.{ℕ, _≤_, _<_}
-use mathlib.Core.Path.{_≡_}
-use mathlib.Core.Logic.{_⊎_, _↔_, _≢_}
-use mathlib.Core.Bool.{true, false, cond}
-use mathlib.Core.List.{List, [], _∷_, _++_, map, List·Memᴰ}
-use mathlib.Core.Option.{some}
-use lib.IntN.{ℤ, negℤ, _+ℤ_}
-use lib.Signed.{_≤ℤ_, _<ℤ_}
-use lib.ListN.{length, getD, drop, replicate}
+use Rattle.integers.specs.Basics.{ℕ, _≤_, _<_, _≡_, _⊎_, _↔_, _≢_, true, false, cond, List, [], _∷_, _++_, map, List·Memᴰ, some, ℤ, negℤ}
+use Rattle.integers.specs.Basics.{_+ℤ_, _≤ℤ_, _<ℤ_, length, getD, drop, replicate}
 use Rattle.words.specs.Bytes.{Bytes}
 use Rattle.ledger.specs.declared.order.Order.{Order}
 use Rattle.ledger.specs.declared.order.Side.the-variants.{Buy, Sell}

@@ -1,9 +1,5 @@
 -- Instances of the three demands, over bytes, in every memory that is long enough: document 01's listing, and a longer day with puts.
-use Prim.Native.Nat.{ℕ, _≤_}
-use mathlib.Core.Path.{_≡_}
-use mathlib.Core.List.{List, [], _∷_, _++_, map}
-use lib.IntN.{ℤ, pos, negsuc, negℤ}
-use lib.ListN.{length, take, drop, replicate}
+use Rattle.integers.specs.Basics.{ℕ, _≤_, _≡_, List, [], _∷_, _++_, map, ℤ, pos, negsuc, negℤ, length, take, drop, replicate}
 use Rattle.words.specs.Bytes.{Bytes}
 use Rattle.ledger.specs.declared.order.Order.{Order}
 use Rattle.ledger.specs.declared.order.Side.{Side}
@@ -13,8 +9,7 @@ use Rattle.book.specs.EventBytes.{newBytes, buy, sell}
 use Rattle.book.specs.Rosters.{rosterBytes}
 use Rattle.book.specs.Listing.{listingEvents}
 use Rattle.book.specs.LongerDay.{longerTables, morning, tooLong, tooShort, putSold, putBought, raisedTooFar, afternoon, evening}
-use Rattle.book.specs.LongerDay.{putSoldToTheLimit, putBoughtToTheLimit, raisedToTheLimit}
-use Rattle.book.specs.LongerDay.{noon, late, ownLineSet, elsewhere, secondAccount}
+use Rattle.book.specs.LongerDay.{putSoldToTheLimit, putBoughtToTheLimit, raisedToTheLimit, noon, late, ownLineSet, elsewhere, secondAccount}
 use Rattle.book.specs.Written.{writtenAll}
 use Rattle.memory_opening.specs.Questions.{openingAnswer}
 use Rattle.memory_opening.specs.Opening.{afterOpening}

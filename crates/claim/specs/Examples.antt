@@ -1,12 +1,5 @@
 -- What an instance of the claim shows, over bytes: the premises of a demand met, and its conclusion drawn. Lists are of events written out.
-use Prim.Native.Nat.{ℕ}
-use mathlib.Core.Path.{_≡_}
-use mathlib.Core.Logic.{_⊎_}
-use mathlib.Core.Bool.{true}
-use mathlib.Core.List.{List, [], _∷_, _++_}
-use mathlib.Core.Option.{some}
-use lib.IntN.{ℤ}
-use lib.Signed.{_≤ℤ_, _<ℤ_}
+use Rattle.integers.specs.Basics.{ℕ, _≡_, _⊎_, true, List, [], _∷_, _++_, some, ℤ, _≤ℤ_, _<ℤ_}
 use Rattle.ledger.specs.declared.order.Order.{Order}
 use Rattle.ledger.specs.Derivatives.{one}
 use Rattle.ledger.specs.Positions.{Scope, Way, position}

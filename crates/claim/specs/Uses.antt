@@ -1,11 +1,5 @@
 -- What follows from the demands alone, of any memory and any bytes: each of their clauses is used.
-use Prim.Native.Nat.{ℕ, _≤_, _<_}
-use mathlib.Core.Path.{_≡_}
-use mathlib.Core.Logic.{_⊎_, _≢_}
-use mathlib.Core.Bool.{true, false}
-use mathlib.Core.List.{List, [], _∷_, List·Memᴰ}
-use lib.IntN.{ℤ}
-use lib.ListN.{length, getD}
+use Rattle.integers.specs.Basics.{ℕ, _≤_, _<_, _≡_, _⊎_, _≢_, true, false, List, [], _∷_, List·Memᴰ, ℤ, length, getD}
 use Rattle.words.specs.Bytes.{Bytes}
 use Rattle.limits.specs.Questions.{firstNo}
 use Rattle.book.specs.declared.Event.the-variants.{Junk}

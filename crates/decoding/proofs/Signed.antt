@@ -1,16 +1,6 @@
 -- A figure that is read: as a signed number, and as bits that are tested for zero.
-use Prim.Native.Nat.{ℕ, zero, suc, _^_, _<_}
-use mathlib.Core.Path.{_≡_, refl, _∙_, sym}
-use mathlib.Core.Logic.{_≢_}
-use mathlib.Core.Bool.{false}
-use mathlib.Core.List.{List}
-use native.Mathlib.Omega.{arith}
-use lib.Dec.{eqb}
-use lib.IntN.{ℤ, pos, negsuc}
-use borrow.Author.Tests.{ne-eqb}
-use mir.Syntax.{w64}
-use mir.Val.{SFits, toZ, ofZ}
-use mir.ValLaws.{toZ-ofZ}
+use Rattle.integers.specs.Basics.{ℕ, zero, suc, _^_, _<_, _≡_, refl, _∙_, sym, _≢_, false, List, ℤ, pos, negsuc, eqb, w64, SFits, toZ, ofZ}
+use Rattle.integers.specs.Basics.{toZ-ofZ, arith, ne-eqb}
 use Rattle.integers.specs.TwosComplement.{signedOf, bitsOf, bits-signed}
 use Rattle.words.specs.Fields.{u64At, i64At}
 use Rattle.limits.specs.Asked.{isZero}

@@ -1,11 +1,5 @@
 -- What is computed of a plain book holds of a memory that shows it.
-use Prim.Native.Nat.{ℕ, zero, suc}
-use mathlib.Core.Path.{_≡_, refl, _∙_}
-use mathlib.Core.Bool.{true}
-use mathlib.Core.List.{List, [], _∷_, _++_}
-use lib.Dec.{ltb}
-use native.Mathlib.Omega.{arith}
-use borrow.Author.Tests.{ltb-true}
+use Rattle.integers.specs.Basics.{ℕ, zero, suc, _≡_, refl, _∙_, true, List, [], _∷_, _++_, ltb, arith, ltb-true}
 use Rattle.words.specs.Bytes.{Bytes}
 use Rattle.limits.proofs.Answers.{both-true, and-true}
 use Rattle.book.specs.Decoding.{decode}

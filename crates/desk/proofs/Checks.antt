@@ -1,9 +1,5 @@
 -- Tables of questions: the answer is the first that fails, and one of the table's numbers.
-use Prim.Native.Nat.{ℕ}
-use mathlib.Core.Path.{_≡_, refl, sym, ap, _∙_}
-use mathlib.Core.Logic.{inl, inr, _≢_}
-use mathlib.Core.Bool.{Bool, true, false, cond}
-use mathlib.Core.List.{List, [], _∷_}
+use Rattle.integers.specs.Basics.{ℕ, _≡_, refl, _∙_, sym, ap, inl, inr, _≢_, Bool, true, false, cond, List, [], _∷_}
 use Rattle.limits.specs.Questions.{Question, numbersOf, firstNo, allPass}
 use Rattle.limits.proofs.Answers.{and-true, Counted, pass-zero, zero-pass, append-passed}
 use Rattle.desk.specs.Demands.{OneOf, FirstFailed, Answers}

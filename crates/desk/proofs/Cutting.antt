@@ -1,9 +1,6 @@
 -- Bytes cut into events.
-use Prim.Native.Nat.{ℕ, zero, suc, _+_, _-_, _≤_, _<_}
-use mathlib.Core.Path.{_≡_, refl, _∙_, sym, ap}
-use mathlib.Core.List.{List, [], _∷_}
-use native.Mathlib.Omega.{arith}
-use lib.ListN.{length, take, drop, length-take, length-drop}
+use Rattle.integers.specs.Basics.{ℕ, zero, suc, _+_, _-_, _≤_, _<_, _≡_, refl, _∙_, sym, ap, List, [], _∷_, length, take, drop, arith}
+use lib.ListN.{length-take, length-drop}
 use lib.Seq.{take-all, drop-drop}
 use Rattle.desk.specs.Run.{cutIn, cut}
 

@@ -1,14 +1,6 @@
 -- The three demands.
-use Prim.Native.Nat.{ℕ, _≤_}
-use mathlib.Core.Path.{_≡_, refl, sym, ap, _∙_}
-use mathlib.Core.Logic.{_≢_, by-cases}
-use mathlib.Core.List.{List, _∷_, _++_}
-use mathlib.Core.Option.{Option, none, some}
-use native.Mathlib.Omega.{arith}
-use native.Mathlib.Decide.{ℕ-discrete}
-use lib.IntN.{ℤ}
-use lib.ListN.{getD}
-use borrow.Author.Tests.{eq-eqb, ne-eqb}
+use Rattle.integers.specs.Basics.{ℕ, _≤_, _≡_, refl, _∙_, sym, ap, _≢_, by-cases, List, _∷_, _++_, Option, none, some, ℤ, getD, ℕ-discrete}
+use Rattle.integers.specs.Basics.{arith, eq-eqb, ne-eqb}
 use Rattle.ledger.specs.declared.order.Order.{Order}
 use Rattle.ledger.specs.Positions.{potential, ofInstrument}
 use Rattle.limits.specs.Questions.{Question, numbersOf, firstNo}

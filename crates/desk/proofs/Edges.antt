@@ -1,8 +1,5 @@
 -- Document 01's starred edges, computed of the plain book in `book`, hold of a memory: what the memory shows is the plain book.
-use Prim.Native.Nat.{ℕ, _≤_}
-use mathlib.Core.Path.{_≡_, refl, ap, _∙_}
-use mathlib.Core.List.{List, [], _∷_, _++_, map}
-use lib.ListN.{length}
+use Rattle.integers.specs.Basics.{ℕ, _≤_, _≡_, refl, _∙_, ap, List, [], _∷_, _++_, map, length}
 use Rattle.words.specs.Bytes.{Bytes}
 use Rattle.book.specs.Market.{derivatives}
 use Rattle.book.specs.Days.{decoded}

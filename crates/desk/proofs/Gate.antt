@@ -1,11 +1,5 @@
 -- The gate over bytes meets the contract that demand 3 asks of a desk, and so keeps demand 3 from any memory that shows a sound book.
-use Prim.Native.Nat.{ℕ}
-use mathlib.Core.Path.{_≡_, refl, sym, ap, _∙_, subst}
-use mathlib.Core.Logic.{_≢_}
-use mathlib.Core.Bool.{Bool, true, false}
-use mathlib.Core.List.{List}
-use native.Mathlib.Omega.{arith}
-use borrow.Author.Tests.{eq-eqb, ne-eqb}
+use Rattle.integers.specs.Basics.{ℕ, _≡_, refl, _∙_, sym, ap, subst, _≢_, Bool, true, false, List, arith, eq-eqb, ne-eqb}
 use Rattle.words.specs.Bytes.{Bytes}
 use Rattle.limits.specs.Questions.{firstNo}
 use Rattle.book.specs.Decoding.{decode}

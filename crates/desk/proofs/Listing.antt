@@ -1,9 +1,5 @@
 -- Document 01's listing, computed of the plain book in `book`, holds of a memory: what the memory shows is the plain book.
-use Prim.Native.Nat.{ℕ, _≤_}
-use mathlib.Core.Path.{_≡_, refl, _∙_}
-use mathlib.Core.Bool.{true}
-use mathlib.Core.List.{List}
-use lib.ListN.{length}
+use Rattle.integers.specs.Basics.{ℕ, _≤_, _≡_, refl, _∙_, true, List, length}
 use Rattle.book.specs.Decoding.{between}
 use Rattle.book.specs.Market.{derivatives}
 use Rattle.book.specs.States.{begun}

@@ -1,12 +1,5 @@
 -- An opened desk is sound, and shows the beginning of the plain book.
-use Prim.Native.Nat.{ℕ, _+_, _*_, _≤_, _<_}
-use mathlib.Core.Path.{_≡_}
-use mathlib.Core.Bool.{_&&_}
-use mathlib.Core.List.{List}
-use native.Mathlib.Omega.{arith}
-use lib.ListN.{length}
-use borrow.Author.Tests.{eq-eqb}
-use lib.Dec.{eqb}
+use Rattle.integers.specs.Basics.{ℕ, _+_, _*_, _≤_, _<_, _≡_, _&&_, List, eqb, length, arith, eq-eqb}
 use Rattle.limits.specs.InBytes.{lineAt, groupLineAt}
 use Rattle.limits.proofs.Answers.{both-true, and-true, passed, zero-pass}
 use Rattle.book.specs.Market.{derivatives}

@@ -1,8 +1,5 @@
 -- What is read of a memory that shows a book is what the book gives; and an opened desk shows the beginning of the plain book.
-use Prim.Native.Nat.{ℕ}
-use mathlib.Core.Path.{_≡_, sym, ap}
-use mathlib.Core.Bool.{true}
-use mathlib.Core.List.{List}
+use Rattle.integers.specs.Basics.{ℕ, _≡_, sym, ap, true, List}
 use Rattle.words.specs.Bytes.{Bytes}
 use Rattle.limits.specs.Questions.{firstNo}
 use Rattle.book.specs.Decoding.{between}

@@ -1,13 +1,7 @@
 -- The roster that bytes say, as tables; and which rosters open a memory. All that a day computes with from its bytes on, as one name.
-use Prim.Native.Nat.{ℕ, zero, suc, _+_, _*_, _≤_, compare·suc-suc}
-use mathlib.Core.Path.{_≡_, refl, ap, fun-ext}
-use mathlib.Core.Bool.{Bool, true, false, cond}
-use mathlib.Core.List.{List, [], _∷_}
-use lib.Dec.{ltb}
-use lib.IntN.{ℤ, pos}
-use lib.ListN.{length, getD}
-use native.Mathlib.Omega.{arith}
-use borrow.Author.Tests.{ltb-true, ltb-false, le-leb}
+use Rattle.integers.specs.Basics.{ℕ, zero, suc, _+_, _*_, _≤_, _≡_, refl, ap, fun-ext, Bool, true, false, cond, List, [], _∷_, ℤ, pos, ltb}
+use Rattle.integers.specs.Basics.{length, getD, arith, ltb-true, ltb-false, le-leb}
+use Prim.Native.Nat.{compare·suc-suc}
 use Rattle.words.specs.Fields.{u8At, u16At, i32At}
 use Rattle.ledger.specs.Roster.{Roster}
 use Rattle.limits.specs.Questions.{Question, firstNo}

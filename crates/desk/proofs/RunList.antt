@@ -1,9 +1,7 @@
 -- Demand 3's list is the list that a run works; a run at an unsound desk answers 5 and writes nothing.
-use Prim.Native.Nat.{ℕ, _≤_}
-use mathlib.Core.Path.{_≡_, refl, _∙_, ap}
-use mathlib.Core.List.{List, [], _∷_, _++_, append-nil}
-use native.Mathlib.Omega.{arith}
-use lib.ListN.{length, length-append, length-map, drop-of-length-le}
+use Rattle.integers.specs.Basics.{ℕ, _≤_, _≡_, refl, _∙_, ap, List, [], _∷_, _++_, length, arith}
+use mathlib.Core.List.{append-nil}
+use lib.ListN.{length-append, length-map, drop-of-length-le}
 use lib.Seq.{take-at, drop-at, take-all}
 use Rattle.book.specs.EventLists.{RawEvent, memoryAfter}
 use Rattle.desk.specs.Step.{answerTo, afterEvent}

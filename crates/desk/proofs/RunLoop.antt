@@ -1,10 +1,7 @@
 -- A run's loop: what is left to answer, from the memory and the room as they stand, is what the whole run answers.
-use Prim.Native.Nat.{ℕ, suc, _+_, _-_, _≤_, _<_}
-use mathlib.Core.Path.{_≡_, refl, _∙_, ap}
-use mathlib.Core.List.{List, [], _∷_}
-use native.Mathlib.Omega.{arith}
+use Rattle.integers.specs.Basics.{ℕ, suc, _+_, _-_, _≤_, _<_, _≡_, refl, _∙_, ap, List, [], _∷_, length, set, take, drop, length-set, arith}
 use native.Mathlib.Numerals.{add-one}
-use lib.ListN.{length, take, drop, set, length-take, length-drop, length-set, drop-of-length-le}
+use lib.ListN.{length-take, length-drop, drop-of-length-le}
 use lib.Seq.{take-nil, sets, sets-eq}
 use Rattle.desk.specs.Step.{answerTo, afterEvent}
 use Rattle.desk.specs.Days.{answersOver, memoryOver}

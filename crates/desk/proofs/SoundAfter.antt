@@ -1,9 +1,5 @@
 -- An event leaves a desk as sound as it was, so question 5 has one answer along a run.
-use Prim.Native.Nat.{ℕ}
-use mathlib.Core.Path.{_≡_, refl, _∙_, sym}
-use mathlib.Core.Bool.{Bool, true, false}
-use mathlib.Core.List.{List}
-use native.Mathlib.Decide.{ℕ-discrete}
+use Rattle.integers.specs.Basics.{ℕ, _≡_, refl, _∙_, sym, Bool, true, false, List, ℕ-discrete}
 use Rattle.words.specs.Bytes.{Bytes}
 use Rattle.book.specs.Decoding.{decode}
 use Rattle.book.proofs.Decoded.{decoded-id}

@@ -1,11 +1,5 @@
 -- What a step on a sound desk answers and leaves.
-use Prim.Native.Nat.{ℕ}
-use mathlib.Core.Path.{_≡_, sym, _∙_}
-use mathlib.Core.Logic.{_≢_}
-use mathlib.Core.Bool.{true, false}
-use mathlib.Core.List.{List}
-use native.Mathlib.Omega.{arith}
-use borrow.Author.Tests.{eq-eqb, ne-eqb}
+use Rattle.integers.specs.Basics.{ℕ, _≡_, _∙_, sym, _≢_, true, false, List, arith, eq-eqb, ne-eqb}
 use Rattle.book.specs.declared.Event.{Event}
 use Rattle.limits.specs.declared.answer.Answer.{Answer}
 use Rattle.limits.specs.declared.answer.Answer.the-variants.{Accepted}

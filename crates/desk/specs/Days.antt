@@ -1,6 +1,5 @@
 -- A day at a desk: what it answers to a list of events one after the other, and the memory at the end.
-use Prim.Native.Nat.{ℕ}
-use mathlib.Core.List.{List, [], _∷_}
+use Rattle.integers.specs.Basics.{ℕ, List, [], _∷_}
 use Rattle.desk.specs.Step.{answerTo, afterEvent}
 
 unfoldable pub answersOver : List ℕ → List (List ℕ) → List ℕ

@@ -1,12 +1,6 @@
 -- The three demands, as types over the definitions that the exported functions' contracts cite: openingAnswer and afterOpening,
 -- answerTo and afterEvent, instrumentAnswer, groupAnswer and what they report. Bytes are numbers, a memory and an event any list of them.
-use Prim.Native.Nat.{ℕ, _≤_}
-use mathlib.Core.Path.{_≡_}
-use mathlib.Core.Logic.{_⊎_, _↔_, _≢_}
-use mathlib.Core.Bool.{true, false}
-use mathlib.Core.List.{List, [], _∷_, _++_}
-use lib.IntN.{ℤ, negℤ, _+ℤ_}
-use lib.ListN.{getD}
+use Rattle.integers.specs.Basics.{ℕ, _≤_, _≡_, _⊎_, _↔_, _≢_, true, false, List, [], _∷_, _++_, ℤ, negℤ, _+ℤ_, getD}
 use Rattle.words.specs.Bytes.{Bytes}
 use Rattle.ledger.specs.declared.order.Side.the-variants.{Buy, Sell}
 use Rattle.ledger.specs.Derivatives.{one}

@@ -1,8 +1,5 @@
 -- Document 01's starred edges over bytes: the table of cases (crates/book/specs/Edges.antt), of a memory opened with its roster.
-use Prim.Native.Nat.{ℕ, _≤_}
-use mathlib.Core.Path.{_≡_}
-use mathlib.Core.List.{List, [], _∷_, _++_}
-use lib.ListN.{length}
+use Rattle.integers.specs.Basics.{ℕ, _≤_, _≡_, List, [], _∷_, _++_, length}
 use Rattle.words.specs.Bytes.{Bytes}
 use Rattle.book.specs.Rosters.{rosterBytes}
 use Rattle.book.specs.Edges.{Case, edgeTables, starredEdges, allAccepted}

@@ -1,9 +1,5 @@
 -- Document 01's listing: its roster in bytes, and what holds of it.
-use Prim.Native.Nat.{ℕ, _≤_}
-use mathlib.Core.Path.{_≡_}
-use mathlib.Core.List.{List, [], _∷_}
-use lib.ListN.{length}
-use lib.IntN.{pos, negsuc}
+use Rattle.integers.specs.Basics.{ℕ, _≤_, _≡_, List, [], _∷_, pos, negsuc, length}
 use Rattle.words.specs.Bytes.{Bytes}
 use Rattle.memory_opening.specs.Questions.{openingAnswer}
 use Rattle.memory_opening.specs.Opening.{afterOpening}

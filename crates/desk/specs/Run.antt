@@ -1,9 +1,5 @@
 -- Many events in one call: the bytes cut into events, and what the room for answers takes of them.
-use Prim.Native.Nat.{ℕ, zero, suc, _≤_}
-use mathlib.Core.Path.{_≡_}
-use mathlib.Core.Bool.{false}
-use mathlib.Core.List.{List, [], _∷_, _++_, map}
-use lib.ListN.{length, take, drop, replicate}
+use Rattle.integers.specs.Basics.{ℕ, zero, suc, _≤_, _≡_, false, List, [], _∷_, _++_, map, length, take, drop, replicate}
 use Rattle.book.specs.EventLists.{RawEvent, memoryAfter}
 use Rattle.memory_soundness.specs.Soundness.{soundDesk}
 use Rattle.desk.specs.Step.{answerTo}

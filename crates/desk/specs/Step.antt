@@ -1,8 +1,5 @@
 -- An event at a desk: the answer and the memory that it leaves, over any bytes.
-use Prim.Native.Nat.{ℕ}
-use mathlib.Core.Bool.{cond}
-use mathlib.Core.List.{List}
-use lib.Dec.{eqb}
+use Rattle.integers.specs.Basics.{ℕ, cond, List, eqb}
 use Rattle.limits.specs.Questions.{Question, firstNo}
 use Rattle.book.specs.declared.Event.{Event}
 use Rattle.book.specs.Decoding.{decode}

@@ -1,9 +1,5 @@
 -- Positions ask a roster and balances only about the instruments on the roster.
-use Prim.Native.Nat.{ℕ, suc, _<_}
-use mathlib.Core.Path.{_≡_, ap, _∙_}
-use mathlib.Core.List.{List}
-use native.Mathlib.Omega.{arith}
-use lib.IntN.{ℤ}
+use Rattle.integers.specs.Basics.{ℕ, suc, _<_, _≡_, _∙_, ap, List, ℤ, arith}
 use Rattle.integers.specs.Sum.{sumTo, sumTo-same}
 use Rattle.ledger.specs.declared.order.Order.{Order}
 use Rattle.ledger.specs.Roster.{Roster, Numbered, groupOfInstrument}

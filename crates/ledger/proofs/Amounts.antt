@@ -1,14 +1,8 @@
 -- Amounts: what n contracts of one order count for on a side of an account and instrument. Each open order adds its
 -- amount to a sum, and each fill moves a balance by its amount.
-use Prim.Native.Nat.{ℕ, _+_, _*_, _≤_}
-use mathlib.Core.Path.{_≡_, refl}
-use mathlib.Core.Logic.{by-cases}
-use mathlib.Core.Bool.{Bool, true, false, _&&_, cond}
+use Rattle.integers.specs.Basics.{ℕ, _+_, _*_, _≤_, _≡_, refl, by-cases, Bool, true, false, _&&_, cond, ℤ, pos, negℤ, _+ℤ_, _-ℤ_, _≤ℤ_, eqb}
+use Rattle.integers.specs.Basics.{signed, negation-parts, difference-parts}
 use native.Mathlib.Nat.{mul-le-mul-left}
-use lib.Dec.{eqb}
-use lib.IntN.{ℤ, pos, negℤ, _+ℤ_, _-ℤ_}
-use lib.Signed.{_≤ℤ_}
-use Rattle.integers.specs.Parts.{signed, difference-parts, negation-parts}
 use Rattle.ledger.specs.declared.order.Order.{Order}
 use Rattle.ledger.specs.declared.order.Side.{Side}
 use Rattle.ledger.specs.declared.order.Side.the-variants.{Buy, Sell}

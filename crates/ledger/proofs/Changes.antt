@@ -1,26 +1,20 @@
 -- What each change of the open orders, and a fill, does to every potential position. A change is a shift: what counts of
 -- one order goes from m contracts to m′, and nothing else changes. Entering, cancelling, replacing and filling are shifts.
-use Prim.Native.Nat.{ℕ, _+_, _*_, _-_, _≤_}
-use mathlib.Core.Path.{_≡_, refl, sym, ap, _∙_}
-use mathlib.Core.Logic.{_≢_}
-use mathlib.Core.List.{List, List·Memᴰ}
-use native.Mathlib.Omega.{arith}
-use lib.IntN.{ℤ, pos, _+ℤ_, _-ℤ_, +ℤ-comm, +ℤ-assoc, natAbs, _*ℤ_}
-use lib.Signed.{_≤ℤ_}
-use Rattle.integers.specs.Parts.{sum-parts, difference-parts, negation-parts}
+use Rattle.integers.specs.Basics.{ℕ, _+_, _*_, _-_, _≤_, _≡_, refl, _∙_, sym, ap, _≢_, List, List·Memᴰ, ℤ, pos, natAbs, _+ℤ_, _-ℤ_, _*ℤ_}
+use Rattle.integers.specs.Basics.{_≤ℤ_, arith, negation-parts, sum-parts, difference-parts}
+use lib.IntN.{+ℤ-comm, +ℤ-assoc}
 use Rattle.ledger.specs.declared.order.Order.{Order}
 use Rattle.ledger.specs.declared.order.Side.{Side}
 use Rattle.ledger.specs.Orders.{remaining, filledBy, replacedTotal}
 use Rattle.ledger.specs.Roster.{Roster, Numbered, groupOfInstrument}
-use Rattle.ledger.specs.Positions.{Way, Scope, opposite, toward, wayOf, sideTo, openOn, ofInstrument, potential, position}
-use Rattle.ledger.specs.Positions.{group, wayBy}
+use Rattle.ledger.specs.Positions.{Way, Scope, opposite, toward, wayOf, sideTo, openOn, ofInstrument, potential, position, group}
+use Rattle.ledger.specs.Positions.{wayBy}
 use Rattle.ledger.specs.Fillings.{fillMoves}
 use Rattle.ledger.specs.Moves.{Moves}
 use Rattle.ledger.proofs.Ways.{side-back}
 use Rattle.ledger.proofs.Amounts.{amount, Stands, Alike, amount-alike, amount-here, amount-apart, amount-none, amount-nonneg}
 use Rattle.ledger.proofs.Amounts.{amount-sum, amount-≤}
-use Rattle.ledger.proofs.Sums.{Joined, Changed, Permuted, open-joined, open-changed, open-nowhere}
-use Rattle.ledger.proofs.Sums.{open-sum, sum-permuted, adds}
+use Rattle.ledger.proofs.Sums.{Joined, Changed, Permuted, open-joined, open-changed, open-nowhere, open-sum, sum-permuted, adds}
 use Rattle.ledger.proofs.Scopes.{wayTo, potential-≤, potential-same, potential-weighted, position-weighted, weighted-same}
 use Rattle.ledger.proofs.Scopes.{weight-way, group-moved}
 use Rattle.ledger.proofs.Movement.{fill-moves, unmoved-amount}

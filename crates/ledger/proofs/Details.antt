@@ -1,13 +1,7 @@
 -- What the order of an id and a detail says, and details joined bit by bit: each figure is at most that of the whole.
-use Prim.Native.Nat.{ℕ, _+_, _*_, _-_, _/_, _%_, _≤_, _<_, _^_}
-use mathlib.Core.Path.{_≡_, refl, ap, _∙_}
-use mathlib.Core.Bool.{Bool, true, false, cond}
-use mathlib.Core.List.{List}
-use native.Mathlib.Decide.{ℕ-discrete}
+use Rattle.integers.specs.Basics.{ℕ, _+_, _*_, _-_, _/_, _%_, _^_, _≤_, _<_, _≡_, refl, _∙_, ap, Bool, true, false, cond, List, eqb}
+use Rattle.integers.specs.Basics.{ℕ-discrete, arith, eq-eqb, ne-eqb}
 use native.Mathlib.Nat.{div-div-eq-div-mul}
-use native.Mathlib.Omega.{arith}
-use borrow.Author.Tests.{eq-eqb, ne-eqb}
-use lib.Dec.{eqb}
 use lib.Bits.{bitOr, or-comm, or-shr, or-mod}
 use Rattle.words.proofs.Bits.{or-left}
 use Rattle.ledger.specs.declared.order.Order.{Order}

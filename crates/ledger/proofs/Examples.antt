@@ -1,11 +1,6 @@
 -- The source documents' examples, computed by the definitions with unit 1, groups in ten-thousandths; and the laws at work on them.
-use Prim.Native.Nat.{ℕ, _-_}
-use mathlib.Core.Path.{_≡_, refl}
-use mathlib.Core.List.{List, [], _∷_}
-use native.Mathlib.Omega.{arith}
-use lib.ListN.{getD}
-use lib.IntN.{ℤ, pos, negℤ}
-use lib.Signed.{_<ℤ_, ltZ-yes}
+use Rattle.integers.specs.Basics.{ℕ, _-_, _≡_, refl, List, [], _∷_, ℤ, pos, negℤ, _<ℤ_, getD, arith}
+use lib.Signed.{ltZ-yes}
 use Rattle.integers.specs.Sum.{sumOver, below}
 use Rattle.ledger.specs.declared.order.Order.{Order}
 use Rattle.ledger.specs.declared.order.Side.{Side}

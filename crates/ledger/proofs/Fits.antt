@@ -1,11 +1,6 @@
 -- What the machine does with signed numbers of bounded magnitude: a sum, a difference, a negation and a product fit, and are read back as
 -- themselves.
-use Prim.Native.Nat.{_+_, _≤_}
-use mathlib.Core.Path.{_≡_}
-use lib.IntN.{ℤ, pos, negℤ, natAbs, _+ℤ_, _-ℤ_, _*ℤ_, +ℤ-idl}
-use mir.Syntax.{w64}
-use mir.Val.{SFits, toZ, ofZ}
-use mir.ValLaws.{toZ-ofZ}
+use Rattle.integers.specs.Basics.{_+_, _≤_, _≡_, ℤ, pos, negℤ, natAbs, _+ℤ_, _-ℤ_, _*ℤ_, +ℤ-idl, w64, SFits, toZ, ofZ, toZ-ofZ}
 use Rattle.integers.specs.Magnitude.{sized, magnitude-sum, magnitude-difference, magnitude-negation, magnitude-product-≤}
 
 -- the bits of a signed number, read again

@@ -1,10 +1,6 @@
 -- Document 01's formulas as it writes them: S is the balance, B (`buys`) and V (`sells`) the sums of open orders, K the weight.
-use Prim.Native.Nat.{ℕ, suc}
-use mathlib.Core.Path.{_≡_, refl, ap}
-use mathlib.Core.Bool.{cond}
-use mathlib.Core.List.{List}
-use lib.IntN.{ℤ, pos, negsuc, negℤ, _+ℤ_, _-ℤ_, _*ℤ_, +ℤ-comm}
-use lib.Signed.{nonNeg}
+use Rattle.integers.specs.Basics.{ℕ, suc, _≡_, refl, ap, cond, List, ℤ, pos, negsuc, negℤ, _+ℤ_, _-ℤ_, _*ℤ_, nonNeg}
+use lib.IntN.{+ℤ-comm}
 use Rattle.ledger.specs.declared.order.Order.{Order}
 use Rattle.ledger.specs.declared.order.Side.the-variants.{Buy, Sell}
 use Rattle.ledger.specs.Roster.{Roster}

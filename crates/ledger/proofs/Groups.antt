@@ -1,14 +1,6 @@
 -- Sums over the instruments of a group: order, strictness, sides.
-use Prim.Native.Nat.{ℕ, zero, suc, _<_}
-use mathlib.Core.Path.{_≡_, refl, sym, _∙_}
-use mathlib.Core.Logic.{_≢_}
-use mathlib.Core.Bool.{cond}
-use native.Mathlib.Omega.{arith}
-use lib.Dec.{eqb}
-use lib.IntN.{ℤ, pos, negℤ, _+ℤ_}
-use lib.Signed.{_≤ℤ_, _<ℤ_}
-use borrow.Author.Tests.{eq-eqb}
-use Rattle.integers.specs.Parts.{signed, difference-parts}
+use Rattle.integers.specs.Basics.{ℕ, zero, suc, _<_, _≡_, refl, _∙_, sym, _≢_, cond, ℤ, pos, negℤ, _+ℤ_, _≤ℤ_, _<ℤ_, eqb, arith, eq-eqb}
+use Rattle.integers.specs.Basics.{signed, difference-parts}
 use Rattle.integers.specs.Sum.{sumTo, below, sumTo-mono, sumTo-same, sumTo-change, sumOver-negated}
 use Rattle.ledger.specs.Roster.{Roster, groupOfInstrument, Numbered}
 use Rattle.ledger.specs.Positions.{Way, long, short, toward, sumGroup}

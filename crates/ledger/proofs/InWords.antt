@@ -1,11 +1,6 @@
 -- Fillings, moves and positions in document 01's words.
-use Prim.Native.Nat.{ℕ, _≤_}
-use mathlib.Core.Path.{_≡_, refl, sym, ap}
-use mathlib.Core.Logic.{_↔_, _⊎_, inl, inr, ⊎-elim, _≢_}
-use mathlib.Core.List.{List, [], _∷_}
-use lib.IntN.{ℤ, pos, negsuc, negℤ, _+ℤ_, _*ℤ_}
-use lib.Signed.{_<ℤ_}
-use Rattle.integers.specs.Parts.{signed}
+use Rattle.integers.specs.Basics.{ℕ, _≤_, _≡_, refl, sym, ap, _⊎_, inl, inr, ⊎-elim, _↔_, _≢_, List, [], _∷_, ℤ, pos, negsuc, negℤ, _+ℤ_}
+use Rattle.integers.specs.Basics.{_*ℤ_, _<ℤ_, signed}
 use Rattle.ledger.specs.declared.order.Order.{Order}
 use Rattle.ledger.specs.declared.order.Side.{Side}
 use Rattle.ledger.specs.declared.order.Side.the-variants.{Buy, Sell}

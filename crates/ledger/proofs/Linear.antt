@@ -1,9 +1,6 @@
 -- A sum or a difference of two integers, read and proved by `omega linear` with no fact for it: rules before those of `signed`.
-use mathlib.Core.Path.{_≡_}
-use Prim.Native.Nat.{_+_, _≤_}
-use lib.IntN.{ℤ, _+ℤ_, _-ℤ_}
-use lib.Signed.{_≤ℤ_}
-use Rattle.integers.specs.Parts.{up, down, signed, sum-parts, difference-parts}
+use Rattle.integers.specs.Basics.{_+_, _≤_, _≡_, ℤ, _+ℤ_, _-ℤ_, _≤ℤ_, signed, sum-parts, difference-parts}
+use Rattle.integers.specs.Parts.{up, down}
 
 -- of two sums
 module _ (x a y b : ℤ) where

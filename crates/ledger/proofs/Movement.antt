@@ -1,12 +1,10 @@
 -- An order's fills raise a position on a side exactly where `Moves` says so.
-use Prim.Native.Nat.{ℕ, _*_, _≤_}
-use mathlib.Core.Path.{_≡_, refl, sym, ap, _∙_}
-use mathlib.Core.Logic.{_↔_, by-cases, Dec·and, Dec·not}
-use native.Mathlib.Decide.{ℕ-discrete, map-dec}
+use Rattle.integers.specs.Basics.{ℕ, _*_, _≤_, _≡_, refl, _∙_, sym, ap, _↔_, by-cases, ℤ, pos, _+ℤ_, _-ℤ_, +ℤ-idr, _≤ℤ_, _<ℤ_, ℕ-discrete}
+use Rattle.integers.specs.Basics.{signed, difference-parts}
+use mathlib.Core.Logic.{Dec·and, Dec·not}
+use native.Mathlib.Decide.{map-dec}
 use native.Mathlib.Nat.{mul-le-mul}
-use lib.IntN.{ℤ, pos, _+ℤ_, _-ℤ_, +ℤ-idr, ℤ-discrete}
-use lib.Signed.{_≤ℤ_, _<ℤ_}
-use Rattle.integers.specs.Parts.{signed, difference-parts}
+use lib.IntN.{ℤ-discrete}
 use Rattle.ledger.specs.declared.order.Order.{Order}
 use Rattle.ledger.specs.Roster.{Roster, groupOfInstrument, Numbered}
 use Rattle.ledger.specs.Positions.{Way, Scope, instrument, group, opposite, toward, wayOf, wayBy, sideTo, position}

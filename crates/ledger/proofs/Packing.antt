@@ -1,11 +1,6 @@
 -- Laws of an order's detail: what goes in is read back, and every number is the detail of what is read from it.
-use Prim.Native.Nat.{ℕ, _+_, _*_, _-_, _/_, _%_, _^_, _<_}
-use mathlib.Core.Path.{_≡_}
-use mathlib.Core.Logic.{by-cases}
+use Rattle.integers.specs.Basics.{ℕ, _+_, _*_, _-_, _/_, _%_, _^_, _<_, _≡_, by-cases, ℕ-discrete, arith, eq-eqb, ne-eqb}
 use native.Mathlib.Nat.{div-div-eq-div-mul}
-use native.Mathlib.Decide.{ℕ-discrete}
-use native.Mathlib.Omega.{arith}
-use borrow.Author.Tests.{eq-eqb, ne-eqb}
 use Rattle.ledger.specs.declared.order.Order.{Order}
 use Rattle.ledger.specs.declared.order.Side.{Side}
 use Rattle.ledger.specs.declared.order.Side.the-variants.{Buy, Sell}

@@ -1,13 +1,10 @@
 -- What a scope makes of an amount for each instrument: an instrument's own amount, or the sum over a group of
 -- |K| times the amounts. Potential positions and positions are both such figures, of amounts taken on the way in which
 -- each instrument moves the scope. So every law of scopes and ways is a law of `weightedAt`, stated once.
-use Prim.Native.Nat.{ℕ, suc}
-use mathlib.Core.Path.{_≡_, refl, sym, ap, _∙_}
-use mathlib.Core.Logic.{_≢_, by-cases}
-use mathlib.Core.List.{List}
-use lib.IntN.{ℤ, pos, negsuc, negℤ, natAbs, _*ℤ_, negℤ-negℤ, ℤ-discrete, _+ℤ_}
-use lib.Signed.{_≤ℤ_, _<ℤ_}
-use Rattle.integers.specs.Parts.{signed, scaled-parts, magnitude-parts, differs}
+use Rattle.integers.specs.Basics.{ℕ, suc, _≡_, refl, _∙_, sym, ap, _≢_, by-cases, List, ℤ, pos, negsuc, negℤ, natAbs, _+ℤ_, _*ℤ_, _≤ℤ_}
+use Rattle.integers.specs.Basics.{_<ℤ_, signed, magnitude-parts}
+use lib.IntN.{negℤ-negℤ, ℤ-discrete}
+use Rattle.integers.specs.Parts.{scaled-parts, differs}
 use Rattle.integers.specs.Ring.{negℤ-*ℤ, *ℤ-negℤ, *ℤ-+ℤ}
 use Rattle.integers.specs.Product.{times-≤, product-<}
 use Rattle.ledger.specs.declared.order.Order.{Order}

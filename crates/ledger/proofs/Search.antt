@@ -1,13 +1,6 @@
 -- The search from record p on: what a turn of it finds, which records it may leave out, and what it says of the place that it answers.
-use Prim.Native.Nat.{ℕ, zero, suc, _+_, _-_, _≤_, _<_}
-use mathlib.Core.Path.{_≡_, refl, _∙_, sym, ap}
-use mathlib.Core.Logic.{_≢_, by-cases}
-use mathlib.Core.Bool.{cond}
-use mathlib.Core.List.{List}
-use native.Mathlib.Decide.{ℕ-discrete}
-use native.Mathlib.Omega.{arith}
-use lib.Dec.{eqb}
-use borrow.Author.Tests.{eq-eqb, ne-eqb}
+use Rattle.integers.specs.Basics.{ℕ, zero, suc, _+_, _-_, _≤_, _<_, _≡_, refl, _∙_, sym, ap, _≢_, by-cases, cond, List, eqb, ℕ-discrete}
+use Rattle.integers.specs.Basics.{arith, eq-eqb, ne-eqb}
 use Rattle.ledger.specs.declared.find.Found.{Found}
 use Rattle.ledger.specs.declared.find.Found.the-variants.{At, Nothing}
 use Rattle.ledger.specs.Orders.{placeFrom}

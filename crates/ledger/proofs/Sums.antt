@@ -1,11 +1,6 @@
 -- The sums of open orders, `openOn`: what an order adds, and what a change of the list changes. They depend on the list
 -- only through sums over it, so that where in the list a change happens, and the list's order, make no difference.
-use Prim.Native.Nat.{ℕ}
-use mathlib.Core.Path.{_≡_, refl, _∙_}
-use mathlib.Core.List.{List, [], _∷_, _++_, List·Memᴰ}
-use lib.IntN.{ℤ, pos, _+ℤ_}
-use lib.Signed.{_≤ℤ_}
-use Rattle.integers.specs.Parts.{signed, sum-parts}
+use Rattle.integers.specs.Basics.{ℕ, _≡_, refl, _∙_, List, [], _∷_, _++_, List·Memᴰ, ℤ, pos, _+ℤ_, _≤ℤ_, signed, sum-parts}
 use Rattle.integers.specs.Sum.{sumOver, sumOver-cons, sumOver-append, sumOver-nonneg, sumOver-zero}
 use Rattle.ledger.specs.declared.order.Order.{Order}
 use Rattle.ledger.specs.declared.order.Side.{Side}

@@ -1,9 +1,5 @@
 -- No filling passes a potential position, of any instrument or group and on any side.
-use Prim.Native.Nat.{ℕ}
-use mathlib.Core.List.{List}
-use native.Mathlib.Omega.{arith}
-use lib.IntN.{ℤ}
-use lib.Signed.{_≤ℤ_}
+use Rattle.integers.specs.Basics.{ℕ, List, ℤ, _≤ℤ_, arith}
 use Rattle.ledger.specs.declared.order.Order.{Order}
 use Rattle.ledger.specs.Orders.{remaining}
 use Rattle.ledger.specs.Roster.{Roster}

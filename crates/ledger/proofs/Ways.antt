@@ -1,12 +1,6 @@
 -- Ways and sides: each tells the other, two of them are the same or opposite, and how a test between two is decided.
-use Prim.Native.Nat.{ℕ}
-use mathlib.Core.Path.{_≡_, refl}
-use mathlib.Core.Logic.{_≢_}
-use mathlib.Core.Bool.{Bool, true, false}
-use native.Mathlib.Omega.{arith}
-use lib.Dec.{eqb}
-use lib.IntN.{ℤ, pos, _+ℤ_, negℤ-+ℤ}
-use borrow.Author.Tests.{eqb-true, eqb-false}
+use Rattle.integers.specs.Basics.{ℕ, _≡_, refl, _≢_, Bool, true, false, ℤ, pos, _+ℤ_, eqb, arith, eqb-true, eqb-false}
+use lib.IntN.{negℤ-+ℤ}
 use Rattle.ledger.specs.declared.order.Side.{Side}
 use Rattle.ledger.specs.declared.order.Side.the-variants.{Buy, Sell}
 use Rattle.ledger.specs.Positions.{Way, long, short, opposite, toward, wayOf, sideTo, sameSide}

@@ -1,6 +1,5 @@
 -- A derivatives desk: one contract of an order counts for 1.
-use Prim.Native.Nat.{ℕ}
-use mathlib.Core.Bool.{_&&_, cond}
+use Rattle.integers.specs.Basics.{ℕ, _&&_, cond}
 use Rattle.ledger.specs.declared.order.Order.{Order}
 use Rattle.ledger.specs.declared.order.Side.{Side}
 use Rattle.ledger.specs.Orders.{remaining}

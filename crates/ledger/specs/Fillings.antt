@@ -1,8 +1,5 @@
 -- Fillings: each open order is filled by any whole number from 0 to its remaining, and balances move as under FILL.
-use Prim.Native.Nat.{ℕ, _*_, _≤_}
-use mathlib.Core.Bool.{cond}
-use mathlib.Core.List.{List, [], _∷_}
-use lib.IntN.{ℤ, pos, _+ℤ_}
+use Rattle.integers.specs.Basics.{ℕ, _*_, _≤_, cond, List, [], _∷_, ℤ, pos, _+ℤ_}
 use Rattle.ledger.specs.declared.order.Order.{Order}
 use Rattle.ledger.specs.Orders.{remaining}
 use Rattle.ledger.specs.Positions.{toward, wayOf, standsIn}

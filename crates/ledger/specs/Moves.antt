@@ -1,7 +1,5 @@
 -- Which side of which position an order's fills move.
-use mathlib.Core.Path.{_≡_}
-use mathlib.Core.Logic.{_≢_}
-use lib.IntN.{pos}
+use Rattle.integers.specs.Basics.{_≡_, _≢_, pos}
 use Rattle.ledger.specs.declared.order.Order.{Order}
 use Rattle.ledger.specs.Roster.{Roster, groupOfInstrument}
 use Rattle.ledger.specs.Positions.{Way, Scope, instrument, group, wayOf, wayBy}

@@ -1,8 +1,5 @@
 -- An order: what remains of it, what a fill and a replace make of it, when it closes, and how it is found.
-use Prim.Native.Nat.{ℕ, _+_, _-_}
-use mathlib.Core.Bool.{Bool, cond}
-use mathlib.Core.List.{List, [], _∷_}
-use lib.Dec.{eqb}
+use Rattle.integers.specs.Basics.{ℕ, _+_, _-_, Bool, cond, List, [], _∷_, eqb}
 use Rattle.ledger.specs.declared.order.Order.{Order}
 use Rattle.ledger.specs.declared.find.Found.{Found}
 use Rattle.ledger.specs.declared.find.Found.the-variants.{At, Nothing}

@@ -1,10 +1,6 @@
 -- Document 01, "Positions", of one account: S is its balance of each instrument, `orders` all open orders, `unit o` what
 -- one contract of order o counts for (1 on a derivatives desk). What concerns long and short, instrument and group, is said once.
-use Prim.Native.Nat.{ℕ, suc, _*_}
-use mathlib.Core.Bool.{Bool, true, false, _&&_, cond}
-use mathlib.Core.List.{List}
-use lib.Dec.{eqb}
-use lib.IntN.{ℤ, pos, negsuc, negℤ, _+ℤ_, _*ℤ_}
+use Rattle.integers.specs.Basics.{ℕ, suc, _*_, Bool, true, false, _&&_, cond, List, ℤ, pos, negsuc, negℤ, _+ℤ_, _*ℤ_, eqb}
 use Rattle.integers.specs.Sum.{sumOver, sumTo}
 use Rattle.ledger.specs.declared.order.Order.{Order}
 use Rattle.ledger.specs.declared.order.Side.{Side}

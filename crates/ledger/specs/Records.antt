@@ -1,9 +1,5 @@
 -- Orders as flat records in lent bytes, two words each; balances; and a roster of 76 words.
-use Prim.Native.Nat.{ℕ, zero, suc, _+_, _*_, _-_, _/_, _%_, _≤_, _<_}
-use mathlib.Core.Bool.{cond}
-use mathlib.Core.List.{List, [], _∷_}
-use lib.Dec.{eqb}
-use lib.IntN.{ℤ}
+use Rattle.integers.specs.Basics.{ℕ, zero, suc, _+_, _*_, _-_, _/_, _%_, _≤_, _<_, cond, List, [], _∷_, ℤ, eqb}
 use Rattle.words.specs.Words.{wordAt, signedAt}
 use Rattle.ledger.specs.declared.order.Order.{Order}
 use Rattle.ledger.specs.declared.order.Side.{Side}

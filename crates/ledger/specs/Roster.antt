@@ -1,6 +1,5 @@
 -- The roster: how many accounts, groups, contracts and instruments there are, each numbered from 1, and what hangs on what.
-use Prim.Native.Nat.{ℕ, _≤_}
-use lib.IntN.{ℤ}
+use Rattle.integers.specs.Basics.{ℕ, _≤_, ℤ}
 
 pub record Roster : Type 0 where
   pub accounts : ℕ

@@ -1,8 +1,5 @@
 -- The questions of an order ask a roster and balances only about the instruments on the roster.
-use Prim.Native.Nat.{ℕ}
-use mathlib.Core.Path.{_≡_, refl}
-use mathlib.Core.List.{List}
-use lib.IntN.{ℤ}
+use Rattle.integers.specs.Basics.{ℕ, _≡_, refl, List, ℤ}
 use Rattle.ledger.specs.declared.order.Order.{Order}
 use Rattle.ledger.specs.Roster.{Roster, Numbered, groupOfInstrument}
 use Rattle.ledger.specs.Positions.{Way, long, short, Scope, instrument, group}

@@ -1,11 +1,6 @@
 -- Laws of a list of questions: the first no, and what an answer of 0 says of each question.
-use Prim.Native.Nat.{ℕ, _≤_}
-use mathlib.Core.Path.{_≡_, refl, sym, _∙_}
-use mathlib.Core.Logic.{_≢_}
-use mathlib.Core.Bool.{Bool, true, false, not, _&&_, _||_, cond, true≢false, false≢true}
-use mathlib.Core.List.{List, [], _∷_, _++_}
-use native.Mathlib.Omega.{arith}
-use lib.Dec.{eqb}
+use Rattle.integers.specs.Basics.{ℕ, _≤_, _≡_, refl, _∙_, sym, _≢_, Bool, true, false, not, _&&_, _||_, cond, true≢false, false≢true, List}
+use Rattle.integers.specs.Basics.{[], _∷_, _++_, eqb, arith}
 use Rattle.ledger.proofs.Ways.{by-test, by-number}
 use Rattle.limits.specs.Questions.{Question, firstNo, allPass}
 

@@ -1,9 +1,5 @@
 -- Which of questions 21 to 24 an order is asked: those of the sides to which its own fills move a position.
-use mathlib.Core.Path.{_≡_, refl}
-use mathlib.Core.Logic.{_↔_, _≢_}
-use mathlib.Core.Bool.{true, false, not, true≢false}
-use lib.IntN.{ℤ, pos, negsuc}
-use borrow.Author.Tests.{ne-eqb, not-true}
+use Rattle.integers.specs.Basics.{_≡_, refl, _↔_, _≢_, true, false, not, true≢false, ℤ, pos, negsuc, not-true, ne-eqb}
 use Rattle.ledger.specs.declared.order.Order.{Order}
 use Rattle.ledger.specs.Roster.{Roster, groupOfInstrument}
 use Rattle.ledger.specs.Positions.{Way, long, short, instrument, group, wayOf, wayBy}

@@ -1,11 +1,5 @@
 -- Examples of lines and limits, computed.
-use Prim.Native.Nat.{ℕ}
-use mathlib.Core.Path.{_≡_, refl}
-use mathlib.Core.Bool.{Bool, true, false, cond}
-use mathlib.Core.List.{[], _∷_}
-use mathlib.Core.Option.{Option, none, some}
-use lib.Dec.{eqb}
-use lib.IntN.{ℤ, pos, negsuc}
+use Rattle.integers.specs.Basics.{ℕ, _≡_, refl, Bool, true, false, cond, [], _∷_, Option, none, some, ℤ, pos, negsuc, eqb}
 use Rattle.integers.specs.Sum.{sumOver, below}
 use Rattle.ledger.specs.declared.order.Order.{Order}
 use Rattle.ledger.specs.declared.order.Side.{Side}

@@ -1,15 +1,7 @@
 -- The first no of each table, by the tests that the code makes.
-use Prim.Native.Nat.{ℕ}
-use mathlib.Core.Path.{_≡_, refl, _∙_}
-use mathlib.Core.Logic.{_≢_}
-use mathlib.Core.Bool.{Bool, true, false, not, _&&_, _||_, cond}
-use mathlib.Core.List.{List, [], _∷_}
-use mathlib.Core.Option.{Option, none, some}
+use Rattle.integers.specs.Basics.{ℕ, _≡_, refl, _∙_, _≢_, Bool, true, false, not, _&&_, _||_, cond, List, [], _∷_, Option, none, some, ℤ}
+use Rattle.integers.specs.Basics.{pos, natAbs, _+ℤ_, _*ℤ_, leZ, leb, eq-eqb, ne-eqb}
 use native.Mathlib.Nat.{one-mul}
-use lib.Dec.{leb}
-use lib.IntN.{ℤ, pos, natAbs, _+ℤ_, _*ℤ_}
-use lib.Signed.{leZ}
-use borrow.Author.Tests.{eq-eqb, ne-eqb}
 use Rattle.ledger.specs.declared.order.Order.{Order}
 use Rattle.ledger.specs.declared.order.Side.{Side}
 use Rattle.ledger.specs.declared.order.Side.the-variants.{Buy, Sell}

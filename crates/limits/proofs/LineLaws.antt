@@ -1,10 +1,5 @@
 -- Laws of lines: the line in force, and a limit that is set.
-use Prim.Native.Nat.{ℕ, _*_}
-use mathlib.Core.Path.{_≡_, refl}
-use mathlib.Core.Bool.{true, false, false≢true}
-use mathlib.Core.Option.{Option, none, some}
-use native.Mathlib.Omega.{arith}
-use lib.IntN.{pos}
+use Rattle.integers.specs.Basics.{ℕ, _*_, _≡_, refl, true, false, false≢true, Option, none, some, pos, arith}
 use Rattle.ledger.specs.Roster.{Roster}
 use Rattle.ledger.specs.Positions.{Way, instrument, group}
 use Rattle.limits.specs.Lines.{Line, GroupLine, Lines, lineInForce, isSet, limit, largestPosition, largestOfGroup}

@@ -1,12 +1,7 @@
 -- Laws of lines in lent bytes: a side's figure, the part that holds the line in force, and which lines are set.
-use Prim.Native.Nat.{ℕ, _+_, _*_, _^_, _≤_, _<_}
-use mathlib.Core.Path.{_≡_, _∙_}
-use mathlib.Core.Bool.{Bool, true, false, cond, false≢true}
-use mathlib.Core.List.{List}
-use mathlib.Core.Option.{none, some}
+use Rattle.integers.specs.Basics.{ℕ, _+_, _*_, _^_, _≤_, _<_, _≡_, _∙_, Bool, true, false, cond, false≢true, List, none, some, length}
+use Rattle.integers.specs.Basics.{arith}
 use native.Mathlib.Nat.{add-zero}
-use native.Mathlib.Omega.{arith}
-use lib.ListN.{length}
 use Rattle.words.specs.Bytes.{Bytes}
 use Rattle.words.specs.Fields.{u32At}
 use Rattle.words.specs.Words.{wordAt, partOf}

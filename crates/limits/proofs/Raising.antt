@@ -1,11 +1,7 @@
 -- What an event that raises B or V does to the potential positions of the order's own instrument and group, and that a NEW
 -- and a REPLACE to a larger total are such events.
-use Prim.Native.Nat.{ℕ, _+_, _-_, _≤_}
-use mathlib.Core.Path.{_≡_, refl, sym, ap}
-use mathlib.Core.List.{List}
+use Rattle.integers.specs.Basics.{ℕ, _+_, _-_, _≤_, _≡_, refl, sym, ap, List, ℤ, pos, natAbs, _+ℤ_, _*ℤ_, arith}
 use native.Mathlib.Nat.{one-mul}
-use native.Mathlib.Omega.{arith}
-use lib.IntN.{ℤ, pos, natAbs, _+ℤ_, _*ℤ_}
 use Rattle.ledger.specs.declared.order.Order.{Order}
 use Rattle.ledger.specs.declared.order.Side.{Side}
 use Rattle.ledger.specs.Orders.{remaining, replacedTotal}

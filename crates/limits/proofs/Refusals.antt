@@ -1,14 +1,7 @@
 -- Questions 21 to 24 by fillings: an order is refused by one of them exactly when some filling of the open orders passes a
 -- limit on a side to which the order's own fills move the position.
-use Prim.Native.Nat.{ℕ}
-use mathlib.Core.Path.{_≡_, refl}
-use mathlib.Core.Logic.{_↔_, _⊎_, inl, inr, ⊎-elim}
-use mathlib.Core.Bool.{Bool, true, false, not, _||_, cond}
-use mathlib.Core.List.{List}
-use native.Mathlib.Omega.{arith}
-use lib.IntN.{ℤ}
-use lib.Signed.{_≤ℤ_, _<ℤ_}
-use Rattle.integers.specs.Parts.{signed}
+use Rattle.integers.specs.Basics.{ℕ, _≡_, refl, _⊎_, inl, inr, ⊎-elim, _↔_, Bool, true, false, not, _||_, cond, List, ℤ, _≤ℤ_, _<ℤ_, arith}
+use Rattle.integers.specs.Basics.{signed}
 use Rattle.ledger.specs.declared.order.Order.{Order}
 use Rattle.ledger.specs.Roster.{Roster, groupOfInstrument}
 use Rattle.ledger.specs.Positions.{Way, long, short, Scope, instrument, group, potential, position}

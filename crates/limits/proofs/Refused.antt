@@ -1,11 +1,6 @@
 -- An answer that is no acceptance has a number that is not 0: computed over the enum's own variants, so that a new one joins by itself.
-use Prim.Native.Nat.{ℕ, suc}
-use mathlib.Core.Path.{_≡_, refl, ap, _∙_, subst}
-use mathlib.Core.Logic.{_≢_, inl, inr}
-use mathlib.Core.Bool.{Bool, true, false, not, _&&_, _||_, cond, false≢true}
-use mathlib.Core.List.{List, [], _∷_}
-use lib.Dec.{eqb}
-use borrow.Author.Tests.{eq-eqb, eqb-true}
+use Rattle.integers.specs.Basics.{ℕ, suc, _≡_, refl, _∙_, ap, subst, inl, inr, _≢_, Bool, true, false, not, _&&_, _||_, cond, false≢true}
+use Rattle.integers.specs.Basics.{List, [], _∷_, eqb, eqb-true, eq-eqb}
 use denote.Struct.Field.{Field}
 use denote.Enum.Enum.{tag}
 use denote.Enum.Declared.{Choice, rowss, intoss, tagOf}

@@ -1,10 +1,6 @@
 -- Potential positions as the code makes them up by the cells, and how large they are within the bounds.
-use Prim.Native.Nat.{ℕ, _≤_}
-use mathlib.Core.Path.{_≡_, refl, _∙_, sym, ap}
-use mathlib.Core.List.{List}
-use native.Mathlib.Omega.{arith}
-use lib.ListN.{getD}
-use lib.IntN.{ℤ, pos, natAbs, _+ℤ_, _*ℤ_, +ℤ-assoc}
+use Rattle.integers.specs.Basics.{ℕ, _≤_, _≡_, refl, _∙_, sym, ap, List, ℤ, pos, natAbs, _+ℤ_, _*ℤ_, getD, arith}
+use lib.IntN.{+ℤ-assoc}
 use Rattle.integers.specs.Magnitude.{magnitude-product-≤}
 use Rattle.ledger.specs.declared.order.Order.{Order}
 use Rattle.ledger.specs.declared.order.Side.{Side}

@@ -1,8 +1,5 @@
 -- A weight's sign: the side to which it turns, and its magnitude.
-use mathlib.Core.Path.{_≡_, refl}
-use lib.IntN.{ℤ, pos, negsuc, negℤ, natAbs}
-use lib.Signed.{_≤ℤ_, _<ℤ_}
-use Rattle.integers.specs.Parts.{signed}
+use Rattle.integers.specs.Basics.{_≡_, refl, ℤ, pos, negsuc, negℤ, natAbs, _≤ℤ_, _<ℤ_, signed}
 use Rattle.ledger.specs.Positions.{Way, opposite, wayBy}
 
 pub turns : (K : ℤ) (w : Way) → K <ℤ pos 0 → opposite w ≡ wayBy K w

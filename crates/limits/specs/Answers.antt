@@ -1,5 +1,5 @@
 -- The numbers of the answers, as document 01 has them: the refusal by question n is answered n, an acceptance 0.
-use Prim.Native.Nat.{ℕ}
+use Rattle.integers.specs.Basics.{ℕ}
 use Rattle.limits.specs.declared.answer.Answer.{Answer}
 use Rattle.limits.specs.declared.answer.Answer.the-variants.{Accepted, MemoryTooShort, WrongSizes, UnknownName, WeightOutOfRange}
 use Rattle.limits.specs.declared.answer.Answer.the-variants.{NoSoundDesk, NoEvent, UnknownAccount, UnknownItem, FigureOutOfRange}

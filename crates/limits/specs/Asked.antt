@@ -1,10 +1,5 @@
 -- Questions 17 and 19 to 24, of an order as the event enters it or raises it to.
-use Prim.Native.Nat.{ℕ, _*_}
-use mathlib.Core.Bool.{Bool, true, false, not, _&&_, _||_}
-use mathlib.Core.List.{List, [], _∷_}
-use lib.Dec.{eqb}
-use lib.IntN.{ℤ, pos, negsuc}
-use lib.Signed.{leZ}
+use Rattle.integers.specs.Basics.{ℕ, _*_, Bool, true, false, not, _&&_, _||_, List, [], _∷_, ℤ, pos, negsuc, leZ, eqb}
 use Rattle.ledger.specs.declared.order.Order.{Order}
 use Rattle.ledger.specs.declared.order.Side.{Side}
 use Rattle.ledger.specs.Roster.{Roster, groupOfInstrument}

@@ -1,9 +1,5 @@
 -- What the questions need of the lent bytes, and which lines stand in them.
-use Prim.Native.Nat.{ℕ, _≤_}
-use mathlib.Core.Path.{_≡_}
-use mathlib.Core.List.{List}
-use mathlib.Core.Option.{some}
-use lib.IntN.{ℤ, natAbs}
+use Rattle.integers.specs.Basics.{ℕ, _≤_, _≡_, List, some, ℤ, natAbs}
 use Rattle.ledger.specs.declared.order.Order.{Order}
 use Rattle.ledger.specs.Roster.{Roster, Numbered, groupOfInstrument}
 use Rattle.ledger.specs.Records.{rosterIn}

@@ -1,9 +1,5 @@
 -- Lines in lent bytes: two words for a line, one for a group's, and a word of its own that says whether a line is set.
-use Prim.Native.Nat.{ℕ, _+_, _*_}
-use mathlib.Core.Bool.{Bool, not, cond}
-use mathlib.Core.List.{List}
-use mathlib.Core.Option.{Option, none, some}
-use lib.Dec.{eqb}
+use Rattle.integers.specs.Basics.{ℕ, _+_, _*_, Bool, not, cond, List, Option, none, some, eqb}
 use Rattle.words.specs.Words.{wordAt, lower, upper, partOf}
 use Rattle.ledger.specs.declared.order.Side.{Side}
 use Rattle.ledger.specs.declared.order.Side.the-variants.{Buy, Sell}

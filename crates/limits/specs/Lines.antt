@@ -1,8 +1,5 @@
 -- Document 01, "Limit lines", of one account.
-use Prim.Native.Nat.{ℕ}
-use mathlib.Core.Bool.{Bool, true, false}
-use mathlib.Core.Option.{Option, none, some}
-use lib.IntN.{ℤ, pos, negsuc, _*ℤ_}
+use Rattle.integers.specs.Basics.{ℕ, Bool, true, false, Option, none, some, ℤ, pos, negsuc, _*ℤ_}
 use Rattle.ledger.specs.declared.order.Side.{Side}
 use Rattle.ledger.specs.declared.order.Side.the-variants.{Buy, Sell}
 use Rattle.ledger.specs.Roster.{Roster}

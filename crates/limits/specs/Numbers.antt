@@ -1,6 +1,5 @@
 -- Questions 17, 19 and 20 as tables, and the number of a side's question.
-use Prim.Native.Nat.{ℕ}
-use mathlib.Core.List.{List, [], _∷_}
+use Rattle.integers.specs.Basics.{ℕ, List, [], _∷_}
 use Rattle.ledger.specs.declared.order.Order.{Order}
 use Rattle.ledger.specs.declared.order.Side.{Side}
 use Rattle.ledger.specs.declared.order.Side.the-variants.{Buy, Sell}

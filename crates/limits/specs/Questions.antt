@@ -1,7 +1,5 @@
 -- Questions in order: a "no" gives the number, and the first "no" is the answer.
-use Prim.Native.Nat.{ℕ}
-use mathlib.Core.Bool.{Bool, true, _&&_, cond}
-use mathlib.Core.List.{List, [], _∷_, map}
+use Rattle.integers.specs.Basics.{ℕ, Bool, true, _&&_, cond, List, [], _∷_, map}
 
 pub record Question : Type 0 where
   pub number : ℕ

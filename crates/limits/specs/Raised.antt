@@ -1,9 +1,5 @@
 -- What an event adds to B and V: a NEW the order's quantity, a REPLACE that raises a total the rise.
-use Prim.Native.Nat.{ℕ}
-use mathlib.Core.Path.{_≡_}
-use mathlib.Core.Bool.{_&&_, cond}
-use mathlib.Core.List.{List}
-use lib.IntN.{ℤ, pos, _+ℤ_}
+use Rattle.integers.specs.Basics.{ℕ, _≡_, _&&_, cond, List, ℤ, pos, _+ℤ_}
 use Rattle.ledger.specs.declared.order.Order.{Order}
 use Rattle.ledger.specs.declared.order.Side.{Side}
 use Rattle.ledger.specs.Positions.{sameSide, standsIn, openOn}

@@ -1,11 +1,5 @@
 -- The table kind by kind: the first no of the questions that a kind is asked, by their tests.
-use Prim.Native.Nat.{ℕ}
-use mathlib.Core.Path.{_≡_, refl, _∙_}
-use mathlib.Core.Bool.{Bool, true, false, not, cond}
-use mathlib.Core.List.{List}
-use mathlib.Core.Option.{none, some}
-use lib.Dec.{ltb}
-use lib.IntN.{ℤ, pos, negℤ, natAbs}
+use Rattle.integers.specs.Basics.{ℕ, _≡_, refl, _∙_, Bool, true, false, not, cond, List, none, some, ℤ, pos, negℤ, natAbs, ltb}
 use Rattle.ledger.specs.declared.order.Order.{Order}
 use Rattle.ledger.specs.declared.order.Side.{Side}
 use Rattle.limits.specs.Questions.{firstNo}
@@ -20,9 +14,9 @@ use Rattle.book.specs.Decoding.{between}
 use Rattle.book.specs.OpenOrders.{find}
 use Rattle.book.specs.Books.{newOrder, changed, changedBalances, bookAfter}
 use Rattle.book.specs.Names.{limitedItem, blockedAccount, blockedItem}
-use Rattle.book.specs.Table.{isEvent, accountKnown, isListed, itemKnown, betweenℤ, lineFits, changeInRange}
-use Rattle.book.specs.Table.{isQuantity, figuresFit, notYetTrading, idOpen, quantityFits, whereSome, entered, idFree, placeFree}
-use Rattle.book.specs.Table.{questionsBefore, limitQuestions, answer}
+use Rattle.book.specs.Table.{isEvent, accountKnown, isListed, itemKnown, betweenℤ, lineFits, changeInRange, isQuantity, figuresFit}
+use Rattle.book.specs.Table.{notYetTrading, idOpen, quantityFits, whereSome, entered, idFree, placeFree, questionsBefore, limitQuestions}
+use Rattle.book.specs.Table.{answer}
 use Rattle.book.proofs.Cuts.{standing}
 use Rattle.memory_layout.specs.View.{marketOf, rosterOf, openOrders, bookOf, tradingOf}
 use Rattle.memory_layout.specs.Judged.{judged}
@@ -33,7 +27,8 @@ module _ (m : List ℕ) where
   -- the first no of an event, but for a change of an open order, of which three lemmas below tell
   abbrev tested : Event → ℕ
   tested (Limit a l) =
-      cond (between 1 (rosterOf m .accounts) a) (cond (isListed (rosterOf m) (limitedItem l)) (cond (lineFits (marketOf m .largest) l) 0 9) 8) 7
+      cond (between 1 (rosterOf m .accounts) a)
+      (cond (isListed (rosterOf m) (limitedItem l)) (cond (lineFits (marketOf m .largest) l) 0 9) 8) 7
   tested (Balance a i b) =
       cond (between 1 (rosterOf m .accounts) a)
       (cond (between 1 (rosterOf m .instruments) i)

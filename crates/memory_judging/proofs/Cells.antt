@@ -1,11 +1,7 @@
 -- The cells of one account, of those of all.
-use Prim.Native.Nat.{ℕ, _+_, _*_, _≤_, _<_}
-use mathlib.Core.Path.{_≡_, _∙_, ap}
-use mathlib.Core.List.{List}
-use native.Mathlib.Omega.{arith}
-use lib.ListN.{length, getD, length-take, length-drop, drop}
+use Rattle.integers.specs.Basics.{ℕ, _+_, _*_, _≤_, _<_, _≡_, _∙_, ap, List, pos, length, getD, drop, arith}
+use lib.ListN.{length-take, length-drop}
 use lib.Seq.{getD-take, getD-drop}
-use lib.IntN.{pos}
 use Rattle.ledger.specs.declared.order.Order.{Order}
 use Rattle.ledger.specs.declared.order.Side.{Side}
 use Rattle.ledger.specs.Roster.{Numbered}

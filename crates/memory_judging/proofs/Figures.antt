@@ -1,12 +1,6 @@
 -- Tests of a signed figure by its size, as the code makes them.
-use Prim.Native.Nat.{ℕ}
-use mathlib.Core.Path.{_≡_, refl, sym, _∙_, ap}
-use mathlib.Core.Bool.{Bool, true, false, _&&_}
-use borrow.Author.Tests.{le-leb, lt-leb, lt-ltb, le-ltb}
-use lib.Dec.{leb, ltb}
-use lib.IntN.{ℤ, pos, negsuc, negℤ, natAbs, _-ℤ_}
-use lib.Signed.{leZ, ltZ, mag}
-use Rattle.integers.specs.Parts.{signed, negation-parts, difference-parts, magnitude-parts}
+use Rattle.integers.specs.Basics.{ℕ, _≡_, refl, _∙_, sym, ap, Bool, true, false, _&&_, ℤ, pos, negsuc, negℤ, natAbs, _-ℤ_, leZ, ltZ, mag}
+use Rattle.integers.specs.Basics.{leb, ltb, le-leb, lt-leb, lt-ltb, le-ltb, signed, magnitude-parts, negation-parts, difference-parts}
 use Rattle.book.specs.Table.{betweenℤ, isLimit}
 use Rattle.memory_soundness.proofs.Asked.{same-test}
 

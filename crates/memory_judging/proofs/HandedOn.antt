@@ -1,13 +1,6 @@
 -- Figures handed on: what a test said of one or of two, and that a quantity is a whole number.
-use mathlib.Core.Path.{_≡_, _∙_, ap}
-use mathlib.Core.Bool.{Bool, true}
-use lib.Dec.{T}
-use lib.IntN.{ℤ, pos, natAbs}
-use lib.Signed.{nonNeg}
-use mir.Syntax.{w64}
-use mir.Val.{Fits, SFits, toZ, ofZ}
-use mir.ValLaws.{toZ-ofZ}
-use Rattle.integers.specs.Parts.{signed, magnitude-parts}
+use Rattle.integers.specs.Basics.{_≡_, _∙_, ap, Bool, true, ℤ, pos, natAbs, nonNeg, T, w64, Fits, SFits, toZ, ofZ, toZ-ofZ, signed}
+use Rattle.integers.specs.Basics.{magnitude-parts}
 use Rattle.book.specs.Table.{isQuantity}
 use Rattle.book.proofs.Tables.{betweenℤ-both}
 

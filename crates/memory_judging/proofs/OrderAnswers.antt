@@ -1,12 +1,5 @@
 -- Questions 19 to 24 at a sound desk, as the functions below answer them.
-use Prim.Native.Nat.{ℕ}
-use mathlib.Core.Path.{_≡_, _∙_, sym, ap}
-use mathlib.Core.Logic.{_≢_}
-use mathlib.Core.Bool.{true}
-use mathlib.Core.List.{List}
-use native.Mathlib.Omega.{arith}
-use lib.IntN.{ℤ, pos, natAbs}
-use lib.ListN.{length}
+use Rattle.integers.specs.Basics.{ℕ, _≡_, _∙_, sym, ap, _≢_, true, List, ℤ, pos, natAbs, length, arith}
 use Rattle.ledger.specs.declared.order.Order.{Order}
 use Rattle.ledger.specs.Roster.{Numbered, groupOfInstrument}
 use Rattle.ledger.specs.Records.{balancesIn, rosterIn}

@@ -1,9 +1,5 @@
 -- Two lists of questions in turn: the second is asked where the first is answered by an acceptance.
-use Prim.Native.Nat.{ℕ}
-use mathlib.Core.Path.{_≡_, sym, _∙_}
-use mathlib.Core.Bool.{true}
-use mathlib.Core.List.{List, _++_}
-use native.Mathlib.Omega.{arith}
+use Rattle.integers.specs.Basics.{ℕ, _≡_, _∙_, sym, true, List, _++_, arith}
 use Rattle.ledger.specs.declared.order.Order.{Order}
 use Rattle.limits.specs.Questions.{Question, firstNo, allPass}
 use Rattle.limits.specs.Asked.{limitsSet}

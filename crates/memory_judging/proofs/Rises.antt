@@ -1,8 +1,5 @@
 -- The order that a NEW enters, and the one that a REPLACE raises: what it adds to the open orders, and that it is on the roster.
-use Prim.Native.Nat.{ℕ, _-_, _<_}
-use mathlib.Core.Path.{_≡_, refl}
-use mathlib.Core.List.{List, [], _∷_}
-use native.Mathlib.Omega.{arith}
+use Rattle.integers.specs.Basics.{ℕ, _-_, _<_, _≡_, refl, List, [], _∷_, arith}
 use Rattle.ledger.specs.declared.order.Order.{Order}
 use Rattle.ledger.specs.Orders.{remaining, replacedTotal}
 use Rattle.ledger.specs.Records.{Storable}

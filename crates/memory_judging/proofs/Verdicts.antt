@@ -1,8 +1,5 @@
 -- What a verdict says: the answer's number is the table's first no, and an accepted event names the order that it hands on.
-use Prim.Native.Nat.{ℕ, _≤_}
-use mathlib.Core.Path.{_≡_, sym, ap, subst, _∙_}
-use mathlib.Core.List.{List}
-use native.Mathlib.Omega.{arith}
+use Rattle.integers.specs.Basics.{ℕ, _≤_, _≡_, _∙_, sym, ap, subst, List, arith}
 use Rattle.limits.specs.declared.answer.Answer.{Answer}
 use Rattle.book.specs.declared.Event.{Event}
 use Rattle.limits.specs.Answers.{numberOf}

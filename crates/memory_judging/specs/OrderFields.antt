@@ -1,8 +1,5 @@
 -- What the functions between the questions and the memory take and give: an order's contract and group, and the cells of its account.
-use Prim.Native.Nat.{ℕ, _*_}
-use mathlib.Core.Path.{_≡_}
-use mathlib.Core.List.{List}
-use lib.ListN.{take, drop}
+use Rattle.integers.specs.Basics.{ℕ, _*_, _≡_, List, take, drop}
 use Rattle.ledger.specs.declared.order.Order.{Order}
 use Rattle.ledger.specs.Roster.{Numbered, groupOfInstrument}
 use Rattle.memory_layout.specs.View.{rosterOf}

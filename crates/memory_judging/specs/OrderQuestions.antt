@@ -1,8 +1,5 @@
 -- Questions 14 to 17 and 19 to 24 of an order that a NEW enters or a REPLACE raises, asked of a desk's memory.
-use Prim.Native.Nat.{ℕ, _≤_}
-use mathlib.Core.Path.{_≡_}
-use mathlib.Core.Bool.{true, not}
-use mathlib.Core.List.{List, [], _∷_, _++_}
+use Rattle.integers.specs.Basics.{ℕ, _≤_, _≡_, true, not, List, [], _∷_, _++_}
 use Rattle.ledger.specs.declared.order.Order.{Order}
 use Rattle.ledger.specs.Roster.{Numbered, groupOfInstrument}
 use Rattle.limits.specs.Questions.{Question}

@@ -1,12 +1,5 @@
 -- The questions that are left of a NEW and of a change of an open order, once those before them are answered yes.
-use Prim.Native.Nat.{ℕ, _≤_}
-use mathlib.Core.Path.{_≡_}
-use mathlib.Core.Bool.{true, not, cond}
-use mathlib.Core.List.{List, [], _∷_, _++_}
-use mathlib.Core.Option.{some}
-use lib.Dec.{leb, ltb}
-use lib.IntN.{natAbs}
-use lib.ListN.{length}
+use Rattle.integers.specs.Basics.{ℕ, _≤_, _≡_, true, not, cond, List, [], _∷_, _++_, some, natAbs, leb, ltb, length}
 use Rattle.ledger.specs.declared.order.Order.{Order}
 use Rattle.ledger.specs.Orders.{remaining, replacedTotal}
 use Rattle.limits.specs.Lines.{isSet}

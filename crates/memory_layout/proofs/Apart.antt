@@ -1,8 +1,5 @@
 -- Stores of records that lie apart can change places.
-use Prim.Native.Nat.{ℕ, _+_, _<_}
-use mathlib.Core.Path.{_≡_, refl, _∙_, ap}
-use mathlib.Core.List.{List, [], _∷_}
-use native.Mathlib.Omega.{arith}
+use Rattle.integers.specs.Basics.{ℕ, _+_, _<_, _≡_, refl, _∙_, ap, List, [], _∷_, arith}
 use Rattle.words.proofs.Apart.{words-pass, past-words}
 use Rattle.ledger.specs.declared.order.Order.{Order}
 use Rattle.memory_layout.specs.Stores.{recordWord, fields, putOrder, putOrders}

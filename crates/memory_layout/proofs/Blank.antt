@@ -1,12 +1,6 @@
 -- A memory whose words behind the roster are 0 is a desk that has just begun.
-use Prim.Native.Nat.{ℕ, _+_, _*_, _≤_, _<_}
-use mathlib.Core.Path.{_≡_, refl, _∙_, ap, fun-ext}
-use mathlib.Core.Bool.{Bool, true, false, not, _&&_, cond}
-use mathlib.Core.List.{List, []}
-use mathlib.Core.Option.{none, some}
-use native.Mathlib.Omega.{arith}
-use lib.IntN.{pos}
-use borrow.Author.Tests.{eq-eqb}
+use Rattle.integers.specs.Basics.{ℕ, _+_, _*_, _≤_, _<_, _≡_, refl, _∙_, ap, fun-ext, Bool, true, false, not, _&&_, cond, List, [], none}
+use Rattle.integers.specs.Basics.{some, pos, arith, eq-eqb}
 use Rattle.integers.specs.TwosComplement.{signedOf, signed-small}
 use Rattle.words.specs.Words.{wordAt, signedAt}
 use Rattle.ledger.specs.Roster.{Numbered}
@@ -17,10 +11,9 @@ use Rattle.book.specs.Books.{emptyBook}
 use Rattle.book.specs.States.{begun}
 use Rattle.book.proofs.Tables.{between-numbered}
 use Rattle.memory_layout.specs.Layout.{countWord, markWord, accountBlockWord, instrumentBlockWord, groupBlockRow, balanceRow}
-use Rattle.memory_layout.specs.Layout.{ownSetRow}
-use Rattle.memory_layout.specs.Layout.{defaultSetRow, groupSetRow, ownRow, defaultRow, groupRow}
-use Rattle.memory_layout.specs.View.{rosterOf, flag, onRoster, linesOf, balancesOf, blocksOf, openOrders, bookOf, tradingOf}
-use Rattle.memory_layout.specs.View.{marketOf, view}
+use Rattle.memory_layout.specs.Layout.{ownSetRow, defaultSetRow, groupSetRow, ownRow, defaultRow, groupRow}
+use Rattle.memory_layout.specs.View.{rosterOf, flag, onRoster, linesOf, balancesOf, blocksOf, openOrders, bookOf, tradingOf, marketOf}
+use Rattle.memory_layout.specs.View.{view}
 use Rattle.memory_layout.proofs.RosterLaws.{Sized}
 use Rattle.memory_layout.proofs.GuardedTables.{on-each, same-lines, same-blocks, same-view}
 

@@ -1,11 +1,5 @@
 -- The book's `change` at a place: an order found at place p leaves, or becomes another.
-use Prim.Native.Nat.{ℕ, zero, suc, _+_, _≤_}
-use mathlib.Core.Path.{_≡_, ap}
-use mathlib.Core.Bool.{Bool, true, false, cond}
-use mathlib.Core.List.{List, [], _∷_, _++_}
-use native.Mathlib.Omega.{arith}
-use lib.Dec.{eqb}
-use lib.ListN.{set}
+use Rattle.integers.specs.Basics.{ℕ, zero, suc, _+_, _≤_, _≡_, ap, Bool, true, false, cond, List, [], _∷_, _++_, eqb, set, arith}
 use Rattle.ledger.specs.declared.order.Order.{Order}
 use Rattle.ledger.specs.declared.find.Found.the-variants.{At}
 use Rattle.ledger.specs.Orders.{placeFrom}

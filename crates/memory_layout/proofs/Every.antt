@@ -1,11 +1,7 @@
 -- A test of every number from 1 to n, number by number.
-use Prim.Native.Nat.{ℕ, zero, suc, _+_, _≤_, _<_}
-use mathlib.Core.Path.{_≡_, refl, sym, _∙_}
-use mathlib.Core.Bool.{Bool, true, false, not, _&&_}
-use native.Mathlib.Decide.{ℕ-discrete}
+use Rattle.integers.specs.Basics.{ℕ, zero, suc, _+_, _≤_, _<_, _≡_, refl, _∙_, sym, Bool, true, false, not, _&&_, ℕ-discrete, arith}
+use Rattle.integers.specs.Basics.{not-true, not-false}
 use native.Mathlib.Numerals.{add-one}
-use native.Mathlib.Omega.{arith}
-use borrow.Author.Tests.{not-true, not-false}
 use Rattle.ledger.specs.Roster.{Numbered}
 use Rattle.limits.proofs.Answers.{both-true, and-true}
 use Rattle.memory_layout.specs.Rosters.{every}

@@ -1,12 +1,5 @@
 -- The words that the readers of single fields read are the view's fields, where account and number are on the roster.
-use Prim.Native.Nat.{ℕ, _+_, _≤_, _<_}
-use mathlib.Core.Path.{_≡_, _∙_, sym}
-use mathlib.Core.Bool.{true, false}
-use mathlib.Core.List.{List}
-use native.Mathlib.Omega.{arith}
-use lib.IntN.{pos}
-use lib.ListN.{length}
-use borrow.Author.Tests.{leb-true}
+use Rattle.integers.specs.Basics.{ℕ, _+_, _≤_, _<_, _≡_, _∙_, sym, true, false, List, pos, length, arith, leb-true}
 use Rattle.words.specs.Words.{signedAt, partOf}
 use Rattle.words.proofs.Parts.{length-part, word-part}
 use Rattle.ledger.specs.Roster.{Numbered}

@@ -1,12 +1,6 @@
 -- Where the first record stands when an order joins or leaves: which side moves, and that it stays inside the region.
-use Prim.Native.Nat.{ℕ, _+_, _*_, _-_, _≤_, _<_}
-use mathlib.Core.Path.{_≡_, refl}
-use mathlib.Core.Logic.{_⊎_, inl, inr}
-use mathlib.Core.Bool.{Bool, true, false, _&&_, cond}
-use mathlib.Core.List.{List}
-use native.Mathlib.Omega.{arith}
-use lib.Dec.{ltb, eqb}
-use borrow.Author.Tests.{lt-ltb, le-ltb, ltb-true}
+use Rattle.integers.specs.Basics.{ℕ, _+_, _*_, _-_, _≤_, _<_, _≡_, refl, _⊎_, inl, inr, Bool, true, false, _&&_, cond, List, ltb, eqb}
+use Rattle.integers.specs.Basics.{arith, ltb-true, lt-ltb, le-ltb}
 use Rattle.words.specs.Words.{wordAt}
 use Rattle.memory_layout.specs.Layout.{countWord}
 use Rattle.memory_layout.specs.View.{firstOf}

@@ -1,10 +1,5 @@
 -- Tables by account and number that say nothing of what is not on the roster, and the records of the view.
-use Prim.Native.Nat.{ℕ}
-use mathlib.Core.Path.{_≡_, refl, _∙_, ap, fun-ext}
-use mathlib.Core.Bool.{Bool, true, false, _&&_, cond}
-use mathlib.Core.List.{List}
-use mathlib.Core.Option.{Option}
-use lib.IntN.{ℤ}
+use Rattle.integers.specs.Basics.{ℕ, _≡_, refl, _∙_, ap, fun-ext, Bool, true, false, _&&_, cond, List, Option, ℤ}
 use Rattle.ledger.specs.declared.order.Order.{Order}
 use Rattle.ledger.specs.Roster.{Roster, Numbered}
 use Rattle.ledger.proofs.Ways.{by-number}

@@ -1,13 +1,6 @@
 -- The lines of an account, as the rows of its lines and set words hold them: what the readers of lines give.
-use Prim.Native.Nat.{ℕ, _+_, _*_, _-_, _≤_, _<_}
-use mathlib.Core.Path.{_≡_, _∙_, sym, ap}
-use mathlib.Core.Bool.{not, cond}
-use mathlib.Core.List.{List}
-use mathlib.Core.Option.{none, some}
+use Rattle.integers.specs.Basics.{ℕ, _+_, _*_, _-_, _≤_, _<_, _≡_, _∙_, sym, ap, not, cond, List, none, some, eqb, length, arith}
 use native.Mathlib.Nat.{add-assoc}
-use native.Mathlib.Omega.{arith}
-use lib.Dec.{eqb}
-use lib.ListN.{length}
 use Rattle.words.specs.Words.{wordAt, partOf}
 use Rattle.words.proofs.Parts.{length-part, word-part}
 use Rattle.ledger.specs.Roster.{Numbered}
@@ -16,8 +9,8 @@ use Rattle.limits.specs.InBytes.{lineAt, groupLineAt, saysSet, whereSet, linesI
 use Rattle.limits.proofs.LinesRead.{set-by-word, in-force, of-group, length-in-force}
 use Rattle.book.specs.Sound.{LineFits, GroupLineFits}
 use Rattle.memory_layout.specs.Layout.{ownSetRow, defaultSetRow, groupSetRow, ownRow, defaultRow, groupRow}
-use Rattle.memory_layout.specs.View.{rosterOf, linesOf, ownFigures, defaultFigures, groupFigures}
-use Rattle.memory_layout.specs.View.{linesRow, ownLines, defaultLines, groupLines}
+use Rattle.memory_layout.specs.View.{rosterOf, linesOf, ownFigures, defaultFigures, groupFigures, linesRow, ownLines, defaultLines}
+use Rattle.memory_layout.specs.View.{groupLines}
 use Rattle.memory_layout.specs.Readable.{Readable, HoldsLine, HoldsGroupLine}
 use Rattle.memory_layout.proofs.GuardedTables.{on-here}
 

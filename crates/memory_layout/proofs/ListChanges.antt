@@ -1,13 +1,8 @@
 -- An order joins, leaves or becomes another: with the records on one side of it moved, the memory is `storeFrom` of the book's list.
-use Prim.Native.Nat.{ℕ, _+_, _*_, _-_, _≤_, _<_}
-use mathlib.Core.Path.{_≡_, _∙_, sym, ap}
-use mathlib.Core.Logic.{_≢_, _⊎_}
-use mathlib.Core.Bool.{true, false, cond}
-use mathlib.Core.List.{List, [], _∷_, _++_, append-assoc}
-use native.Mathlib.Omega.{arith}
-use lib.Dec.{ltb, eqb}
-use lib.ListN.{length, set, length-set, length-append}
-use borrow.Author.Tests.{ltb-true, eq-eqb, ne-eqb}
+use Rattle.integers.specs.Basics.{ℕ, _+_, _*_, _-_, _≤_, _<_, _≡_, _∙_, sym, ap, _⊎_, _≢_, true, false, cond, List, [], _∷_, _++_, ltb, eqb}
+use Rattle.integers.specs.Basics.{length, set, length-set, arith, ltb-true, eq-eqb, ne-eqb}
+use mathlib.Core.List.{append-assoc}
+use lib.ListN.{length-append}
 use Rattle.words.specs.Bytes.{Bytes}
 use Rattle.words.specs.Words.{wordAt, putWord, partOf}
 use Rattle.words.proofs.Memory.{put-back}

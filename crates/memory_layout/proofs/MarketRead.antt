@@ -1,7 +1,5 @@
 -- The market of a memory: which word says it, and what is known of it.
-use Prim.Native.Nat.{ℕ, _≤_}
-use mathlib.Core.Path.{_≡_, ap}
-use mathlib.Core.List.{List}
+use Rattle.integers.specs.Basics.{ℕ, _≤_, _≡_, ap, List}
 use Rattle.words.specs.Words.{wordAt}
 use Rattle.ledger.specs.Derivatives.{one}
 use Rattle.book.specs.Market.{derivatives, marketOfKind}

@@ -1,10 +1,6 @@
 -- A record of the order region: what it says, what a store there changes, and what it leaves. The open orders are those in the records from
 -- the first in use on.
-use Prim.Native.Nat.{ℕ, zero, suc, _+_, _*_, _≤_, _<_}
-use mathlib.Core.Path.{_≡_, refl, _∙_, sym, ap}
-use mathlib.Core.List.{List}
-use native.Mathlib.Omega.{arith}
-use lib.ListN.{length, getD}
+use Rattle.integers.specs.Basics.{ℕ, zero, suc, _+_, _*_, _≤_, _<_, _≡_, refl, _∙_, sym, ap, List, length, getD, arith}
 use Rattle.words.specs.Bytes.{Bytes}
 use Rattle.words.specs.Words.{AreWords, wordAt, wordsAt, putWords, partOf}
 use Rattle.words.proofs.Memory.{word-below}

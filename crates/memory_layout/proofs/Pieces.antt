@@ -1,11 +1,5 @@
 -- A list of orders in records, cut at a place: with an order that joins there, leaves there, or becomes another there.
-use Prim.Native.Nat.{ℕ, zero, suc, _+_, _-_, _<_}
-use mathlib.Core.Path.{_≡_, refl, ap}
-use mathlib.Core.Bool.{Bool, true, false, cond}
-use mathlib.Core.List.{List, _∷_, _++_}
-use native.Mathlib.Omega.{arith}
-use lib.Dec.{ltb}
-use lib.ListN.{set}
+use Rattle.integers.specs.Basics.{ℕ, zero, suc, _+_, _-_, _<_, _≡_, refl, ap, Bool, true, false, cond, List, _∷_, _++_, ltb, set, arith}
 use Rattle.ledger.specs.declared.order.Order.{Order}
 use Rattle.ledger.specs.Records.{orderAt, ordersFrom}
 use Rattle.book.specs.OpenOrders.{insert}

@@ -1,11 +1,7 @@
 -- The search by id among records whose ids ascend: what the id in a record says of the records before it and behind it.
-use Prim.Native.Nat.{ℕ, zero, suc, _+_, _*_, _-_, _/_, _≤_, _<_}
-use mathlib.Core.Path.{_≡_, refl, _∙_, sym, ap}
-use mathlib.Core.Logic.{_≢_}
-use mathlib.Core.List.{List, _∷_}
-use native.Mathlib.Decide.{ℕ-discrete, decLe}
-use native.Mathlib.Omega.{arith}
-use borrow.Author.Tests.{lt-ltb, le-ltb}
+use Rattle.integers.specs.Basics.{ℕ, zero, suc, _+_, _*_, _-_, _/_, _≤_, _<_, _≡_, refl, _∙_, sym, ap, _≢_, List, _∷_, ℕ-discrete, arith}
+use Rattle.integers.specs.Basics.{lt-ltb, le-ltb}
+use native.Mathlib.Decide.{decLe}
 use Rattle.words.specs.Words.{wordAt}
 use Rattle.ledger.specs.declared.order.Order.{Order}
 use Rattle.ledger.specs.declared.find.Found.{Found}

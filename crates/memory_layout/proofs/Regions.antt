@@ -1,14 +1,10 @@
 -- The table of the layout: each field stands in a region of its own, the three kinds of line in one, the regions follow each
 -- other inside 8,192 words, and no two fields share a word.
-use Prim.Native.Nat.{ℕ, _+_, _*_, _≤_, _<_}
-use mathlib.Core.Path.{_≡_}
-use mathlib.Core.Logic.{_≢_}
-use native.Mathlib.Omega.{arith}
+use Rattle.integers.specs.Basics.{ℕ, _+_, _*_, _≤_, _<_, _≡_, _≢_, arith}
 use Rattle.ledger.specs.Roster.{Numbered}
 use Rattle.memory_layout.specs.Layout.{memoryBytes, memoryWords, kindWord, rosterWord, countWord, firstWord, markWord}
-use Rattle.memory_layout.specs.Layout.{accountBlockWord}
-use Rattle.memory_layout.specs.Layout.{instrumentBlockWord, groupBlockRow, balanceRow, ownSetRow, defaultSetRow, groupSetRow, ownRow}
-use Rattle.memory_layout.specs.Layout.{defaultRow, groupRow}
+use Rattle.memory_layout.specs.Layout.{accountBlockWord, instrumentBlockWord, groupBlockRow, balanceRow, ownSetRow, defaultSetRow}
+use Rattle.memory_layout.specs.Layout.{groupSetRow, ownRow, defaultRow, groupRow}
 use Rattle.memory_layout.specs.Stores.{recordWord}
 
 -- word k is one of the words from low to high − 1

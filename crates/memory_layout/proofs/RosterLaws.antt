@@ -1,12 +1,6 @@
 -- The roster of a memory is what its words say of the numbers on it; entries that are not on it do not count.
-use Prim.Native.Nat.{ℕ, _+_, _≤_, _<_}
-use mathlib.Core.Path.{_≡_, refl, _∙_, sym, ap, fun-ext}
-use mathlib.Core.Bool.{Bool, true, false, cond}
-use mathlib.Core.List.{List}
-use native.Mathlib.Omega.{arith}
-use lib.Dec.{leb}
-use lib.IntN.{ℤ, pos}
-use borrow.Author.Tests.{le-leb}
+use Rattle.integers.specs.Basics.{ℕ, _+_, _≤_, _<_, _≡_, refl, _∙_, sym, ap, fun-ext, Bool, true, false, cond, List, ℤ, pos, leb, arith}
+use Rattle.integers.specs.Basics.{le-leb}
 use Rattle.words.specs.Words.{wordAt, signedAt, partOf}
 use Rattle.words.proofs.Parts.{word-part}
 use Rattle.integers.specs.TwosComplement.{signedOf}

@@ -1,12 +1,5 @@
 -- The part with the roster says what the roster of the view says, of every number on it: so what is read there is the view's.
-use Prim.Native.Nat.{ℕ, _≤_, _<_}
-use mathlib.Core.Path.{_≡_, refl}
-use mathlib.Core.List.{List}
-use native.Mathlib.Omega.{arith}
-use lib.ListN.{length}
-use borrow.Author.Tests.{le-leb, lt-leb}
-use lib.Dec.{leb}
-use mathlib.Core.Bool.{false}
+use Rattle.integers.specs.Basics.{ℕ, _≤_, _<_, _≡_, refl, false, List, leb, length, arith, le-leb, lt-leb}
 use Rattle.words.proofs.Parts.{length-part}
 use Rattle.ledger.specs.Roster.{Numbered}
 use Rattle.ledger.specs.Records.{rosterIn}

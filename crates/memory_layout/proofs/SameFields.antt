@@ -1,13 +1,6 @@
 -- Which words a field of the view is made of: memories with those words in common have the field in common.
-use Prim.Native.Nat.{ℕ, _+_, _*_, _≤_, _<_}
-use mathlib.Core.Path.{_≡_, refl, _∙_, sym, ap}
-use mathlib.Core.Bool.{Bool, false, not, cond}
-use mathlib.Core.List.{List}
-use mathlib.Core.Option.{Option, none, some}
-use native.Mathlib.Omega.{arith}
-use lib.Dec.{eqb}
-use lib.IntN.{ℤ, pos}
-use lib.ListN.{length}
+use Rattle.integers.specs.Basics.{ℕ, _+_, _*_, _≤_, _<_, _≡_, refl, _∙_, sym, ap, Bool, false, not, cond, List, Option, none, some, ℤ, pos}
+use Rattle.integers.specs.Basics.{eqb, length, arith}
 use Rattle.integers.specs.TwosComplement.{signedOf}
 use Rattle.words.specs.Words.{wordAt, signedAt}
 use Rattle.ledger.specs.Roster.{Numbered}
@@ -15,8 +8,7 @@ use Rattle.limits.specs.Lines.{Line, GroupLine, Lines}
 use Rattle.limits.specs.InBytes.{lineAt, groupLineAt}
 use Rattle.book.specs.Books.{Blocks}
 use Rattle.memory_layout.specs.Layout.{countWord, firstWord, markWord, accountBlockWord, instrumentBlockWord, groupBlockRow}
-use Rattle.memory_layout.specs.Layout.{balanceRow}
-use Rattle.memory_layout.specs.Layout.{ownSetRow, defaultSetRow, groupSetRow, ownRow, defaultRow, groupRow}
+use Rattle.memory_layout.specs.Layout.{balanceRow, ownSetRow, defaultSetRow, groupSetRow, ownRow, defaultRow, groupRow}
 use Rattle.memory_layout.specs.View.{rosterOf, flag, linesOf, balancesOf, blocksOf, firstOf, openOrders, tradingOf}
 use Rattle.memory_layout.specs.Stores.{ordersIn, recordsIn}
 use Rattle.memory_layout.proofs.RosterLaws.{Sized}

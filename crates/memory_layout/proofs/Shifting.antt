@@ -1,9 +1,5 @@
 -- Records moved as runs of words, and records stored in two pieces, one of which stands already.
-use Prim.Native.Nat.{ℕ, zero, suc, _+_, _*_, _≤_}
-use mathlib.Core.Path.{_≡_, refl, _∙_, sym, ap}
-use mathlib.Core.List.{List, [], _∷_, _++_}
-use native.Mathlib.Omega.{arith}
-use lib.ListN.{length}
+use Rattle.integers.specs.Basics.{ℕ, zero, suc, _+_, _*_, _≤_, _≡_, refl, _∙_, sym, ap, List, [], _∷_, _++_, length, arith}
 use Rattle.words.specs.Bytes.{Bytes}
 use Rattle.words.specs.Words.{wordsAt, putWords, partOf}
 use Rattle.words.proofs.Runs.{puts-more}

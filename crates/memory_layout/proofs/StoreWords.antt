@@ -1,13 +1,6 @@
 -- What the stores of single fields change: one word, or a line's figures and the word that says that it is set.
-use Prim.Native.Nat.{ℕ, zero, suc, _+_, _*_, _^_, _≤_, _<_}
-use mathlib.Core.Path.{_≡_, _∙_, ap}
-use mathlib.Core.Logic.{_≢_}
-use mathlib.Core.Bool.{Bool, true, false, cond}
-use mathlib.Core.List.{List, [], _∷_}
-use mathlib.Core.Option.{Option, none, some}
-use native.Mathlib.Omega.{arith}
-use lib.IntN.{ℤ}
-use lib.ListN.{length, getD}
+use Rattle.integers.specs.Basics.{ℕ, zero, suc, _+_, _*_, _^_, _≤_, _<_, _≡_, _∙_, ap, _≢_, Bool, true, false, cond, List, [], _∷_, Option}
+use Rattle.integers.specs.Basics.{none, some, ℤ, length, getD, arith}
 use Rattle.integers.specs.TwosComplement.{bitsOf}
 use Rattle.words.specs.Words.{AreWords, wordAt, putWord, putSigned, putWords}
 use Rattle.words.proofs.Memory.{word-put-same, word-put-other}

@@ -1,10 +1,5 @@
 -- The stores of blocks: each changes that block of the view as the book has it, and nothing else.
-use Prim.Native.Nat.{ℕ, _+_, _≤_, _<_}
-use mathlib.Core.Path.{_≡_, refl, _∙_}
-use mathlib.Core.Bool.{Bool, false, not}
-use mathlib.Core.List.{List}
-use native.Mathlib.Omega.{arith}
-use lib.IntN.{ℤ}
+use Rattle.integers.specs.Basics.{ℕ, _+_, _≤_, _<_, _≡_, refl, _∙_, Bool, false, not, List, ℤ, arith}
 use Rattle.words.specs.Words.{putWord}
 use Rattle.ledger.specs.Roster.{Numbered}
 use Rattle.limits.specs.Asked.{isZero}
@@ -17,8 +12,7 @@ use Rattle.memory_layout.specs.Layout.{accountBlockWord, instrumentBlock
 use Rattle.memory_layout.specs.View.{rosterOf, flag, blocksOf, bookOf, view}
 use Rattle.memory_layout.specs.FieldStores.{bit, blockAccount, blockInstrument, blockGroup}
 use Rattle.memory_layout.proofs.GuardedTables.{tableOf, table-at, rowOf, row-at, same-blocks, same-view}
-use Rattle.memory_layout.proofs.SameFields.{InBounds, groupBlockAt, blocksBy, same-flag}
-use Rattle.memory_layout.proofs.SameFields.{balances-same, marks-same}
+use Rattle.memory_layout.proofs.SameFields.{InBounds, groupBlockAt, blocksBy, same-flag, balances-same, marks-same}
 use Rattle.memory_layout.proofs.SameFields.{account-blocks-same, instrument-blocks-same, group-blocks-same, blocks-are}
 use Rattle.memory_layout.proofs.StoreWords.{Except, except-put, except-same, flag-bit}
 use Rattle.memory_layout.proofs.ViewStores.{one-market, one-roster, one-lines, one-orders}

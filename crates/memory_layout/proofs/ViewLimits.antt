@@ -1,11 +1,5 @@
 -- The stores of lines: each changes that line of the view as the book has it, and nothing else.
-use Prim.Native.Nat.{ℕ, _+_, _*_, _≤_, _<_}
-use mathlib.Core.Path.{_≡_}
-use mathlib.Core.Logic.{_≢_}
-use mathlib.Core.List.{List}
-use mathlib.Core.Option.{none}
-use native.Mathlib.Omega.{arith}
-use lib.IntN.{ℤ}
+use Rattle.integers.specs.Basics.{ℕ, _+_, _*_, _≤_, _<_, _≡_, _≢_, List, none, ℤ, arith}
 use Rattle.words.specs.Words.{wordAt}
 use Rattle.ledger.specs.Roster.{Numbered}
 use Rattle.book.specs.declared.Figures.{Figures}
@@ -17,8 +11,8 @@ use Rattle.memory_layout.specs.Layout.{ownSetRow, defaultSetRow, groupSe
 use Rattle.memory_layout.specs.View.{rosterOf, linesOf, view}
 use Rattle.memory_layout.specs.FieldStores.{storeOwn, storeDefault, storeOfGroup}
 use Rattle.memory_layout.proofs.GuardedTables.{table-at}
-use Rattle.memory_layout.proofs.SameFields.{Same, InBounds, ownAt, defaultAt, ofGroupAt}
-use Rattle.memory_layout.proofs.SameFields.{same-own, same-of-group, own-same, default-same, of-group-same}
+use Rattle.memory_layout.proofs.SameFields.{Same, InBounds, ownAt, defaultAt, ofGroupAt, same-own, same-of-group, own-same}
+use Rattle.memory_layout.proofs.SameFields.{default-same, of-group-same}
 use Rattle.memory_layout.proofs.StoreWords.{SmallLine, SmallGroupLine, line-elsewhere, line-back, group-line-elsewhere}
 use Rattle.memory_layout.proofs.StoreWords.{group-line-back}
 use Rattle.memory_layout.proofs.ViewLines.{lines-roster, lines-view, unchanged, owns, defaults, ofGroups, lines-at}

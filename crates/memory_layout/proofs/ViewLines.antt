@@ -1,10 +1,5 @@
 -- Memories that differ in words of the lines only, and the view's lines where those of one account are changed.
-use Prim.Native.Nat.{ℕ}
-use mathlib.Core.Path.{_≡_, _∙_, ap, fun-ext}
-use mathlib.Core.Bool.{cond}
-use mathlib.Core.List.{List}
-use mathlib.Core.Option.{Option, none}
-use native.Mathlib.Omega.{arith}
+use Rattle.integers.specs.Basics.{ℕ, _≡_, _∙_, ap, fun-ext, cond, List, Option, none, arith}
 use Rattle.ledger.proofs.Ways.{by-number}
 use Rattle.limits.specs.Lines.{Line, GroupLine}
 use Rattle.book.specs.declared.LimitLine.{LimitLine}
@@ -17,8 +12,8 @@ use Rattle.memory_layout.specs.View.{rosterOf, linesOf, bookOf, view}
 use Rattle.memory_layout.proofs.RosterLaws.{roster-same}
 use Rattle.memory_layout.proofs.MarketRead.{market-same}
 use Rattle.memory_layout.proofs.GuardedTables.{tableOf, same-lines, same-view}
-use Rattle.memory_layout.proofs.SameFields.{Same, InBounds, ownAt, defaultAt, ofGroupAt, linesBy}
-use Rattle.memory_layout.proofs.SameFields.{balances-same, blocks-same, marks-same, orders-same, lines-are}
+use Rattle.memory_layout.proofs.SameFields.{Same, InBounds, ownAt, defaultAt, ofGroupAt, linesBy, balances-same, blocks-same}
+use Rattle.memory_layout.proofs.SameFields.{marks-same, orders-same, lines-are}
 
 -- ---- a memory that differs in words of the lines only
 module _ (l m : List ℕ) (held : InBounds m) (before : Same 0 768 l m) (after : Same 4224 5248 l m) where

@@ -1,13 +1,7 @@
 -- Stored orders: the view's list is the book's, nothing else of the view changes, and the records can be worked on again. And an order
 -- found by its id, where the book finds it.
-use Prim.Native.Nat.{ℕ, zero, suc, _+_, _≤_, _<_}
-use mathlib.Core.Path.{_≡_, _∙_, sym, ap}
-use mathlib.Core.Bool.{Bool, true, false, cond}
-use mathlib.Core.List.{List, [], _∷_}
-use mathlib.Core.Option.{some}
-use native.Mathlib.Omega.{arith}
-use lib.Dec.{eqb}
-use lib.ListN.{length, set}
+use Rattle.integers.specs.Basics.{ℕ, zero, suc, _+_, _≤_, _<_, _≡_, _∙_, sym, ap, Bool, true, false, cond, List, [], _∷_, some, eqb, length}
+use Rattle.integers.specs.Basics.{set, arith}
 use Rattle.words.specs.Words.{wordAt}
 use Rattle.ledger.specs.declared.order.Order.{Order}
 use Rattle.ledger.specs.declared.find.Found.the-variants.{At}

@@ -1,12 +1,5 @@
 -- The stores of balances and marks: each changes that field of the view as the book has it, and nothing else.
-use Prim.Native.Nat.{ℕ, _+_, _≤_, _<_}
-use mathlib.Core.Path.{_≡_, _∙_, ap}
-use mathlib.Core.Bool.{true}
-use mathlib.Core.List.{List}
-use native.Mathlib.Omega.{arith}
-use lib.IntN.{ℤ, pos}
-use mir.Syntax.{w64}
-use mir.Val.{SFits}
+use Rattle.integers.specs.Basics.{ℕ, _+_, _≤_, _<_, _≡_, _∙_, ap, true, List, ℤ, pos, w64, SFits, arith}
 use Rattle.words.proofs.TwosComplement.{signed-put-same, signed-put-other}
 use Rattle.ledger.specs.Roster.{Numbered}
 use Rattle.book.specs.declared.Event.the-variants.{Balance}

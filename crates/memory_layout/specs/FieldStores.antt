@@ -1,14 +1,9 @@
 -- Single fields of a desk as they are stored: a balance, a mark, a block, a line.
-use Prim.Native.Nat.{ℕ, _+_, _*_}
-use mathlib.Core.Bool.{Bool, cond}
-use mathlib.Core.List.{List, [], _∷_}
-use mathlib.Core.Option.{Option, none, some}
-use lib.IntN.{ℤ}
+use Rattle.integers.specs.Basics.{ℕ, _+_, _*_, Bool, cond, List, [], _∷_, Option, none, some, ℤ}
 use Rattle.words.specs.Words.{putWord, putSigned, halves, putWords}
 use Rattle.limits.specs.Lines.{Line, GroupLine}
 use Rattle.memory_layout.specs.Layout.{markWord, accountBlockWord, instrumentBlockWord, groupBlockRow, balanceRow, ownSetRow}
-use Rattle.memory_layout.specs.Layout.{defaultSetRow}
-use Rattle.memory_layout.specs.Layout.{groupSetRow, ownRow, defaultRow, groupRow}
+use Rattle.memory_layout.specs.Layout.{defaultSetRow, groupSetRow, ownRow, defaultRow, groupRow}
 
 -- the word of a yes or no
 abbrev pub bit : Bool → ℕ

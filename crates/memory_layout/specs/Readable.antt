@@ -1,10 +1,5 @@
 -- What the readers of a desk's fields need of the memory, and what the bytes of a line say.
-use Prim.Native.Nat.{ℕ, _≤_}
-use mathlib.Core.Path.{_≡_}
-use mathlib.Core.Bool.{true}
-use mathlib.Core.List.{List}
-use mathlib.Core.Option.{Option, some}
-use lib.ListN.{length}
+use Rattle.integers.specs.Basics.{ℕ, _≤_, _≡_, true, List, Option, some, length}
 use Rattle.limits.specs.Lines.{Line, GroupLine, isSet}
 use Rattle.limits.specs.InBytes.{lineAt, groupLineAt}
 use Rattle.book.specs.declared.market.Market.{Market}

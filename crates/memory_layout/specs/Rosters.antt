@@ -1,10 +1,5 @@
 -- When a roster is acceptable (questions 2 to 4, its length aside), and when a memory is long enough.
-use Prim.Native.Nat.{ℕ, zero, suc}
-use mathlib.Core.Bool.{Bool, true, _&&_, cond}
-use mathlib.Core.List.{List}
-use lib.Dec.{leb}
-use lib.ListN.{length}
-use lib.IntN.{ℤ, pos, natAbs}
+use Rattle.integers.specs.Basics.{ℕ, zero, suc, Bool, true, _&&_, cond, List, ℤ, pos, natAbs, leb, length}
 use Rattle.ledger.specs.Roster.{Roster}
 use Rattle.book.specs.Decoding.{between}
 use Rattle.memory_layout.specs.Layout.{memoryBytes}

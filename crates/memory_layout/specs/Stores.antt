@@ -1,10 +1,5 @@
 -- Order records as they are stored: the one form of a memory whose open orders are a given list.
-use Prim.Native.Nat.{ℕ, zero, suc, _+_, _*_, _-_, _^_, _≤_, _<_}
-use mathlib.Core.Path.{_≡_}
-use mathlib.Core.Bool.{_&&_, cond}
-use mathlib.Core.List.{List, [], _∷_}
-use lib.Dec.{ltb, eqb}
-use lib.ListN.{length}
+use Rattle.integers.specs.Basics.{ℕ, zero, suc, _+_, _*_, _-_, _^_, _≤_, _<_, _≡_, _&&_, cond, List, [], _∷_, ltb, eqb, length}
 use Rattle.words.specs.Words.{wordAt, putWord, putWords, partOf}
 use Rattle.ledger.specs.declared.order.Order.{Order}
 use Rattle.ledger.specs.Records.{detail, Storable, orderAt, ordersFrom}

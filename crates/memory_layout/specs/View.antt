@@ -1,10 +1,5 @@
 -- What a memory means: the state that it holds, its market by the kind of desk.
-use Prim.Native.Nat.{ℕ, _+_, _*_}
-use mathlib.Core.Bool.{Bool, false, not, _&&_, cond}
-use mathlib.Core.List.{List}
-use mathlib.Core.Option.{none, some}
-use lib.Dec.{eqb}
-use lib.IntN.{ℤ, pos}
+use Rattle.integers.specs.Basics.{ℕ, _+_, _*_, Bool, false, not, _&&_, cond, List, none, some, ℤ, pos, eqb}
 use Rattle.words.specs.Words.{wordAt, signedAt, partOf}
 use Rattle.ledger.specs.Roster.{Roster}
 use Rattle.ledger.specs.declared.order.Order.{Order}
@@ -16,8 +11,8 @@ use Rattle.book.specs.Books.{Blocks, Book}
 use Rattle.book.specs.Market.{Market, marketOfKind}
 use Rattle.book.specs.States.{State}
 use Rattle.memory_layout.specs.Layout.{kindWord, rosterWord, countWord, firstWord, ordersWord, markWord, accountBlockWord}
-use Rattle.memory_layout.specs.Layout.{instrumentBlockWord}
-use Rattle.memory_layout.specs.Layout.{groupBlockRow, balanceRow, ownSetRow, defaultSetRow, groupSetRow, ownRow, defaultRow, groupRow}
+use Rattle.memory_layout.specs.Layout.{instrumentBlockWord, groupBlockRow, balanceRow, ownSetRow, defaultSetRow, groupSetRow, ownRow}
+use Rattle.memory_layout.specs.Layout.{defaultRow, groupRow}
 use Rattle.memory_layout.specs.Rosters.{listed}
 
 -- the market, by the kind word

@@ -1,12 +1,6 @@
 -- The answers of an opening, way by way, and the memory that each leaves.
-use Prim.Native.Nat.{ℕ, suc, _+_, _*_, _≤_, _<_}
-use mathlib.Core.Path.{_≡_, _∙_, sym, ap}
-use mathlib.Core.Bool.{true, false, cond}
-use mathlib.Core.List.{List}
-use native.Mathlib.Omega.{arith}
-use lib.IntN.{pos}
-use lib.ListN.{length}
-use borrow.Author.Tests.{le-leb, lt-leb, ne-eqb}
+use Rattle.integers.specs.Basics.{ℕ, suc, _+_, _*_, _≤_, _<_, _≡_, _∙_, sym, ap, true, false, cond, List, pos, length, arith, le-leb}
+use Rattle.integers.specs.Basics.{lt-leb, ne-eqb}
 use Rattle.words.specs.Fields.{u8At, u16At, i32At}
 use Rattle.words.specs.Words.{putWord, putSigned}
 use Rattle.limits.specs.Questions.{firstNo}

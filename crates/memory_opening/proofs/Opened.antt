@@ -1,12 +1,6 @@
 -- An accepted opening: the roster that it leaves is that of the bytes, the view has just begun, and nothing else changed.
-use Prim.Native.Nat.{ℕ, _+_, _*_, _≤_, _<_}
-use mathlib.Core.Path.{_≡_, refl, _∙_, sym, ap}
-use mathlib.Core.List.{List, [], _∷_}
-use native.Mathlib.Omega.{arith}
-use lib.Dec.{leb, eqb}
-use lib.IntN.{ℤ, natAbs}
-use lib.ListN.{length, getD}
-use borrow.Author.Tests.{leb-true, eqb-true}
+use Rattle.integers.specs.Basics.{ℕ, _+_, _*_, _≤_, _<_, _≡_, refl, _∙_, sym, ap, List, [], _∷_, ℤ, natAbs, leb, eqb, length, getD, arith}
+use Rattle.integers.specs.Basics.{leb-true, eqb-true}
 use Rattle.integers.specs.Magnitude.{sized}
 use Rattle.integers.specs.TwosComplement.{bitsOf}
 use Rattle.words.specs.Bytes.{Bytes}

@@ -1,13 +1,6 @@
 -- The words of a written roster, and what a written roster leaves alone.
-use Prim.Native.Nat.{ℕ, zero, suc, _+_, _*_, _^_, _≤_, _<_}
-use mathlib.Core.Path.{_≡_, _∙_, ap}
-use mathlib.Core.Logic.{_≢_}
-use mathlib.Core.List.{List, [], _∷_}
-use native.Mathlib.Omega.{arith}
-use lib.IntN.{ℤ}
-use lib.ListN.{length, getD}
-use mir.Syntax.{w64}
-use mir.Val.{SFits}
+use Rattle.integers.specs.Basics.{ℕ, zero, suc, _+_, _*_, _^_, _≤_, _<_, _≡_, _∙_, ap, _≢_, List, [], _∷_, ℤ, length, getD, w64, SFits}
+use Rattle.integers.specs.Basics.{arith}
 use Rattle.integers.specs.TwosComplement.{bitsOf}
 use Rattle.words.specs.Fields.{u8At, u16At, i32At}
 use Rattle.words.specs.Words.{wordAt, signedAt, putWord, putSigned, putWords}

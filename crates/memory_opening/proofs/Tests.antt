@@ -1,18 +1,7 @@
 -- What the tests of a roster say.
-use Prim.Native.Nat.{ℕ, suc, _+_, _*_, _≤_, _<_}
-use mathlib.Core.Path.{_≡_, refl, _∙_, sym, ap}
-use mathlib.Core.Bool.{Bool, true, false, _&&_, cond}
-use mathlib.Core.List.{List}
-use native.Mathlib.Omega.{arith}
-use lib.Dec.{leb, eqb}
-use lib.IntN.{ℤ, pos, negsuc, natAbs}
-use lib.Signed.{_≤ℤ_, _<ℤ_, leZ}
-use lib.ListN.{length}
-use borrow.Author.Tests.{le-leb, lt-leb, eqb-true, ne-eqb}
-use mir.Syntax.{w32, w64}
-use mir.Val.{SFits, toZ, ofZ}
-use mir.ValLaws.{toZ-ofZ}
-use Rattle.integers.specs.Parts.{signed, magnitude-parts}
+use Rattle.integers.specs.Basics.{ℕ, suc, _+_, _*_, _≤_, _<_, _≡_, refl, _∙_, sym, ap, Bool, true, false, _&&_, cond, List, ℤ, pos, negsuc}
+use Rattle.integers.specs.Basics.{natAbs, _≤ℤ_, _<ℤ_, leZ, leb, eqb, length, w32, w64, SFits, toZ, ofZ, toZ-ofZ, arith, eqb-true, le-leb}
+use Rattle.integers.specs.Basics.{lt-leb, ne-eqb, signed, magnitude-parts}
 use Rattle.words.specs.Fields.{u8At, u16At, i32At}
 use Rattle.ledger.specs.Roster.{Numbered}
 use Rattle.limits.proofs.Answers.{both-true}

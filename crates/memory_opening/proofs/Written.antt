@@ -1,12 +1,6 @@
 -- Runs of stores: what is cleared, and what is written number by number.
-use Prim.Native.Nat.{ℕ, zero, suc, _+_, _*_, _≤_, _<_}
-use mathlib.Core.Path.{_≡_, refl, _∙_, sym, ap}
-use mathlib.Core.Logic.{_≢_}
-use mathlib.Core.List.{List}
-use native.Mathlib.Decide.{ℕ-discrete}
+use Rattle.integers.specs.Basics.{ℕ, zero, suc, _+_, _*_, _≤_, _<_, _≡_, refl, _∙_, sym, ap, _≢_, List, length, getD, ℕ-discrete, arith}
 use native.Mathlib.Numerals.{add-one}
-use native.Mathlib.Omega.{arith}
-use lib.ListN.{length, getD}
 use Rattle.words.specs.Bytes.{Bytes}
 use Rattle.words.specs.Words.{wordAt, putWord}
 use Rattle.words.proofs.Memory.{length-put, bytes-put, byte-put-other, word-put-same, word-put-other}

@@ -1,8 +1,5 @@
 -- The memory that an accepted opening leaves: every word 0 but the kind of desk and the roster.
-use Prim.Native.Nat.{ℕ, zero, suc, _+_, _*_}
-use mathlib.Core.Bool.{cond}
-use mathlib.Core.List.{List, [], _∷_}
-use lib.Dec.{eqb}
+use Rattle.integers.specs.Basics.{ℕ, zero, suc, _+_, _*_, cond, List, [], _∷_, eqb}
 use Rattle.words.specs.Words.{putWord, putSigned, putWords}
 use Rattle.ledger.specs.Roster.{Roster}
 use Rattle.memory_layout.specs.Layout.{memoryWords, kindWord, rosterWord}

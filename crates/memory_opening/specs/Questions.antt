@@ -1,10 +1,5 @@
 -- Document 01, "Roster": what its bytes say, and the questions of an opening, 1 to 4.
-use Prim.Native.Nat.{ℕ, _+_, _*_}
-use mathlib.Core.Bool.{Bool, _&&_}
-use mathlib.Core.List.{List, [], _∷_}
-use lib.Dec.{leb, eqb}
-use lib.ListN.{length}
-use lib.IntN.{natAbs}
+use Rattle.integers.specs.Basics.{ℕ, _+_, _*_, Bool, _&&_, List, [], _∷_, natAbs, leb, eqb, length}
 use Rattle.words.specs.Fields.{u8At, u16At, i32At}
 use Rattle.ledger.specs.Roster.{Roster}
 use Rattle.limits.specs.Questions.{Question, firstNo}

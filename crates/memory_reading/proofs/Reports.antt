@@ -1,12 +1,5 @@
 -- What a reader answers and reports.
-use Prim.Native.Nat.{ℕ, _≤_}
-use mathlib.Core.Path.{_≡_, refl, sym, _∙_}
-use mathlib.Core.Bool.{Bool, true, false}
-use mathlib.Core.List.{List, [], _∷_}
-use native.Mathlib.Omega.{arith}
-use lib.IntN.{ℤ}
-use lib.ListN.{length}
-use borrow.Author.Tests.{eq-eqb, ne-eqb}
+use Rattle.integers.specs.Basics.{ℕ, _≤_, _≡_, refl, _∙_, sym, Bool, true, false, List, [], _∷_, ℤ, length, arith, eq-eqb, ne-eqb}
 use Rattle.words.specs.Words.{wordAt}
 use Rattle.positions.specs.declared.InstrumentPosition.{InstrumentPosition}
 use Rattle.positions.specs.declared.GroupPosition.{GroupPosition}
@@ -31,8 +24,8 @@ use Rattle.memory_soundness.proofs.SoundDesk.{sound-out}
 use Rattle.memory_soundness.proofs.Bounded.{sound-readable}
 use Rattle.memory_soundness.proofs.Agreement.{words-potential}
 use Rattle.memory_reading.specs.declared.Item.{Item}
-use Rattle.memory_reading.specs.Reading.{Read, itemsOf, numberIn, itemAnswer}
-use Rattle.memory_reading.specs.Reading.{readingQuestions, positionIn, instrumentReport, groupReport, reported}
+use Rattle.memory_reading.specs.Reading.{Read, itemsOf, numberIn, itemAnswer, readingQuestions, positionIn, instrumentReport}
+use Rattle.memory_reading.specs.Reading.{groupReport, reported}
 
 -- ---- the answers
 -- `items` and `n` are the roster's number of instruments or groups and the one asked for

@@ -1,9 +1,5 @@
 -- Reading positions: S, PCI and PVI of an account and instrument, or PCC and PVC of an account and group.
-use Prim.Native.Nat.{ℕ}
-use mathlib.Core.Bool.{cond}
-use mathlib.Core.List.{List, [], _∷_}
-use lib.Dec.{eqb}
-use lib.IntN.{ℤ}
+use Rattle.integers.specs.Basics.{ℕ, cond, List, [], _∷_, ℤ, eqb}
 use Rattle.ledger.specs.Positions.{Scope, Way, long, short, instrument, group, potential}
 use Rattle.ledger.specs.Roster.{Numbered}
 use Rattle.limits.specs.Questions.{Question, firstNo}

@@ -1,8 +1,6 @@
 -- At a sound desk the roster and an account's balances, as the view shows them and as their words say them, agree on the
 -- instruments of the roster, and so positions by them do.
-use Prim.Native.Nat.{ℕ}
-use mathlib.Core.Path.{_≡_, _∙_, sym, ap}
-use mathlib.Core.List.{List}
+use Rattle.integers.specs.Basics.{ℕ, _≡_, _∙_, sym, ap, List}
 use Rattle.ledger.specs.declared.order.Order.{Order}
 use Rattle.ledger.specs.Roster.{Numbered, groupOfInstrument}
 use Rattle.ledger.specs.Positions.{Way, Scope, potential}

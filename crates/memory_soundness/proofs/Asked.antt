@@ -1,13 +1,6 @@
 -- Tests as the code asks them, and the facts that they stand for.
-use Prim.Native.Nat.{ℕ, _≤_, _<_}
-use mathlib.Core.Path.{_≡_, refl, sym, _∙_}
-use mathlib.Core.Bool.{Bool, true, false, not}
-use native.Mathlib.Omega.{arith}
-use lib.Dec.{leb}
-use lib.IntN.{ℤ, pos, negsuc, natAbs}
-use lib.Signed.{leZ, ltZ}
-use borrow.Author.Tests.{not-true, not-false, le-leb, lt-leb}
-use Rattle.integers.specs.Parts.{signed, magnitude-parts}
+use Rattle.integers.specs.Basics.{ℕ, _≤_, _<_, _≡_, refl, _∙_, sym, Bool, true, false, not, ℤ, pos, negsuc, natAbs, leZ, ltZ, leb, arith}
+use Rattle.integers.specs.Basics.{not-true, not-false, le-leb, lt-leb, signed, magnitude-parts}
 
 -- the answer t to a test u, asked by `!`
 pub answered-no : (t u : Bool) → t ≡ u → not t ≡ true → u ≡ false

@@ -1,11 +1,6 @@
 -- What a memory that holds a sound desk gives to the functions over its parts: the records are there, and no number is too large.
-use Prim.Native.Nat.{ℕ, _*_, _≤_, _<_}
-use mathlib.Core.Path.{ap}
-use mathlib.Core.List.{List}
-use native.Mathlib.Omega.{arith}
-use lib.IntN.{negℤ, natAbs}
-use lib.ListN.{length}
-use Rattle.integers.specs.Parts.{signed, sum-parts, negation-parts, magnitude-parts}
+use Rattle.integers.specs.Basics.{ℕ, _*_, _≤_, _<_, ap, List, negℤ, natAbs, length, arith, signed, magnitude-parts, negation-parts}
+use Rattle.integers.specs.Basics.{sum-parts}
 use Rattle.words.specs.Words.{wordAt}
 use Rattle.ledger.specs.declared.order.Order.{Order}
 use Rattle.ledger.specs.declared.order.Side.{Side}

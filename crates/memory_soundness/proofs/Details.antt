@@ -1,8 +1,5 @@
 -- What the detail of an order tells of its cell, of its account and instrument, and of its total.
-use Prim.Native.Nat.{ℕ, _+_, _≤_}
-use mathlib.Core.Path.{_≡_, ap, _∙_}
-use native.Mathlib.Omega.{arith}
-use mathlib.Core.List.{List}
+use Rattle.integers.specs.Basics.{ℕ, _+_, _≤_, _≡_, _∙_, ap, List, arith}
 use Rattle.ledger.specs.declared.order.Order.{Order}
 use Rattle.ledger.specs.declared.order.Side.{Side}
 use Rattle.ledger.specs.declared.order.Side.the-variants.{Buy, Sell}

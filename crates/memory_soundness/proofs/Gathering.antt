@@ -1,9 +1,6 @@
 -- The cells in which B and V of all accounts are gathered, order by order.
-use Prim.Native.Nat.{ℕ, _+_, _*_, _^_, _≤_, _<_}
-use mathlib.Core.Path.{_≡_, _∙_, sym}
-use mathlib.Core.List.{List}
-use native.Mathlib.Omega.{arith}
-use lib.ListN.{length, getD, replicate, length-replicate}
+use Rattle.integers.specs.Basics.{ℕ, _+_, _*_, _^_, _≤_, _<_, _≡_, _∙_, sym, List, length, getD, replicate, arith}
+use lib.ListN.{length-replicate}
 use Rattle.ledger.specs.declared.order.Order.{Order}
 use Rattle.ledger.specs.declared.order.Side.{Side}
 use Rattle.ledger.specs.Orders.{remaining}
@@ -12,8 +9,8 @@ use Rattle.ledger.specs.Records.{detailPacked, detailRemaining, orderOf, idAt, 
 use Rattle.ledger.proofs.Packing.{word-storable}
 use Rattle.ledger.proofs.Details.{remaining-of, order-of}
 use Rattle.positions.specs.Gathered.{cell, added}
-use Rattle.positions.proofs.Gathering.{Rows, ownCell, adds-own, cell-inside, empty-at, added-length, added-small}
-use Rattle.positions.proofs.Gathering.{Passed as PassedRows, passed-none as rows-none, passed-all as rows-all, passed-more as rows-more}
+use Rattle.positions.proofs.Gathering.{Rows, ownCell, adds-own, cell-inside, empty-at, added-length, added-small, Passed as PassedRows}
+use Rattle.positions.proofs.Gathering.{passed-none as rows-none, passed-all as rows-all, passed-more as rows-more}
 use Rattle.memory_soundness.specs.Cells.{row, Empty, AllSums}
 use Rattle.memory_soundness.proofs.Details.{cell-detail}
 

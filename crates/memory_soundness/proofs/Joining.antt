@@ -1,11 +1,8 @@
 -- A number that has the bits of others is at least each of them.
-use Prim.Native.Nat.{ℕ, _+_, _*_, _^_, _≤_, _<_}
-use mathlib.Core.Path.{_≡_}
-use native.Mathlib.Decide.{ℕ-discrete, decLe}
-use native.Mathlib.Omega.{arith}
-use lib.IntN.{pos, natAbs, _-ℤ_}
+use Rattle.integers.specs.Basics.{ℕ, _+_, _*_, _^_, _≤_, _<_, _≡_, pos, natAbs, _-ℤ_, ℕ-discrete, arith, signed, magnitude-parts}
+use Rattle.integers.specs.Basics.{difference-parts}
+use native.Mathlib.Decide.{decLe}
 use lib.Bits.{bitOr}
-use Rattle.integers.specs.Parts.{signed, difference-parts, magnitude-parts}
 use Rattle.integers.specs.TwosComplement.{signedOf, signed-small, signed-large}
 use Rattle.words.proofs.Bits.{or-left, or-right}
 use Rattle.ledger.specs.Roster.{Numbered}

@@ -1,12 +1,5 @@
 -- The lines' condition as facts, and back: the figures of every line on the roster are in range, and so those that are set.
-use Prim.Native.Nat.{ℕ, _+_, _<_}
-use mathlib.Core.Path.{_≡_, refl}
-use mathlib.Core.Bool.{Bool, true, false, _&&_, cond}
-use mathlib.Core.List.{List}
-use mathlib.Core.Option.{none, some}
-use native.Mathlib.Omega.{arith}
-use lib.Dec.{leb}
-use borrow.Author.Tests.{leb-true, le-leb}
+use Rattle.integers.specs.Basics.{ℕ, _+_, _<_, _≡_, refl, Bool, true, false, _&&_, cond, List, none, some, leb, arith, leb-true, le-leb}
 use Rattle.ledger.specs.Roster.{Numbered}
 use Rattle.limits.specs.Lines.{Line, GroupLine}
 use Rattle.limits.specs.InBytes.{groupLineAt}
@@ -60,10 +53,13 @@ unfolding accountLinesSound
 row-within m readable a on fits =
     let r = rosterOf m in
     rw (
-      every-in (λ i. lineInRange (marketOf m .largest) (ownFigures m a i)) (r .instruments) (λ i h. line-in _ _ (own-fits m readable a on _ fits i h)),
-      every-in (λ c. lineInRange (marketOf m .largest) (defaultFigures m a c)) (r .contracts) (λ c h. line-in _ _ (default-fits m readable a on _ fits c h)),
+      every-in (λ i. lineInRange (marketOf m .largest) (ownFigures m a i)) (r .instruments)
+          (λ i h. line-in _ _ (own-fits m readable a on _ fits i h)),
+      every-in (λ c. lineInRange (marketOf m .largest) (defaultFigures m a c)) (r .contracts)
+          (λ c h. line-in _ _ (default-fits m readable a on _ fits c h)),
     )
-    (every-in (λ g. groupLineInRange (marketOf m .largest) (groupFigures m a g)) (r .groups) (λ g h. group-line-in _ _ (group-fits m readable a on _ fits g h)))
+    (every-in (λ g. groupLineInRange (marketOf m .largest) (groupFigures m a g)) (r .groups)
+    (λ g h. group-line-in _ _ (group-fits m readable a on _ fits g h)))
 
 -- ---- all lines of the roster
 module _ (m : List ℕ) where

@@ -1,13 +1,7 @@
 -- The orders' conditions as facts of the list of open orders, and back.
-use Prim.Native.Nat.{ℕ, zero, suc, _+_, _≤_, _<_}
-use mathlib.Core.Path.{_≡_, refl}
-use mathlib.Core.Logic.{⊎-elim}
-use mathlib.Core.Bool.{Bool, true}
-use mathlib.Core.List.{List, [], _∷_, List·Memᴰ, List·Memᴰ·head, List·Memᴰ·tail, List·Memᴰ·not-nil, List·Memᴰ·cases-cons}
-use native.Mathlib.Decide.{ℕ-discrete}
-use native.Mathlib.Omega.{arith}
-use lib.Dec.{ltb}
-use borrow.Author.Tests.{ltb-true, lt-ltb}
+use Rattle.integers.specs.Basics.{ℕ, zero, suc, _+_, _≤_, _<_, _≡_, refl, ⊎-elim, Bool, true, List, [], _∷_, List·Memᴰ, List·Memᴰ·head}
+use Rattle.integers.specs.Basics.{List·Memᴰ·tail, List·Memᴰ·not-nil, ltb, ℕ-discrete, arith, ltb-true, lt-ltb}
+use mathlib.Core.List.{List·Memᴰ·cases-cons}
 use Rattle.ledger.specs.declared.order.Order.{Order}
 use Rattle.ledger.specs.Roster.{Roster}
 use Rattle.ledger.specs.Records.{orderAt, ordersFrom}

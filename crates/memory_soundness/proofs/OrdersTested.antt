@@ -1,10 +1,5 @@
 -- The orders' conditions by what the passes over them tell.
-use Prim.Native.Nat.{ℕ, _≤_, _<_}
-use mathlib.Core.Path.{_≡_, ap}
-use mathlib.Core.Bool.{Bool, true, false, _&&_}
-use mathlib.Core.List.{List}
-use native.Mathlib.Omega.{arith}
-use lib.IntN.{natAbs}
+use Rattle.integers.specs.Basics.{ℕ, _≤_, _<_, _≡_, ap, Bool, true, false, _&&_, List, natAbs, arith}
 use Rattle.words.specs.Words.{wordAt}
 use Rattle.ledger.specs.declared.order.Side.{Side}
 use Rattle.ledger.specs.Derivatives.{one}

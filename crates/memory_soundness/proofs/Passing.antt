@@ -1,12 +1,6 @@
 -- The pass over the records: ids that ascend, something that remains of each order, and a detail with the bits of all.
-use Prim.Native.Nat.{ℕ, suc, _+_, _-_, _≤_, _<_}
-use mathlib.Core.Path.{_≡_, refl, _∙_, sym, ap}
-use mathlib.Core.Logic.{_≢_}
-use mathlib.Core.Bool.{Bool, true, false, true≢false, false≢true, _&&_}
-use mathlib.Core.List.{List}
-use native.Mathlib.Omega.{arith}
-use lib.Dec.{ltb}
-use borrow.Author.Tests.{lt-ltb, le-ltb}
+use Rattle.integers.specs.Basics.{ℕ, suc, _+_, _-_, _≤_, _<_, _≡_, refl, _∙_, sym, ap, _≢_, Bool, true, false, _&&_, true≢false, false≢true}
+use Rattle.integers.specs.Basics.{List, ltb, arith, lt-ltb, le-ltb}
 use Rattle.words.specs.Words.{wordAt}
 use Rattle.ledger.specs.declared.order.Order.{Order}
 use Rattle.ledger.specs.Orders.{remaining}

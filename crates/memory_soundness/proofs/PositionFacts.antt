@@ -1,11 +1,5 @@
 -- The positions' condition as facts of every account and instrument, on the roster or not, and back.
-use Prim.Native.Nat.{ℕ}
-use mathlib.Core.Path.{_≡_, refl, sym, _∙_}
-use mathlib.Core.Bool.{Bool, true, false, _&&_, true≢false}
-use mathlib.Core.List.{List, List·Memᴰ}
-use lib.IntN.{ℤ, pos}
-use lib.Signed.{_≤ℤ_}
-use Rattle.integers.specs.Parts.{signed}
+use Rattle.integers.specs.Basics.{ℕ, _≡_, refl, _∙_, sym, Bool, true, false, _&&_, true≢false, List, List·Memᴰ, ℤ, pos, _≤ℤ_, signed}
 use Rattle.ledger.specs.declared.order.Order.{Order}
 use Rattle.ledger.specs.Roster.{Numbered}
 use Rattle.ledger.specs.Positions.{Way, long, short, toward, sideTo, ofInstrument}
@@ -36,7 +30,8 @@ module _ (m : List ℕ) where
       (both-true (positionSound m a i long) (positionSound m a i short)
       (every-out (instrumentSound m a) (rosterOf m .instruments) (every-out (accountSound m) (rosterOf m .accounts) e a h) i l))
     where
-      by : (w : Way) → (positionSound m a i long ≡ true) × (positionSound m a i short ≡ true) → positionOf m a i w ≤ℤ pos (marketOf m .largest)
+      by : (w : Way) → (positionSound m a i long ≡ true) × (positionSound m a i short ≡ true) → positionOf m a i w ≤ℤ pos
+          (marketOf m .largest)
       by long both = let h = both .0 in omega signed
       by short both = let h = both .1 in omega signed
 

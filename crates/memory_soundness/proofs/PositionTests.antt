@@ -1,13 +1,6 @@
 -- S + B and −S + V of an account and instrument by the gathered cells, as the code asks them of a balance that may be any word.
-use Prim.Native.Nat.{ℕ, _+_, _≤_, _<_}
-use mathlib.Core.Path.{_≡_, ap}
-use mathlib.Core.Bool.{true, _&&_}
-use mathlib.Core.List.{List}
-use native.Mathlib.Omega.{arith}
-use lib.ListN.{getD}
-use lib.IntN.{ℤ, pos, negℤ, natAbs, _+ℤ_, _-ℤ_}
-use lib.Signed.{leZ}
-use Rattle.integers.specs.Parts.{signed, sum-parts, difference-parts, negation-parts, magnitude-parts}
+use Rattle.integers.specs.Basics.{ℕ, _+_, _≤_, _<_, _≡_, ap, true, _&&_, List, ℤ, pos, negℤ, natAbs, _+ℤ_, _-ℤ_, leZ, getD, arith, signed}
+use Rattle.integers.specs.Basics.{magnitude-parts, negation-parts, sum-parts, difference-parts}
 use Rattle.ledger.specs.declared.order.Side.{Side}
 use Rattle.ledger.specs.declared.order.Side.the-variants.{Buy, Sell}
 use Rattle.ledger.specs.Roster.{Numbered}
@@ -92,7 +85,16 @@ module _ (m cells : List ℕ) (a i : ℕ) (readable : Readable m) (gathered : Sm
   instrument-tested s b v read buys sells =
       let x = getD cells (row a + cell Buy i) 0 in
       let y = getD cells (row a + cell Sell i) 0 in
-      rw (position-cell long, position-cell short, ← read, buys, sells, ← long-same (marketOf m .largest) s x, ← short-same (marketOf m .largest) s y)
+      rw (
+        position-cell long,
+        position-cell short,
+        ← read,
+        buys,
+        sells,
+        ← long-same (marketOf m .largest) s x,
+        ← short-same
+            (marketOf m .largest) s y,
+      )
 
 -- B and V are small where the cells are
 pub cells-few : (m cells : List ℕ) (a : ℕ) → SmallSums cells (openOrders m) → Numbered 16 a → FewOpen m a

@@ -1,11 +1,5 @@
 -- Question 5 and its parts: the conditions one by one, and all of them together.
-use Prim.Native.Nat.{ℕ, _≤_}
-use mathlib.Core.Path.{_≡_}
-use mathlib.Core.Bool.{true, _&&_}
-use mathlib.Core.List.{List}
-use lib.Dec.{leb, eqb}
-use lib.ListN.{length}
-use borrow.Author.Tests.{leb-true, le-leb, eqb-true, eq-eqb}
+use Rattle.integers.specs.Basics.{ℕ, _≤_, _≡_, true, _&&_, List, leb, eqb, length, leb-true, eqb-true, le-leb, eq-eqb}
 use Rattle.words.specs.Words.{wordAt}
 use Rattle.limits.proofs.Answers.{both-true}
 use Rattle.memory_layout.specs.Layout.{kindWord, countWord}

@@ -1,11 +1,5 @@
 -- The roster's condition as facts, and back.
-use Prim.Native.Nat.{ℕ}
-use mathlib.Core.Path.{_≡_}
-use mathlib.Core.Bool.{true, _&&_}
-use mathlib.Core.List.{List}
-use lib.Dec.{leb}
-use lib.IntN.{natAbs}
-use borrow.Author.Tests.{leb-true, le-leb}
+use Rattle.integers.specs.Basics.{ℕ, _≡_, true, _&&_, List, natAbs, leb, leb-true, le-leb}
 use Rattle.limits.proofs.Answers.{both-true}
 use Rattle.book.specs.Decoding.{between}
 use Rattle.book.specs.Sound.{RosterFits}

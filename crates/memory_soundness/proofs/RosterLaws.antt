@@ -1,11 +1,5 @@
 -- The roster that a memory holds: what acceptance asks of the part with it, and what its sizes say.
-use Prim.Native.Nat.{ℕ, _≤_}
-use mathlib.Core.Path.{_≡_}
-use mathlib.Core.Bool.{true, _&&_}
-use mathlib.Core.List.{List}
-use lib.Dec.{leb}
-use lib.IntN.{natAbs}
-use lib.ListN.{length}
+use Rattle.integers.specs.Basics.{ℕ, _≤_, _≡_, true, _&&_, List, natAbs, leb, length}
 use Rattle.ledger.specs.Roster.{Numbered}
 use Rattle.ledger.specs.Records.{rosterIn}
 use Rattle.limits.proofs.Answers.{both-true}

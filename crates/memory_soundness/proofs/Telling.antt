@@ -1,12 +1,6 @@
 -- Answers that tell exactly whether something holds, and what holds of each open order.
-use Prim.Native.Nat.{ℕ, _+_, _≤_, _<_}
-use mathlib.Core.Path.{_≡_, refl, sym, ap, _∙_}
-use mathlib.Core.Bool.{Bool, true, false, not, false≢true}
-use mathlib.Core.List.{List}
-use native.Mathlib.Decide.{ℕ-discrete}
-use native.Mathlib.Omega.{arith}
-use lib.ListN.{length}
-use borrow.Author.Tests.{not-true, not-false}
+use Rattle.integers.specs.Basics.{ℕ, _+_, _≤_, _<_, _≡_, refl, _∙_, sym, ap, Bool, true, false, not, false≢true, List, length, ℕ-discrete}
+use Rattle.integers.specs.Basics.{arith, not-true, not-false}
 use Rattle.words.specs.Words.{wordAt}
 use Rattle.ledger.specs.declared.order.Order.{Order}
 use Rattle.ledger.specs.Records.{orderAt}

@@ -1,11 +1,5 @@
 -- Question 5, as the code asks it.
-use Prim.Native.Nat.{ℕ, _≤_, _<_}
-use mathlib.Core.Path.{_≡_, refl}
-use mathlib.Core.Logic.{_≢_}
-use mathlib.Core.Bool.{Bool, true, false, _&&_}
-use mathlib.Core.List.{List}
-use lib.Dec.{leb, eqb}
-use borrow.Author.Tests.{le-leb, lt-leb, eq-eqb, ne-eqb}
+use Rattle.integers.specs.Basics.{ℕ, _≤_, _<_, _≡_, refl, _≢_, Bool, true, false, _&&_, List, leb, eqb, le-leb, lt-leb, eq-eqb, ne-eqb}
 use Rattle.words.specs.Words.{wordAt}
 use Rattle.limits.proofs.Answers.{both-true}
 use Rattle.memory_layout.specs.Layout.{kindWord, countWord}

@@ -1,10 +1,5 @@
 -- What remains of all open orders, gathered into 1,089 cells, a row of 64 for each account; and balances that need none of it.
-use Prim.Native.Nat.{ℕ, _+_, _*_, _%_, _^_, _≤_, _<_}
-use mathlib.Core.Path.{_≡_}
-use mathlib.Core.Logic.{_⊎_}
-use mathlib.Core.List.{List}
-use lib.IntN.{natAbs}
-use lib.ListN.{length, getD}
+use Rattle.integers.specs.Basics.{ℕ, _+_, _*_, _%_, _^_, _≤_, _<_, _≡_, _⊎_, List, natAbs, length, getD}
 use Rattle.ledger.specs.declared.order.Order.{Order}
 use Rattle.ledger.specs.declared.order.Side.{Side}
 use Rattle.ledger.specs.Records.{balancesIn}

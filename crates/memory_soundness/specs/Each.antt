@@ -1,8 +1,5 @@
 -- What the passes over a memory's open orders answer.
-use Prim.Native.Nat.{ℕ, _-_, _≤_, _<_}
-use mathlib.Core.Path.{_≡_}
-use mathlib.Core.Bool.{Bool, true}
-use mathlib.Core.List.{List}
+use Rattle.integers.specs.Basics.{ℕ, _-_, _≤_, _<_, _≡_, Bool, true, List}
 use Rattle.words.specs.Words.{wordAt}
 use Rattle.ledger.specs.declared.order.Order.{Order}
 use Rattle.ledger.specs.Orders.{remaining}

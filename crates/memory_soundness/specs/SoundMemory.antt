@@ -1,9 +1,6 @@
 -- What a memory that passes question 5 is, as facts: it shows a sound book, its records stand inside their region, and the figures of lines
 -- that are not set are in range too.
-use Prim.Native.Nat.{ℕ, _≤_}
-use mathlib.Core.Path.{_≡_}
-use mathlib.Core.List.{List}
-use lib.ListN.{length}
+use Rattle.integers.specs.Basics.{ℕ, _≤_, _≡_, List, length}
 use Rattle.words.specs.Words.{wordAt}
 use Rattle.ledger.specs.Roster.{Numbered}
 use Rattle.book.specs.Sound.{LineFits, GroupLineFits, Sound}

@@ -8,12 +8,7 @@
 --   "S + B and −S + V are at most 1,000,000,000"                         positionsSound
 --   "every account with an open order is marked as trading"              marked
 -- The three that are asked of each order by itself stand together in `orderSound`.
-use Prim.Native.Nat.{ℕ, zero, suc, _+_}
-use mathlib.Core.Bool.{Bool, true, _&&_}
-use mathlib.Core.List.{List, [], _∷_}
-use lib.Dec.{leb, ltb, eqb}
-use lib.IntN.{pos}
-use lib.Signed.{leZ}
+use Rattle.integers.specs.Basics.{ℕ, zero, suc, _+_, Bool, true, _&&_, List, [], _∷_, pos, leZ, leb, ltb, eqb}
 use Rattle.words.specs.Words.{wordAt}
 use Rattle.ledger.specs.declared.order.Order.{Order}
 use Rattle.ledger.specs.Orders.{remaining}

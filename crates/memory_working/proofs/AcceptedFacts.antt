@@ -1,15 +1,5 @@
 -- What an acceptance tells of the event, kind by kind: its numbers are on the roster, its figures in range, its order open.
-use Prim.Native.Nat.{ℕ, _≤_, _<_}
-use mathlib.Core.Path.{_≡_}
-use mathlib.Core.Bool.{true}
-use mathlib.Core.List.{List}
-use mathlib.Core.Option.{some}
-use native.Mathlib.Omega.{arith}
-use lib.IntN.{ℤ, pos, negℤ, natAbs}
-use lib.ListN.{length}
-use lib.Signed.{_≤ℤ_}
-use borrow.Author.Tests.{leb-true, ltb-true}
-use Rattle.integers.specs.Parts.{signed}
+use Rattle.integers.specs.Basics.{ℕ, _≤_, _<_, _≡_, true, List, some, ℤ, pos, negℤ, natAbs, _≤ℤ_, length, arith, leb-true, ltb-true, signed}
 use Rattle.integers.specs.Magnitude.{within-in}
 use Rattle.words.specs.Words.{wordAt}
 use Rattle.ledger.specs.declared.order.Order.{Order}

@@ -1,13 +1,5 @@
 -- BLOCK: whether the figure blocks, as the code tests its bits, and what is blocked, by another name.
-use Prim.Native.Nat.{ℕ}
-use mathlib.Core.Path.{_≡_, _∙_, sym, ap}
-use mathlib.Core.Bool.{not}
-use mathlib.Core.List.{List}
-use lib.Dec.{eqb}
-use lib.IntN.{ℤ, pos}
-use mir.Syntax.{w64}
-use mir.Val.{SFits, toZ, ofZ}
-use mir.ValLaws.{toZ-ofZ}
+use Rattle.integers.specs.Basics.{ℕ, _≡_, _∙_, sym, ap, not, List, ℤ, pos, eqb, w64, SFits, toZ, ofZ, toZ-ofZ}
 use Rattle.ledger.proofs.Ways.{by-number}
 use Rattle.limits.specs.Asked.{isZero}
 use Rattle.limits.proofs.Asking.{isZero-false}

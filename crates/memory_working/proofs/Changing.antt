@@ -1,13 +1,6 @@
 -- The order that an accepted event names, found at its place: what the code stores there is what the event makes of it.
-use Prim.Native.Nat.{ℕ, _-_, _≤_, _<_}
-use mathlib.Core.Path.{_≡_, refl, _∙_, sym, ap}
-use mathlib.Core.Logic.{_≢_}
-use mathlib.Core.List.{List, [], _∷_}
-use mathlib.Core.Option.{some}
-use native.Mathlib.Omega.{arith}
-use lib.IntN.{ℤ, pos, natAbs}
-use lib.ListN.{set}
-use Rattle.integers.specs.Parts.{signed, magnitude-parts}
+use Rattle.integers.specs.Basics.{ℕ, _-_, _≤_, _<_, _≡_, refl, _∙_, sym, ap, _≢_, List, [], _∷_, some, ℤ, pos, natAbs, set, arith, signed}
+use Rattle.integers.specs.Basics.{magnitude-parts}
 use Rattle.words.specs.Words.{wordAt}
 use Rattle.ledger.specs.declared.order.Order.{Order}
 use Rattle.ledger.specs.declared.order.Side.{Side}

@@ -1,13 +1,6 @@
 -- FILL: the order found moves its account's balance, and the numbers that the code adds fit.
-use Prim.Native.Nat.{ℕ, _*_, _≤_}
-use mathlib.Core.Path.{_≡_, refl, _∙_, sym, ap}
-use mathlib.Core.List.{List}
-use native.Mathlib.Omega.{arith}
-use lib.IntN.{ℤ, pos, negℤ, natAbs, _+ℤ_}
-use lib.ListN.{length}
-use mir.Syntax.{w64}
-use mir.Val.{SFits, toZ, ofZ}
-use mir.ValLaws.{toZ-ofZ}
+use Rattle.integers.specs.Basics.{ℕ, _*_, _≤_, _≡_, refl, _∙_, sym, ap, List, ℤ, pos, negℤ, natAbs, _+ℤ_, length, w64, SFits, toZ, ofZ}
+use Rattle.integers.specs.Basics.{toZ-ofZ, arith}
 use Rattle.integers.specs.Magnitude.{sized, magnitude-sum, magnitude-negation}
 use Rattle.ledger.specs.declared.order.Side.{Side}
 use Rattle.ledger.specs.declared.order.Side.the-variants.{Buy, Sell}
@@ -39,7 +32,8 @@ moved-fits Buy b n z h l e = omega (sized, ap natAbs e, magnitude-sum b n)
 moved-fits Sell b n z h l e = omega (sized, ap natAbs e, magnitude-negation n, magnitude-sum b (negℤ n))
 
 -- one contract counts for 1
-pub fill-one : (m : List ℕ) (o : Order) (n : ℕ) → fillMoves (marketOf m .unit) (o .account) (o .instrument) o n ≡ toward (wayOf (o .side)) (pos n)
+pub fill-one : (m : List ℕ) (o : Order) (n : ℕ) → fillMoves (marketOf m .unit) (o .account) (o .instrument) o n ≡ toward (wayOf (o .side))
+    (pos n)
 unfolding marketOfKind one
 fill-one m o n =
     let e : 1 * n ≡ n = omega arith in

@@ -1,6 +1,5 @@
 -- The first record stands inside its region wherever an event of an order leaves it.
-use Prim.Native.Nat.{ℕ, _≤_}
-use mathlib.Core.List.{List, [], _∷_}
+use Rattle.integers.specs.Basics.{ℕ, _≤_, List, [], _∷_}
 use Rattle.ledger.specs.declared.order.Order.{Order}
 use Rattle.ledger.specs.declared.find.Found.{Found}
 use Rattle.ledger.specs.declared.find.Found.the-variants.{At, Nothing}

@@ -1,13 +1,5 @@
 -- An event taken apart and handed on: each kind's function gets the event by another name, with its figure as the machine holds it.
-use Prim.Native.Nat.{ℕ}
-use mathlib.Core.Path.{_≡_, _∙_, sym, ap}
-use mathlib.Core.List.{List}
-use lib.IntN.{ℤ, pos, natAbs}
-use lib.Signed.{_≤ℤ_}
-use mir.Syntax.{w64}
-use mir.Val.{SFits, toZ, ofZ}
-use mir.ValLaws.{toZ-ofZ}
-use Rattle.integers.specs.Parts.{signed, magnitude-parts}
+use Rattle.integers.specs.Basics.{ℕ, _≡_, _∙_, sym, ap, List, ℤ, pos, natAbs, _≤ℤ_, w64, SFits, toZ, ofZ, toZ-ofZ, signed, magnitude-parts}
 use Rattle.book.specs.declared.OrderChange.{OrderChange}
 use Rattle.book.specs.declared.Event.the-variants.{Change}
 use Rattle.book.specs.declared.Event.{Event}

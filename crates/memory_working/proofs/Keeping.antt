@@ -1,14 +1,8 @@
 -- The cells after a change of one order: its own cell moves with what counts of it, and no other.
-use Prim.Native.Nat.{ℕ, _+_, _-_, _≤_}
-use mathlib.Core.Path.{_≡_, refl, _∙_, sym, ap}
-use mathlib.Core.Logic.{_≢_, _⊎_, inl, inr}
-use mathlib.Core.List.{List}
+use Rattle.integers.specs.Basics.{ℕ, _+_, _-_, _≤_, _≡_, refl, _∙_, sym, ap, _⊎_, inl, inr, _≢_, List, ℤ, pos, negℤ, natAbs, _+ℤ_, length}
+use Rattle.integers.specs.Basics.{getD, set, length-set, arith, signed, sum-parts, difference-parts}
 use native.Mathlib.Nat.{one-mul}
-use native.Mathlib.Omega.{arith}
-use lib.ListN.{length, getD, set, length-set}
 use lib.Seq.{getD-set-same, getD-set-other}
-use lib.IntN.{ℤ, pos, negℤ, natAbs, _+ℤ_}
-use Rattle.integers.specs.Parts.{signed, sum-parts, difference-parts}
 use Rattle.ledger.specs.declared.order.Order.{Order}
 use Rattle.ledger.specs.declared.order.Side.{Side}
 use Rattle.ledger.specs.Roster.{Numbered}

@@ -1,17 +1,7 @@
 -- The figures of an accepted LIMIT: −1 throughout, or limits, and then none is below 0.
-use Prim.Native.Nat.{ℕ, _≤_}
-use mathlib.Core.Path.{_≡_, refl, _∙_, sym, ap}
-use mathlib.Core.Bool.{Bool, true, false, true≢false, _&&_, _||_, cond}
-use mathlib.Core.List.{List}
-use mathlib.Core.Option.{none, some}
-use native.Mathlib.Omega.{arith}
-use lib.IntN.{ℤ, pos, negsuc, natAbs}
-use lib.Dec.{T}
-use lib.Signed.{_≤ℤ_, nonNeg}
-use mir.Syntax.{w32, w64}
-use mir.Val.{Fits, SFits, toZ, ofZ}
-use mir.ValLaws.{toZ-ofZ}
-use Rattle.integers.specs.Parts.{signed, magnitude-parts}
+use Rattle.integers.specs.Basics.{ℕ, _≤_, _≡_, refl, _∙_, sym, ap, Bool, true, false, _&&_, _||_, cond, true≢false, List, none, some, ℤ}
+use Rattle.integers.specs.Basics.{pos, negsuc, natAbs, _≤ℤ_, nonNeg, T, w32, w64, Fits, SFits, toZ, ofZ, toZ-ofZ, arith, signed}
+use Rattle.integers.specs.Basics.{magnitude-parts}
 use Rattle.limits.proofs.Answers.{both-true}
 use Rattle.book.specs.declared.Figures.{Figures}
 use Rattle.memory_layout.proofs.MarketRead.{market-most}

@@ -1,15 +1,5 @@
 -- What the functions over a desk's fields ask of an accepted event: its places are inside the memory, its figures are numbers.
-use Prim.Native.Nat.{ℕ, _≤_}
-use mathlib.Core.List.{List}
-use native.Mathlib.Omega.{arith}
-use lib.Dec.{T}
-use lib.IntN.{ℤ, pos, natAbs}
-use lib.ListN.{length}
-use lib.Signed.{_≤ℤ_, nonNeg}
-use mir.Syntax.{w64}
-use mir.Val.{Fits, SFits, toZ, ofZ}
-use mir.ValLaws.{toZ-ofZ}
-use Rattle.integers.specs.Parts.{signed}
+use Rattle.integers.specs.Basics.{ℕ, _≤_, List, ℤ, pos, natAbs, _≤ℤ_, nonNeg, T, length, w64, Fits, SFits, toZ, ofZ, toZ-ofZ, arith, signed}
 use Rattle.integers.specs.Magnitude.{sized}
 use Rattle.book.specs.declared.LimitLine.the-variants.{Own, Default, OfGroup}
 use Rattle.book.specs.declared.Blocked.the-variants.{Account, Instrument, GroupFor}

@@ -1,11 +1,7 @@
 -- The figures that an accepted event stores fit their words and halves of words.
-use Prim.Native.Nat.{ℕ, _^_, _≤_, _<_}
-use mathlib.Core.Path.{_≡_, refl}
-use mathlib.Core.Logic.{⊎-elim}
-use mathlib.Core.List.{List, [], _∷_, List·Memᴰ, List·Memᴰ·head, List·Memᴰ·tail, List·Memᴰ·not-nil, List·Memᴰ·eq-of-singleton}
-use mathlib.Core.Option.{Option, none, some}
-use native.Mathlib.Omega.{arith}
-use lib.Dec.{eqb}
+use Rattle.integers.specs.Basics.{ℕ, _^_, _≤_, _<_, _≡_, refl, ⊎-elim, List, [], _∷_, List·Memᴰ, List·Memᴰ·head, List·Memᴰ·tail}
+use Rattle.integers.specs.Basics.{List·Memᴰ·not-nil, Option, none, some, eqb, arith}
+use mathlib.Core.List.{List·Memᴰ·eq-of-singleton}
 use Rattle.words.specs.Bytes.{Bytes}
 use Rattle.words.specs.Fields.{u64At}
 use Rattle.words.specs.Words.{wordAt}

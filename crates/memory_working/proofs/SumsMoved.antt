@@ -1,10 +1,6 @@
 -- B and V after an accepted event of an order: what counts of that order is another number, as the book says it, and no other sum changes.
-use Prim.Native.Nat.{ℕ, _^_, _≤_, _<_}
-use mathlib.Core.Path.{_≡_, refl, sym, ap, subst}
-use mathlib.Core.List.{List}
+use Rattle.integers.specs.Basics.{ℕ, _^_, _≤_, _<_, _≡_, refl, sym, ap, subst, List, pos, arith}
 use native.Mathlib.Nat.{one-mul}
-use native.Mathlib.Omega.{arith}
-use lib.IntN.{pos}
 use Rattle.words.specs.Bytes.{Bytes}
 use Rattle.ledger.specs.declared.order.Order.{Order}
 use Rattle.ledger.specs.declared.order.Side.{Side}

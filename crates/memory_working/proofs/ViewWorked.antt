@@ -1,10 +1,5 @@
 -- The view of a memory after an accepted event is the view before it, worked.
-use Prim.Native.Nat.{ℕ, _^_, _≤_, _<_}
-use mathlib.Core.Path.{_≡_, refl, _∙_, sym, ap, fun-ext}
-use mathlib.Core.Bool.{true, cond}
-use mathlib.Core.List.{List}
-use mathlib.Core.Option.{some}
-use lib.IntN.{ℤ, pos, natAbs, _+ℤ_, +ℤ-idr}
+use Rattle.integers.specs.Basics.{ℕ, _^_, _≤_, _<_, _≡_, refl, _∙_, sym, ap, fun-ext, true, cond, List, some, ℤ, pos, natAbs, _+ℤ_, +ℤ-idr}
 use Rattle.integers.specs.Magnitude.{sized, magnitude-sum, magnitude-negation}
 use Rattle.words.specs.Bytes.{Bytes}
 use Rattle.ledger.specs.declared.order.Order.{Order}
@@ -121,7 +116,8 @@ module _ (m : List ℕ) (bytes : Bytes m) (held : SoundMemory m) where
       passes
 
   fill-shown : (id : ℕ) (n : ℤ) (o : Order) → OrderFits (rosterOf m) o → judged m (Change id (Fill n)) ≡ 0 → Numbered 1000000 (natAbs n)
-      → view (orderChanged m id (Fill n) (some o)) ≡ stateOf (marketOf m) (rosterOf m) (filledBalances (marketOf m .unit) (some o) (natAbs n)
+      → view (orderChanged m id (Fill n) (some o)) ≡ stateOf (marketOf m) (rosterOf m)
+      (filledBalances (marketOf m .unit) (some o) (natAbs n)
       (balancesOf m)) (linesOf m) (blocksOf m) (change id (changed (Fill n)) (openOrders m)) (tradingOf m)
   unfolding bookAfter bookOf mark
   fill-shown id n o fits passes quantity =
@@ -143,7 +139,8 @@ module _ (m : List ℕ) (bytes : Bytes m) (held : SoundMemory m) where
         magnitude-sum (balancesOf m a i) (fillMoves unit a i o (natAbs n)),
       ))
       ∙ ap (λ (k : State). work k (Balance a i z)) (records-shown id (Fill n) o passes)
-      ∙ ap (λ s. stateOf (marketOf m) (rosterOf m) s (linesOf m) (blocksOf m) os (tradingOf m)) (fill-moves unit o (natAbs n) (balancesOf m))
+      ∙ ap (λ s. stateOf (marketOf m) (rosterOf m) s (linesOf m) (blocksOf m) os (tradingOf m))
+      (fill-moves unit o (natAbs n) (balancesOf m))
 
   change-shown : (id : ℕ) (c : OrderChange) → judged m (Change id c) ≡ 0 → view (worked m (Change id c)) ≡ work (view m) (Change id c)
   unfolding worked bookAfter bookOf mark changedBalances
@@ -152,7 +149,8 @@ module _ (m : List ℕ) (bytes : Bytes m) (held : SoundMemory m) where
       rw (f .0 .found) (by c passes (f .0 .order) (f .0 .fits) (f .1))
     where
       by : (c : OrderChange) → judged m (Change id c) ≡ 0 → (o : Order) → OrderFits (rosterOf m) o → ChangeFacts c o
-          → view (orderChanged m id c (some o)) ≡ stateOf (marketOf m) (rosterOf m) (changedBalances (marketOf m .unit) c (some o) (balancesOf m))
+          → view (orderChanged m id c (some o)) ≡ stateOf (marketOf m) (rosterOf m)
+          (changedBalances (marketOf m .unit) c (some o) (balancesOf m))
           (linesOf m) (blocksOf m) (change id (changed c) (openOrders m)) (tradingOf m)
       by (Replace n) passes o fits facts = records-shown id (Replace n) o passes
       by Cancel passes o fits facts = records-shown id Cancel o passes
@@ -169,7 +167,8 @@ module _ (m : List ℕ) (bytes : Bytes m) (held : SoundMemory m) where
       view-default m (laid m held) a c f (small-line (market-most m) (lineOf f) (line-fits _ f (t .2))) (t .0) (t .1)
   view-worked (Limit a (OfGroup g x y)) id-word passes =
       let t = accepted-facts m held (Limit a (OfGroup g x y)) passes in
-      view-of-group m (laid m held) a g x y (small-group-line (market-most m) (groupLineOf x y) (group-line-fits _ x y (t .2))) (t .0) (t .1)
+      view-of-group m (laid m held) a g x y (small-group-line (market-most m) (groupLineOf x y) (group-line-fits _ x y (t .2))) (t .0)
+      (t .1)
   view-worked (Balance a i z) id-word passes =
       let t = accepted-facts m held (Balance a i z) passes in
       view-balance m (laid m held) a i z (t .0) (t .1) (omega (sized, market-most m))

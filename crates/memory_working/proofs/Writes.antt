@@ -1,11 +1,6 @@
 -- Working an accepted event is a run of stores of words: what each store keeps, working keeps.
-use Prim.Native.Nat.{ℕ, zero, suc, _+_, _*_, _≤_, _<_}
-use mathlib.Core.Path.{_≡_, refl, _∙_}
-use mathlib.Core.List.{List, [], _∷_}
-use mathlib.Core.Option.{Option, none, some}
-use native.Mathlib.Omega.{arith}
-use lib.IntN.{ℤ}
-use lib.ListN.{length, getD}
+use Rattle.integers.specs.Basics.{ℕ, zero, suc, _+_, _*_, _≤_, _<_, _≡_, refl, _∙_, List, [], _∷_, Option, none, some, ℤ, length, getD}
+use Rattle.integers.specs.Basics.{arith}
 use Rattle.integers.specs.TwosComplement.{bitsOf}
 use Rattle.words.specs.Bytes.{Bytes}
 use Rattle.words.specs.Words.{wordAt, putWord, lower, upper, putSigned, putWords}
@@ -52,8 +47,8 @@ Setting Junk = Unit
 abbrev pub FiguresFit : ℕ → ℕ → Type 0
 FiguresFit largest v = (lower v ≤ largest) × (upper v ≤ largest)
 
--- what a store of v in word k of a memory m is: behind the roster, inside the desk, of a setting before the records, of the first record's place inside
--- the region, and of a line with its figures in range
+-- what a store of v in word k of a memory m is: behind the roster, inside the desk, of a setting before the records, of the first record's
+-- place inside the region, and of a line with its figures in range
 pub record Stores (m : List ℕ) (e : Event) (k v : ℕ) : Type 0 where
   pub low : 112 ≤ k
   pub high : k < 8192
@@ -66,7 +61,8 @@ pub few-after : (m : List ℕ) → SoundMemory m → (e : Event) → judged m e 
 few-after m held e passes = count-after (view m) (sound m held) e (passed m e passes)
 
 -- ---- the words of a line in range
-line-words-fit : {largest : ℕ} → largest ≤ 1000000000 → (l : Line) → LineFits largest l → (j : ℕ) → FiguresFit largest (getD (lineWords l) j 0)
+line-words-fit : {largest : ℕ} → largest ≤ 1000000000 → (l : Line) → LineFits largest l → (j : ℕ)
+    → FiguresFit largest (getD (lineWords l) j 0)
 line-words-fit most l fits zero = omega arith
 line-words-fit most l fits (suc zero) = omega arith
 line-words-fit most l fits (suc (suc j)) = omega arith
@@ -156,12 +152,14 @@ worked-keeps m (Limit a (Own i f)) P keeps held passes p =
 worked-keeps m (Limit a (Default c f)) P keeps held passes p =
     let t = accepted-facts m held (Limit a (Default c f)) passes in
     let sized = laid m held .sized in
-    keeps-line (Stores m (Limit a (Default c f))) P keeps m (market-most m) (defaultSetRow a + c) (defaultRow a + c * 2) (λ v h. omega arith) p
+    keeps-line (Stores m (Limit a (Default c f))) P keeps m (market-most m) (defaultSetRow a + c) (defaultRow a + c * 2)
+    (λ v h. omega arith) p
     (λ j v low high h. omega arith) (lineOf f) (line-fits (marketOf m .largest) f (t .2))
 worked-keeps m (Limit a (OfGroup g x y)) P keeps held passes p =
     let t = accepted-facts m held (Limit a (OfGroup g x y)) passes in
     let sized = laid m held .sized in
-    keeps-group-line (Stores m (Limit a (OfGroup g x y))) P keeps m (market-most m) (groupSetRow a + g) (groupRow a + g) (λ v h. omega arith) p
+    keeps-group-line (Stores m (Limit a (OfGroup g x y))) P keeps m (market-most m) (groupSetRow a + g) (groupRow a + g)
+    (λ v h. omega arith) p
     (λ j v low high h. omega arith) (groupLineOf x y) (group-line-fits (marketOf m .largest) x y (t .2))
 worked-keeps m (Balance a i z) P keeps held passes p =
     let t = accepted-facts m held (Balance a i z) passes in

@@ -1,9 +1,5 @@
 -- What an accepted event does to B and V: what counts of one order goes from `before` contracts to `after`, and no other sum changes.
-use Prim.Native.Nat.{ℕ, _+_, _≤_}
-use mathlib.Core.Path.{_≡_}
-use mathlib.Core.List.{List}
-use lib.IntN.{_+ℤ_}
-use lib.ListN.{length, getD}
+use Rattle.integers.specs.Basics.{ℕ, _+_, _≤_, _≡_, List, _+ℤ_, length, getD}
 use Rattle.ledger.specs.declared.order.Order.{Order}
 use Rattle.ledger.specs.declared.order.Side.{Side}
 use Rattle.ledger.specs.Positions.{openOn}

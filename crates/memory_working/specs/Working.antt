@@ -1,10 +1,5 @@
 -- The memory after an accepted event, by an equation for each kind.
-use Prim.Native.Nat.{ℕ, _+_, _≤_, _<_}
-use mathlib.Core.Path.{_≡_}
-use mathlib.Core.Bool.{Bool, true, not}
-use mathlib.Core.List.{List, [], _∷_}
-use mathlib.Core.Option.{Option, none, some}
-use lib.IntN.{pos, natAbs, _+ℤ_}
+use Rattle.integers.specs.Basics.{ℕ, _+_, _≤_, _<_, _≡_, Bool, true, not, List, [], _∷_, Option, none, some, pos, natAbs, _+ℤ_}
 use Rattle.ledger.specs.declared.order.Order.{Order}
 use Rattle.ledger.specs.declared.find.Found.{Found}
 use Rattle.ledger.specs.declared.find.Found.the-variants.{At, Nothing}

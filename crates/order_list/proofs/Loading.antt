@@ -1,13 +1,8 @@
 -- The orders of the records loaded into a list, place by place, and what they count for.
-use Prim.Native.Nat.{ℕ, zero, suc, _+_, _≤_, _<_}
-use mathlib.Core.Path.{_≡_, refl, _∙_}
-use mathlib.Core.Logic.{by-cases}
-use mathlib.Core.List.{List}
+use Rattle.integers.specs.Basics.{ℕ, zero, suc, _+_, _≤_, _<_, _≡_, refl, _∙_, by-cases, List, pos, natAbs, _+ℤ_, +ℤ-idl, length, set}
+use Rattle.integers.specs.Basics.{replicate, length-set, ℕ-discrete, arith}
 use native.Mathlib.Numerals.{add-one}
-use native.Mathlib.Omega.{arith}
-use native.Mathlib.Decide.{ℕ-discrete}
-use lib.IntN.{pos, natAbs, _+ℤ_, +ℤ-idl}
-use lib.ListN.{length, set, replicate, length-set, length-replicate}
+use lib.ListN.{length-replicate}
 use lib.Seq.{getD-set-same, getD-set-other}
 use Rattle.ledger.specs.declared.order.Order.{Order}
 use Rattle.ledger.specs.declared.order.Side.{Side}

@@ -1,9 +1,6 @@
 -- What the orders at the first places of a list count for, place by place.
-use Prim.Native.Nat.{ℕ, zero, suc, _+_, _-_, _≤_}
-use mathlib.Core.Path.{_≡_, refl}
-use mathlib.Core.List.{List}
+use Rattle.integers.specs.Basics.{ℕ, zero, suc, _+_, _-_, _≤_, _≡_, refl, List, arith}
 use native.Mathlib.Numerals.{add-one}
-use native.Mathlib.Omega.{arith}
 use Rattle.ledger.specs.declared.order.Order.{Order}
 use Rattle.ledger.specs.declared.order.Side.{Side}
 use Rattle.ledger.specs.Derivatives.{counted}

@@ -1,7 +1,5 @@
 -- A list of order structs: the order at a place, the orders of the records loaded into it, and what they count for.
-use Prim.Native.Nat.{ℕ, zero, suc, _+_}
-use mathlib.Core.List.{List}
-use lib.ListN.{getD, set}
+use Rattle.integers.specs.Basics.{ℕ, zero, suc, _+_, List, getD, set}
 use Rattle.ledger.specs.declared.order.Order.{Order}
 use Rattle.ledger.specs.declared.order.Side.{Side}
 use Rattle.ledger.specs.declared.order.Side.the-variants.{Buy}

@@ -1,14 +1,8 @@
 -- B and V order by order: what an order counts for, and what is left to count from record p on.
-use Prim.Native.Nat.{ℕ, zero, suc, _+_, _*_, _-_, _≤_, _<_}
-use mathlib.Core.Path.{_≡_, ap}
-use mathlib.Core.Logic.{_≢_}
-use mathlib.Core.Bool.{true, false, _&&_, and-false}
-use mathlib.Core.List.{List, _∷_}
+use Rattle.integers.specs.Basics.{ℕ, zero, suc, _+_, _*_, _-_, _≤_, _<_, _≡_, ap, _≢_, true, false, _&&_, List, _∷_, ℤ, pos, natAbs, _+ℤ_}
+use Rattle.integers.specs.Basics.{arith, eq-eqb, ne-eqb, magnitude-parts}
+use mathlib.Core.Bool.{and-false}
 use native.Mathlib.Nat.{one-mul}
-use native.Mathlib.Omega.{arith}
-use lib.IntN.{ℤ, pos, natAbs, _+ℤ_}
-use borrow.Author.Tests.{eq-eqb, ne-eqb}
-use Rattle.integers.specs.Parts.{magnitude-parts}
 use Rattle.integers.specs.Magnitude.{magnitude-sum}
 use Rattle.ledger.specs.declared.order.Order.{Order}
 use Rattle.ledger.specs.declared.order.Side.{Side}

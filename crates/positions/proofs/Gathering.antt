@@ -1,24 +1,14 @@
 -- The cells in which B and V are gathered, order by order: of one account, or of each account in a row of its own.
-use Prim.Native.Nat.{ℕ, zero, suc, _+_, _≤_, _<_}
-use mathlib.Core.Path.{_≡_, refl, _∙_, sym, ap}
-use mathlib.Core.Logic.{_≢_}
-use mathlib.Core.Bool.{true, cond}
-use mathlib.Core.List.{List}
-use native.Mathlib.Decide.{ℕ-discrete}
-use native.Mathlib.Omega.{arith}
-use borrow.Author.Tests.{eq-eqb, ne-eqb}
-use lib.Dec.{eqb}
-use lib.ListN.{length, getD, set, replicate, length-set}
+use Rattle.integers.specs.Basics.{ℕ, zero, suc, _+_, _≤_, _<_, _≡_, refl, _∙_, sym, ap, _≢_, true, cond, List, pos, _+ℤ_, +ℤ-idl, eqb}
+use Rattle.integers.specs.Basics.{length, getD, set, replicate, length-set, ℕ-discrete, arith, eq-eqb, ne-eqb}
 use lib.Seq.{getD-set-same, getD-set-other}
-use lib.IntN.{pos, _+ℤ_, +ℤ-idl}
 use Rattle.ledger.specs.declared.order.Order.{Order}
 use Rattle.ledger.specs.declared.order.Side.{Side}
 use Rattle.ledger.specs.declared.order.Side.the-variants.{Buy, Sell}
 use Rattle.ledger.specs.Orders.{remaining}
 use Rattle.ledger.specs.Roster.{Numbered}
 use Rattle.ledger.specs.Positions.{sameSide}
-use Rattle.ledger.specs.Records.{packedSide, packedAccount, packedInstrument, detailRemaining, idAt, detailAt, orderOf}
-use Rattle.ledger.specs.Records.{orderAt, ordersFrom}
+use Rattle.ledger.specs.Records.{packedSide, packedAccount, packedInstrument, detailRemaining, idAt, detailAt, orderOf, orderAt, ordersFrom}
 use Rattle.ledger.proofs.Details.{remaining-of, order-of}
 use Rattle.ledger.specs.Derivatives.{counted}
 use Rattle.positions.specs.Gathered.{cell, added, Gathered}

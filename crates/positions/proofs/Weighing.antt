@@ -1,17 +1,7 @@
 -- An instrument's part in its group's position, by the sign of its weight, and the sum of the parts by the cells.
-use Prim.Native.Nat.{ℕ, suc, _+_, _*_, _≤_}
-use mathlib.Core.Path.{_≡_, refl, _∙_, sym, ap}
-use mathlib.Core.Logic.{_≢_}
-use mathlib.Core.Bool.{cond}
-use mathlib.Core.List.{List}
+use Rattle.integers.specs.Basics.{ℕ, suc, _+_, _*_, _≤_, _≡_, refl, _∙_, sym, ap, _≢_, cond, List, ℤ, pos, negsuc, negℤ, natAbs, _+ℤ_, _*ℤ_}
+use Rattle.integers.specs.Basics.{+ℤ-idr, _≤ℤ_, _<ℤ_, eqb, getD, arith, eq-eqb, ne-eqb, signed}
 use native.Mathlib.Numerals.{add-one}
-use native.Mathlib.Omega.{arith}
-use lib.Dec.{eqb}
-use lib.ListN.{getD}
-use lib.IntN.{ℤ, pos, negsuc, negℤ, natAbs, _+ℤ_, _*ℤ_, +ℤ-idr}
-use lib.Signed.{_≤ℤ_, _<ℤ_}
-use borrow.Author.Tests.{eq-eqb, ne-eqb}
-use Rattle.integers.specs.Parts.{signed}
 use Rattle.integers.specs.Magnitude.{magnitude-sum, magnitude-negation, magnitude-product-≤}
 use Rattle.integers.specs.Sum.{sumTo-none, sumTo-more, sumTo-same, sumTo-magnitude}
 use Rattle.ledger.specs.declared.order.Order.{Order}

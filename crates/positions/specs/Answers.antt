@@ -1,7 +1,5 @@
 -- What the answers of the code are to be, by the definitions, on a derivatives desk.
-use Prim.Native.Nat.{ℕ}
-use mathlib.Core.Path.{_≡_}
-use mathlib.Core.List.{List}
+use Rattle.integers.specs.Basics.{ℕ, _≡_, List}
 use Rattle.positions.specs.declared.InstrumentPosition.{InstrumentPosition}
 use Rattle.positions.specs.declared.GroupPosition.{GroupPosition}
 use Rattle.ledger.specs.Positions.{long, short, group, ofInstrument, potential}

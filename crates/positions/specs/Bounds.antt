@@ -1,9 +1,5 @@
 -- What the positions of an account need of the lent bytes: that the records are there, and that no number is too large.
-use Prim.Native.Nat.{ℕ, _+_, _*_, _≤_}
-use mathlib.Core.Path.{_≡_}
-use mathlib.Core.List.{List}
-use lib.ListN.{length, getD}
-use lib.IntN.{natAbs}
+use Rattle.integers.specs.Basics.{ℕ, _+_, _*_, _≤_, _≡_, List, natAbs, length, getD}
 use Rattle.ledger.specs.declared.order.Side.{Side}
 use Rattle.ledger.specs.Roster.{Roster, Numbered}
 use Rattle.ledger.specs.Positions.{openOn}

@@ -1,12 +1,6 @@
 -- What remains of an account's open orders, gathered into cells: from the account's first cell on, cell i holds the buys and
 -- cell 32 + i the sells of instrument i.
-use Prim.Native.Nat.{ℕ, suc, _+_}
-use mathlib.Core.Path.{_≡_}
-use mathlib.Core.Bool.{cond}
-use mathlib.Core.List.{List}
-use lib.Dec.{eqb}
-use lib.ListN.{getD, set}
-use lib.IntN.{ℤ, pos, _+ℤ_}
+use Rattle.integers.specs.Basics.{ℕ, suc, _+_, _≡_, cond, List, ℤ, pos, _+ℤ_, eqb, getD, set}
 use Rattle.integers.specs.Sum.{sumTo}
 use Rattle.ledger.specs.declared.order.Order.{Order}
 use Rattle.ledger.specs.declared.order.Side.{Side}

@@ -1,9 +1,5 @@
 -- Stores that lie apart can change places.
-use Prim.Native.Nat.{ℕ, zero, suc, _+_, _*_, _/_, _%_, _≤_, _<_}
-use mathlib.Core.Path.{_≡_, refl, _∙_, ap}
-use mathlib.Core.List.{List, [], _∷_}
-use native.Mathlib.Omega.{arith}
-use lib.ListN.{length, set}
+use Rattle.integers.specs.Basics.{ℕ, zero, suc, _+_, _*_, _/_, _%_, _≤_, _<_, _≡_, refl, _∙_, ap, List, [], _∷_, length, set, arith}
 use lib.Seq.{set-comm}
 use Rattle.words.specs.Bytes.{store}
 use Rattle.words.specs.Words.{putWord, putWords}

@@ -1,6 +1,5 @@
 -- A number that has the bits of two is at least each of them.
-use Prim.Native.Nat.{ℕ, _≤_}
-use native.Mathlib.Omega.{arith}
+use Rattle.integers.specs.Basics.{ℕ, _≤_, arith}
 use lib.Bits.{bitOr, or-add-and, and-le-l, and-le-r}
 
 pub or-left : (a b : ℕ) → a ≤ bitOr a b

@@ -1,13 +1,9 @@
 -- Two's complement by the code's own steps, at each width: −1 − (2 ^ bits − 1 − n) for bits n of the upper half, and the way back.
-use Prim.Native.Nat.{ℕ, _*_, _-_, _^_, _≤_, _<_}
-use mathlib.Core.Path.{_≡_, _∙_, sym, ap}
-use native.Mathlib.Omega.{arith}
-use lib.IntN.{ℤ, pos, negsuc, natAbs, _-ℤ_}
-use lib.Signed.{_<ℤ_}
+use Rattle.integers.specs.Basics.{ℕ, _*_, _-_, _^_, _≤_, _<_, _≡_, _∙_, sym, ap, ℤ, pos, negsuc, natAbs, _-ℤ_, _<ℤ_, SFits, toZ, ofZ}
+use Rattle.integers.specs.Basics.{toZ-ofZ, arith, signed, magnitude-parts, difference-parts}
 use mir.Syntax.{Width}
-use mir.Val.{SFits, bits, hbits, toZ, ofZ}
-use mir.ValLaws.{toZ-ofZ, toZ-pos, bits-suc}
-use Rattle.integers.specs.Parts.{signed, difference-parts, magnitude-parts}
+use mir.Val.{bits, hbits}
+use mir.ValLaws.{toZ-pos, bits-suc}
 use Rattle.integers.specs.TwosComplement.{signedOf, signed-large}
 
 module _ (w : Width) where

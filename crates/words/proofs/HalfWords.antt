@@ -1,9 +1,6 @@
 -- The halves of a word, as fields of 32 bits and as they were joined.
-use Prim.Native.Nat.{ℕ, _+_, _*_, _^_, _<_}
-use mathlib.Core.Path.{_≡_}
-use mathlib.Core.List.{List}
+use Rattle.integers.specs.Basics.{ℕ, _+_, _*_, _^_, _<_, _≡_, List, arith}
 use native.Mathlib.Nat.{add-assoc}
-use native.Mathlib.Omega.{arith}
 use Rattle.words.specs.Bytes.{Bytes, number}
 use Rattle.words.specs.Fields.{u32At}
 use Rattle.words.specs.Words.{wordAt, lower, upper, halves}

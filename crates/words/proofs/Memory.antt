@@ -1,10 +1,5 @@
 -- Laws of a memory as words: what a stored word changes and what it leaves.
-use Prim.Native.Nat.{ℕ, _+_, _*_, _/_, _^_, _≤_, _<_}
-use mathlib.Core.Path.{_≡_}
-use mathlib.Core.Logic.{_≢_}
-use mathlib.Core.List.{List}
-use native.Mathlib.Omega.{arith}
-use lib.ListN.{length, getD}
+use Rattle.integers.specs.Basics.{ℕ, _+_, _*_, _/_, _^_, _≤_, _<_, _≡_, _≢_, List, length, getD, arith}
 use Rattle.words.specs.Bytes.{Bytes}
 use Rattle.words.specs.Words.{wordAt, putWord}
 use Rattle.words.proofs.Numbers.{length-store, byte-store-other, number-store-other, number-store-same, number-below, store-back}

@@ -1,9 +1,5 @@
 -- Words moved up and down: what the turns of each move have stored, or leave to be stored.
-use Prim.Native.Nat.{ℕ, suc, _+_, _-_, _≤_, _<_}
-use mathlib.Core.Path.{_≡_, refl, _∙_, sym}
-use mathlib.Core.List.{List}
-use native.Mathlib.Omega.{arith}
-use lib.ListN.{length}
+use Rattle.integers.specs.Basics.{ℕ, suc, _+_, _-_, _≤_, _<_, _≡_, refl, _∙_, sym, List, length, arith}
 use Rattle.words.specs.Words.{wordAt, putWord, wordsAt, putWords}
 use Rattle.words.proofs.Runs.{word-puts-other, words-put-other}
 use Rattle.words.proofs.Apart.{put-past-words}

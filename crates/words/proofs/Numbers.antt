@@ -1,12 +1,8 @@
 -- Laws of little-endian numbers in bytes, for every width n in bytes.
-use Prim.Native.Nat.{ℕ, zero, suc, _+_, _*_, _/_, _%_, _^_, _≤_, _<_}
-use mathlib.Core.Path.{_≡_, refl, _∙_}
-use mathlib.Core.Logic.{_≢_}
-use mathlib.Core.List.{List}
+use Rattle.integers.specs.Basics.{ℕ, zero, suc, _+_, _*_, _/_, _%_, _^_, _≤_, _<_, _≡_, refl, _∙_, _≢_, List, length, getD, set, length-set}
+use Rattle.integers.specs.Basics.{ℕ-discrete, arith}
 use native.Mathlib.Nat.{pow-suc}
-use native.Mathlib.Decide.{ℕ-discrete, decLt}
-use native.Mathlib.Omega.{arith}
-use lib.ListN.{length, getD, set, length-set}
+use native.Mathlib.Decide.{decLt}
 use lib.Seq.{getD-set-same, getD-set-other, set-getD, set-out}
 use Rattle.words.specs.Bytes.{Bytes, number, store}
 

@@ -1,10 +1,9 @@
 -- Laws of parts of a memory: a number in a part is a number of the whole.
-use Prim.Native.Nat.{ℕ, zero, suc, _+_, _-_, _*_, _/_, _%_, _≤_, _<_}
-use mathlib.Core.Path.{_≡_, refl, _∙_, ap}
-use mathlib.Core.List.{List, [], _∷_, _++_, append-nil}
+use Rattle.integers.specs.Basics.{ℕ, zero, suc, _+_, _*_, _-_, _/_, _%_, _≤_, _<_, _≡_, refl, _∙_, ap, List, [], _∷_, _++_, length, set}
+use Rattle.integers.specs.Basics.{take, drop, arith}
+use mathlib.Core.List.{append-nil}
 use native.Mathlib.Nat.{add-assoc}
-use native.Mathlib.Omega.{arith}
-use lib.ListN.{length, take, drop, set, length-take, length-drop, take-append-drop, drop-of-length-le}
+use lib.ListN.{length-take, length-drop, take-append-drop, drop-of-length-le}
 use lib.Seq.{getD-take, getD-drop, take-set-le, drop-set-add, take-all}
 use Rattle.words.specs.Bytes.{number, store}
 use Rattle.words.specs.Words.{wordAt, putWord, wordsAt, putWords, partOf}

@@ -1,10 +1,5 @@
 -- Laws of runs of words.
-use Prim.Native.Nat.{ℕ, zero, suc, _+_, _*_, _≤_, _<_}
-use mathlib.Core.Path.{_≡_, refl, _∙_, ap}
-use mathlib.Core.Logic.{_≢_}
-use mathlib.Core.List.{List, [], _∷_}
-use native.Mathlib.Omega.{arith}
-use lib.ListN.{length, getD}
+use Rattle.integers.specs.Basics.{ℕ, zero, suc, _+_, _*_, _≤_, _<_, _≡_, refl, _∙_, ap, _≢_, List, [], _∷_, length, getD, arith}
 use Rattle.words.specs.Bytes.{Bytes}
 use Rattle.words.specs.Words.{AreWords, wordAt, putWord, wordsAt, putWords}
 use Rattle.words.proofs.Memory.{length-put, bytes-put, word-put-same, word-put-other, put-back}

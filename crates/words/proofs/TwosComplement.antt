@@ -1,13 +1,5 @@
 -- Laws of signed words and fields: a signed number that is stored is read back as itself, whatever its sign.
-use Prim.Native.Nat.{ℕ, _+_, _*_, _≤_}
-use mathlib.Core.Path.{_≡_, refl, _∙_, ap}
-use mathlib.Core.Logic.{_≢_}
-use mathlib.Core.List.{List, [], _∷_}
-use native.Mathlib.Omega.{arith}
-use lib.ListN.{length}
-use lib.IntN.{ℤ, negsuc}
-use mir.Syntax.{w64}
-use mir.Val.{SFits}
+use Rattle.integers.specs.Basics.{ℕ, _+_, _*_, _≤_, _≡_, refl, _∙_, ap, _≢_, List, [], _∷_, ℤ, negsuc, length, w64, SFits, arith}
 use Rattle.integers.specs.TwosComplement.{signedOf, bitsOf, signed-bits, bits-below, fits-in-bits}
 use Rattle.words.specs.Bytes.{number}
 use Rattle.words.specs.Fields.{i32At, i64At}

@@ -1,9 +1,6 @@
 -- Numbers of four and eight bytes, and the store of eight, as the code has them, byte by byte.
-use Prim.Native.Nat.{ℕ, _+_, _*_, _/_, _%_}
-use mathlib.Core.Path.{_≡_}
-use mathlib.Core.List.{List}
+use Rattle.integers.specs.Basics.{ℕ, _+_, _*_, _/_, _%_, _≡_, List, getD, set}
 use native.Mathlib.Nat.{add-assoc, div-div-eq-div-mul}
-use lib.ListN.{getD, set}
 use Rattle.words.specs.Bytes.{number, store}
 
 pub number-four : (m : List ℕ) (a : ℕ)

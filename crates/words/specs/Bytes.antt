@@ -1,7 +1,5 @@
 -- Little-endian numbers in a list of bytes, of any width.
-use Prim.Native.Nat.{ℕ, zero, suc, _+_, _*_, _/_, _%_, _<_}
-use mathlib.Core.List.{List}
-use lib.ListN.{getD, set}
+use Rattle.integers.specs.Basics.{ℕ, zero, suc, _+_, _*_, _/_, _%_, _<_, List, getD, set}
 
 -- every element is a byte
 abbrev pub Bytes : List ℕ → Type 0

@@ -1,7 +1,5 @@
 -- Fields at any byte of a list of bytes: little-endian, unsigned or in two's complement.
-use Prim.Native.Nat.{ℕ}
-use mathlib.Core.List.{List}
-use lib.IntN.{ℤ}
+use Rattle.integers.specs.Basics.{ℕ, List, ℤ}
 use Rattle.integers.specs.TwosComplement.{signedOf}
 use Rattle.words.specs.Bytes.{number}
 

@@ -1,8 +1,5 @@
 -- A list of bytes as little-endian words of 64 bits: word k is bytes 8 k to 8 k + 7.
-use Prim.Native.Nat.{ℕ, zero, suc, _+_, _*_, _/_, _%_, _^_, _<_}
-use mathlib.Core.List.{List, [], _∷_}
-use lib.ListN.{getD, take, drop}
-use lib.IntN.{ℤ}
+use Rattle.integers.specs.Basics.{ℕ, zero, suc, _+_, _*_, _/_, _%_, _^_, _<_, List, [], _∷_, ℤ, getD, take, drop}
 use Rattle.integers.specs.TwosComplement.{signedOf, bitsOf}
 use Rattle.words.specs.Bytes.{number, store}
 

@@ -1,14 +1,6 @@
 -- The 64 bits of −1 are all set, and no other number that fits 64 bits has these: the comparison of bits tells −1 alone.
-use Prim.Native.Nat.{zero, suc}
-use mathlib.Core.Path.{_≡_, refl, sym, ap, _∙_}
-use mathlib.Core.Bool.{false, true≢false}
-use native.Mathlib.Omega.{arith}
-use lib.Dec.{eqb}
-use lib.IntN.{ℤ, pos, negsuc}
-use borrow.Author.Tests.{ne-eqb}
-use mir.Syntax.{w64}
-use mir.Val.{SFits, toZ, ofZ}
-use mir.ValLaws.{toZ-ofZ}
+use Rattle.integers.specs.Basics.{zero, suc, _≡_, refl, _∙_, sym, ap, false, true≢false, ℤ, pos, negsuc, eqb, w64, SFits, toZ, ofZ, toZ-ofZ}
+use Rattle.integers.specs.Basics.{arith, ne-eqb}
 use Rattle.book.specs.Books.{isMinusOne}
 use Rattle.book.proofs.is_minus_one.Statement.{statement}
 use Rattle.book.proofs.is_minus_one.Tie as tie

@@ -1,8 +1,5 @@
 -- Memory, buffer and block keep their lengths; the events before the block stay below 2^63 and rise by a block's each turn.
-use Prim.Native.Nat.{_-_}
-use mathlib.Core.Path.{_≡_}
-use lib.ListN.{length}
-use borrow.Author.Needs.{needs}
+use Rattle.integers.specs.Basics.{_-_, _≡_, length, needs}
 use Rattle.day.proofs.work_events.Statement.{statement}
 use Rattle.day.proofs.work_events.Tie as tie
 

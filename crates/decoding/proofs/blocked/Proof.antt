@@ -1,6 +1,5 @@
 -- The arms are the levels of `blockedField`.
-use borrow.Author.Needs.{needs}
-use borrow.Author.Tests.{ne-eqb}
+use Rattle.integers.specs.Basics.{needs, ne-eqb}
 use Rattle.decoding.proofs.blocked.Statement.{statement}
 use Rattle.decoding.proofs.blocked.Tie as tie
 

@@ -1,6 +1,5 @@
 -- Other lengths are junk; 48 bytes are decoded by their kind.
-use borrow.Author.Needs.{needs}
-use borrow.Author.Tests.{ne-eqb}
+use Rattle.integers.specs.Basics.{needs, ne-eqb}
 use Rattle.book.specs.Decoding.{wellFormed, decode}
 use Rattle.decoding.proofs.decode.Statement.{statement}
 use Rattle.decoding.proofs.decode.Tie as tie

@@ -1,6 +1,5 @@
 -- The arms are the kinds of `eventOf`.
-use borrow.Author.Needs.{needs}
-use borrow.Author.Tests.{ne-eqb}
+use Rattle.integers.specs.Basics.{needs, ne-eqb}
 use Rattle.book.specs.Decoding.{eventOf}
 use Rattle.decoding.proofs.event_of.Statement.{statement}
 use Rattle.decoding.proofs.event_of.Tie as tie

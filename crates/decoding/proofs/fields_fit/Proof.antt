@@ -1,6 +1,5 @@
 -- The tests are the definition's, in its order; each is what its function ensures.
-use native.Mathlib.Omega.{arith}
-use borrow.Author.Needs.{needs}
+use Rattle.integers.specs.Basics.{arith, needs}
 use Rattle.book.specs.Decoding.{fieldsFit}
 use Rattle.decoding.proofs.fields_fit.Statement.{statement}
 use Rattle.decoding.proofs.fields_fit.Tie as tie

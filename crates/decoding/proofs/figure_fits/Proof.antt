@@ -1,5 +1,5 @@
 -- A figure is zero exactly where its 64 bits are (`figure-zero`).
-use borrow.Author.Needs.{needs}
+use Rattle.integers.specs.Basics.{needs}
 use Rattle.decoding.proofs.Signed.{figure-zero}
 use Rattle.decoding.proofs.figure_fits.Statement.{statement}
 use Rattle.decoding.proofs.figure_fits.Tie as tie

@@ -1,5 +1,5 @@
 -- The four figures are the signed fields at bytes 16, 24, 32 and 40, each of which reads back from 64 bits as itself.
-use borrow.Author.Needs.{needs}
+use Rattle.integers.specs.Basics.{needs}
 use Rattle.decoding.proofs.Signed.{handed-on}
 use Rattle.decoding.proofs.figures.Statement.{statement}
 use Rattle.decoding.proofs.figures.Tie as tie

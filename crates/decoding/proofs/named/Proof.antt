@@ -1,6 +1,5 @@
 -- The arms are the lines of the book's table.
-use borrow.Author.Needs.{needs}
-use borrow.Author.Tests.{ne-eqb}
+use Rattle.integers.specs.Basics.{needs, ne-eqb}
 use Rattle.book.specs.Decoding.{named}
 use Rattle.decoding.proofs.named.Statement.{statement}
 use Rattle.decoding.proofs.named.Tie as tie

@@ -1,5 +1,5 @@
 -- Well-formed bytes are the event of their kind, all others junk.
-use borrow.Author.Needs.{needs}
+use Rattle.integers.specs.Basics.{needs}
 use Rattle.book.specs.Decoding.{decode}
 use Rattle.decoding.proofs.of_kind.Statement.{statement}
 use Rattle.decoding.proofs.of_kind.Tie as tie

@@ -1,5 +1,5 @@
 -- Of 48 bytes two tests of the definition are left: a listed kind, and fields that fit its line of the table.
-use borrow.Author.Needs.{needs}
+use Rattle.integers.specs.Basics.{needs}
 use Rattle.book.specs.Decoding.{wellFormed}
 use Rattle.decoding.proofs.well_formed.Statement.{statement}
 use Rattle.decoding.proofs.well_formed.Tie as tie

@@ -1,7 +1,5 @@
 -- Question 5 is asked with no sums, and none are kept: `answer_next` takes that too, and its answer and memory are the desk's.
-use mathlib.Core.Path.{refl}
-use mathlib.Core.Logic.{inl}
-use borrow.Author.Needs.{needs}
+use Rattle.integers.specs.Basics.{refl, inl, needs}
 use Rattle.desk.proofs.desk_event.Statement.{statement}
 use Rattle.desk.proofs.desk_event.Tie as tie
 

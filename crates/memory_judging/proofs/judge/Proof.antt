@@ -1,8 +1,5 @@
 -- The verdict on an event of any kind is that of its kind's judge; kinds that name no order need no place, and junk is answered 6.
-use mathlib.Core.Path.{sym}
-use borrow.Author.Needs.{needs}
-use mir.Syntax.{w64}
-use mir.ValLaws.{toZ-ofZ}
+use Rattle.integers.specs.Basics.{sym, w64, toZ-ofZ, needs}
 use Rattle.limits.specs.Answers.{numberOf}
 use Rattle.memory_judging.proofs.Verdicts.{says-same, says-plain}
 use Rattle.memory_judging.proofs.ByKind.{junk-answer}

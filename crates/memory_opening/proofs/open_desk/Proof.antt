@@ -1,8 +1,6 @@
 -- Questions 1 to 4 in turn, each return being the first that fails with the memory untouched; past them the cleared words, the kind and
 -- the roster are what an accepted opening leaves (`accepted`).
-use mathlib.Core.Path.{_∙_, sym}
-use borrow.Author.Needs.{needs}
-use borrow.Author.Tests.{not-true, not-false}
+use Rattle.integers.specs.Basics.{_∙_, sym, needs, not-true, not-false}
 use Rattle.limits.specs.Answers.{numberOf}
 use Rattle.memory_opening.proofs.Answers.{too-short, wrong-sizes, unknown-name, weight-out, accepted}
 use Rattle.memory_opening.proofs.open_desk.Statement.{statement}

@@ -1,7 +1,5 @@
 -- Each question that is answered no ends with its number; what was answered yes on the way is known where the next is asked.
-use mathlib.Core.Path.{_≡_}
-use mathlib.Core.Bool.{true}
-use borrow.Author.Needs.{needs}
+use Rattle.integers.specs.Basics.{_≡_, true, needs}
 use Rattle.limits.specs.Answers.{numberOf}
 use Rattle.book.specs.Decoding.{between}
 use Rattle.memory_layout.specs.View.{rosterOf}

@@ -1,7 +1,5 @@
 -- The desk is sound, so `listed_position`'s bounds hold of its parts; what it gives is the report of the desk's memory.
-use borrow.Author.Needs.{needs}
-use mir.Syntax.{w64}
-use mir.ValLaws.{toZ-ofZ}
+use Rattle.integers.specs.Basics.{w64, toZ-ofZ, needs}
 use Rattle.memory_layout.proofs.Lengths.{length-open}
 use Rattle.memory_soundness.proofs.SoundDesk.{sound-count, sound-records}
 use Rattle.memory_soundness.proofs.Bounded.{instrument-bounds}

@@ -1,5 +1,5 @@
 -- Each arm is given which item it is, and asks its number against how many there are of its kind.
-use borrow.Author.Needs.{needs}
+use Rattle.integers.specs.Basics.{needs}
 use Rattle.memory_reading.proofs.Reports.{asked}
 use Rattle.memory_reading.proofs.on_roster.Statement.{statement}
 use Rattle.memory_reading.proofs.on_roster.Tie as tie

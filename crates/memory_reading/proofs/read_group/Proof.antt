@@ -1,5 +1,5 @@
 -- `answer_to` asks the questions; where it accepts, the account is on a sound desk's roster, and the report is `group_report`'s.
-use borrow.Author.Needs.{needs}
+use Rattle.integers.specs.Basics.{needs}
 use Rattle.limits.specs.Answers.{numberOf}
 use Rattle.memory_reading.specs.Reading.{itemAnswer, groupAnswer}
 use Rattle.memory_reading.proofs.Reports.{allowed, is-zero, accepts, refuses}

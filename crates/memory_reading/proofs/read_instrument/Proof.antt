@@ -1,5 +1,5 @@
 -- `answer_to` asks the questions; where it accepts, both numbers are on a sound desk's roster, and the report is `instrument_report`'s.
-use borrow.Author.Needs.{needs}
+use Rattle.integers.specs.Basics.{needs}
 use Rattle.limits.specs.Answers.{numberOf}
 use Rattle.memory_reading.specs.Reading.{itemAnswer, instrumentAnswer}
 use Rattle.memory_reading.proofs.Reports.{allowed, is-zero, accepts, refuses}

@@ -1,11 +1,6 @@
 -- Eight tests in turn, each return being question 5's no by the first that fails; length, count and first make the records readable,
 -- a sound roster bounds every table, and the last test's answer is that of the whole.
-use Prim.Native.Nat.{_≤_}
-use mathlib.Core.Path.{_≡_, _∙_, sym}
-use mathlib.Core.Bool.{true}
-use native.Mathlib.Omega.{arith}
-use borrow.Author.Needs.{needs}
-use lib.ListN.{length}
+use Rattle.integers.specs.Basics.{_≤_, _≡_, _∙_, sym, true, length, arith, needs}
 use Rattle.words.specs.Words.{wordAt}
 use Rattle.memory_layout.specs.Layout.{kindWord, countWord}
 use Rattle.memory_layout.specs.Rosters.{longEnough}
@@ -17,8 +12,8 @@ use Rattle.memory_soundness.specs.Soundness.{rosterSound}
 use Rattle.memory_layout.specs.Readable.{Readable}
 use Rattle.memory_soundness.proofs.Asked.{answered-no, answered-yes}
 use Rattle.memory_soundness.proofs.RosterLaws.{readable, sound-sizes}
-use Rattle.memory_soundness.proofs.Whole.{too-short, other-kind, too-many, too-far, no-roster, no-lines}
-use Rattle.memory_soundness.proofs.Whole.{no-orders, the-rest, orders-alone}
+use Rattle.memory_soundness.proofs.Whole.{too-short, other-kind, too-many, too-far, no-roster, no-lines, no-orders, the-rest}
+use Rattle.memory_soundness.proofs.Whole.{orders-alone}
 use Rattle.memory_soundness.proofs.is_sound.Statement.{statement}
 use Rattle.memory_soundness.proofs.is_sound.Tie as tie
 

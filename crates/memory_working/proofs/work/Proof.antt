@@ -1,9 +1,6 @@
 -- Each kind's function gets the event by the name that the match gives it, with its figure as the machine holds it; what it did is what
 -- `worked` says of the event, and B and V are those of the orders that it leaves.
-use mathlib.Core.Path.{_≡_, _∙_}
-use borrow.Author.Needs.{needs}
-use mir.Syntax.{w64}
-use mir.Val.{toZ, ofZ}
+use Rattle.integers.specs.Basics.{_≡_, _∙_, w64, toZ, ofZ, needs}
 use Rattle.book.specs.declared.Event.the-variants.{Balance, Block}
 use Rattle.memory_working.specs.Working.{newOf, worked}
 use Rattle.memory_working.proofs.Handing.{handed, accepted-as, ready-as}

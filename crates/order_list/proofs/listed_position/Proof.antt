@@ -1,10 +1,5 @@
 -- S is the balance's word, and `open_in` gives B and V of the records by the list; `position_by` makes PCI and PVI of them.
-use Prim.Native.Nat.{_≤_}
-use mathlib.Core.Path.{_≡_, _∙_}
-use native.Mathlib.Omega.{arith}
-use borrow.Author.Needs.{needs}
-use mir.Syntax.{w64}
-use mir.ValLaws.{toZ-ofZ}
+use Rattle.integers.specs.Basics.{_≤_, _≡_, _∙_, w64, toZ-ofZ, arith, needs}
 use Rattle.words.specs.Words.{signedAt}
 use Rattle.ledger.specs.declared.order.Side.the-variants.{Buy, Sell}
 use Rattle.ledger.specs.Positions.{ofInstrument, openOn}

@@ -1,12 +1,5 @@
 -- The cell and the contracts are small, so that their sum as signed numbers is the cell's new number.
-use native.Mathlib.Omega.{arith}
-use mathlib.Core.Path.{_∙_, ap}
-use borrow.Author.Needs.{needs}
-use lib.IntN.{natAbs}
-use Prim.Native.Nat.{_+_}
-use mathlib.Core.Path.{_≡_}
-use lib.ListN.{getD}
-use Rattle.integers.specs.Parts.{signed, sum-parts, magnitude-parts}
+use Rattle.integers.specs.Basics.{_+_, _≡_, _∙_, ap, natAbs, getD, arith, needs, signed, magnitude-parts, sum-parts}
 use Rattle.integers.specs.Magnitude.{magnitude-sum}
 use Rattle.positions.specs.Gathered.{added}
 use Rattle.positions.proofs.add_to.Statement.{statement}

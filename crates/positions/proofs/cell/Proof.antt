@@ -1,5 +1,5 @@
 -- A buy's cell is the instrument's number and a sell's stands 32 behind it, as the definition has it; 64 is the largest.
-use borrow.Author.Needs.{needs}
+use Rattle.integers.specs.Basics.{needs}
 use Rattle.positions.proofs.cell.Statement.{statement}
 use Rattle.positions.proofs.cell.Tie as tie
 

@@ -1,10 +1,5 @@
 -- A detail's lowest six bits are the side and the instrument less 1, so that one more is the cell.
-use native.Mathlib.Decide.{ℕ-discrete}
-use native.Mathlib.Omega.{arith}
-use borrow.Author.Needs.{needs}
-use borrow.Author.Tests.{eq-eqb, ne-eqb}
-use Prim.Native.Nat.{ℕ, _+_, _/_, _%_}
-use mathlib.Core.Path.{_≡_}
+use Rattle.integers.specs.Basics.{ℕ, _+_, _/_, _%_, _≡_, ℕ-discrete, arith, needs, eq-eqb, ne-eqb}
 use Rattle.ledger.specs.Records.{packedSide, packedInstrument}
 use Rattle.positions.specs.Gathered.{cell}
 use Rattle.positions.proofs.cell_of.Statement.{statement}

@@ -1,6 +1,5 @@
 -- Another account, instrument or side counts 0; where all three agree the order counts what remains of it: one law for each return.
-use mathlib.Core.Path.{_∙_, sym}
-use borrow.Author.Needs.{needs}
+use Rattle.integers.specs.Basics.{_∙_, sym, needs}
 use Rattle.positions.proofs.Counting.{counted-other-account, counted-other-instrument, counted-other-side, counted-own}
 use Rattle.positions.proofs.counted.Statement.{statement}
 use Rattle.positions.proofs.counted.Tie as tie

@@ -1,9 +1,5 @@
 -- The cells hold B and V of the account in the records that are passed: an order adds to its cell what it counts for there.
-use Prim.Native.Nat.{_+_, _-_, _≤_, _<_}
-use mathlib.Core.Path.{_≡_, refl, _∙_}
-use native.Mathlib.Omega.{arith}
-use lib.ListN.{length, getD}
-use Rattle.integers.specs.Parts.{signed}
+use Rattle.integers.specs.Basics.{_+_, _-_, _≤_, _<_, _≡_, refl, _∙_, length, getD, arith, signed}
 use Rattle.positions.proofs.Gathering.{PassedOf, passed-none, row-fits, row-more, passed-all}
 use Rattle.positions.proofs.gather.Statement.{statement}
 use Rattle.positions.proofs.gather.Tie as tie

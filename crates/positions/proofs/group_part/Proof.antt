@@ -1,10 +1,5 @@
 -- A weight below 0 takes the other side's position times its magnitude (`part-other`), any other its own side's (`part-own`).
-use mathlib.Core.Path.{_∙_, sym, ap}
-use native.Mathlib.Omega.{arith}
-use borrow.Author.Needs.{needs}
-use lib.IntN.{pos, natAbs}
-use lib.Signed.{_≤ℤ_, _<ℤ_}
-use Rattle.integers.specs.Parts.{signed}
+use Rattle.integers.specs.Basics.{_∙_, sym, ap, pos, natAbs, _≤ℤ_, _<ℤ_, arith, needs, signed}
 use Rattle.integers.specs.Magnitude.{magnitude-negation}
 use Rattle.ledger.specs.Positions.{wayOf}
 use Rattle.ledger.proofs.Fits.{small-again, negation-fits, negation-again}

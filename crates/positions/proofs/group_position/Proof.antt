@@ -1,5 +1,5 @@
 -- The cells gathered hold B and V of the account, so that the weighed sum by them is PCC and PVC.
-use mathlib.Core.Path.{refl, sym}
+use Rattle.integers.specs.Basics.{refl, sym}
 use Rattle.ledger.specs.Positions.{long, short}
 use Rattle.positions.proofs.Gathering.{empty-at}
 use Rattle.positions.proofs.Weighing.{cells-small, sum-potential}

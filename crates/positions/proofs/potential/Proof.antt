@@ -1,8 +1,5 @@
 -- PCI is S + B and PVI −S + V: negating S keeps its magnitude, so the bound on both magnitudes is that of either sum.
-use mathlib.Core.Path.{ap}
-use native.Mathlib.Omega.{arith}
-use borrow.Author.Needs.{needs}
-use lib.IntN.{natAbs}
+use Rattle.integers.specs.Basics.{ap, natAbs, arith, needs}
 use Rattle.integers.specs.Magnitude.{magnitude-negation}
 use Rattle.positions.proofs.potential.Statement.{statement}
 use Rattle.positions.proofs.potential.Tie as tie

@@ -1,8 +1,5 @@
 -- The sum of the parts of the instruments that are passed, from none on; with all of them it is the group's position.
-use Prim.Native.Nat.{ℕ, _+_, _-_, _≤_}
-use mathlib.Core.Path.{_≡_, _∙_, ap}
-use native.Mathlib.Omega.{arith}
-use borrow.Author.Needs.{needs}
+use Rattle.integers.specs.Basics.{ℕ, _+_, _-_, _≤_, _≡_, _∙_, ap, arith, needs}
 use Rattle.words.specs.Words.{signedAt}
 use Rattle.ledger.specs.Positions.{Way, long}
 use Rattle.ledger.specs.Records.{rosterIn}

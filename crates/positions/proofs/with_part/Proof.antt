@@ -1,12 +1,6 @@
 -- An instrument outside the group adds nothing; one inside adds its part on either side (`part-inside`), read by the roster's words for
 -- contract, group and weight. Weights and positions are bounded, so the sums fit 64 bits.
-use Prim.Native.Nat.{_≤_, _+_}
-use mathlib.Core.Path.{_≡_, _∙_, sym, ap}
-use native.Mathlib.Omega.{arith}
-use borrow.Author.Needs.{needs}
-use lib.IntN.{ℤ, natAbs, _+ℤ_}
-use mir.Syntax.{w64}
-use mir.ValLaws.{toZ-ofZ}
+use Rattle.integers.specs.Basics.{_+_, _≤_, _≡_, _∙_, sym, ap, ℤ, natAbs, _+ℤ_, w64, toZ-ofZ, arith, needs}
 use Rattle.words.specs.Words.{signedAt}
 use Rattle.ledger.specs.Positions.{long, short, Way, groupPart}
 use Rattle.ledger.specs.Records.{rosterIn}

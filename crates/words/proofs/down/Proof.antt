@@ -1,7 +1,5 @@
 -- Each turn stores one of the words that were still to be stored, lower than the words still to be read.
-use Prim.Native.Nat.{_-_}
-use native.Mathlib.Omega.{arith}
-use borrow.Author.Needs.{needs}
+use Rattle.integers.specs.Basics.{_-_, arith, needs}
 use Rattle.words.proofs.Moves.{Falls, falls-start, falls-turn, falls-end}
 use Rattle.words.proofs.down.Statement.{statement}
 use Rattle.words.proofs.down.Tie as tie

@@ -1,8 +1,5 @@
 -- The bytes from 8k to 8(k + n) are the definition's 8n bytes from 8k on: the difference of the ends is 8n.
-use Prim.Native.Nat.{_+_, _*_, _-_}
-use mathlib.Core.Path.{_≡_}
-use native.Mathlib.Omega.{arith}
-use borrow.Author.Needs.{needs}
+use Rattle.integers.specs.Basics.{_+_, _*_, _-_, _≡_, arith, needs}
 use Rattle.words.specs.Words.{partOf}
 use Rattle.words.proofs.part.Statement.{statement}
 use Rattle.words.proofs.part.Tie as tie

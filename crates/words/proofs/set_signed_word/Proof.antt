@@ -1,8 +1,5 @@
 -- The word stored is the number's two's complement bits, as `bits64` makes them of a number that fits 64 bits.
-use mathlib.Core.Path.{_∙_, ap}
-use borrow.Author.Needs.{needs}
-use mir.Syntax.{w64}
-use mir.ValLaws.{toZ-ofZ}
+use Rattle.integers.specs.Basics.{_∙_, ap, w64, toZ-ofZ, needs}
 use Rattle.integers.specs.TwosComplement.{bitsOf}
 use Rattle.words.specs.Words.{putWord, putSigned}
 use Rattle.words.proofs.set_signed_word.Statement.{statement}

@@ -1,8 +1,5 @@
 -- Byte by byte the stores are those of `putWord`; a store keeps the length, so the next byte is inside too.
-use mathlib.Core.Path.{sym}
-use native.Mathlib.Omega.{arith}
-use borrow.Author.Needs.{needs}
-use lib.ListN.{length-set}
+use Rattle.integers.specs.Basics.{sym, length-set, arith, needs}
 use Rattle.words.specs.Words.{putWord}
 use Rattle.words.proofs.Unrolled.{store-eight}
 use Rattle.words.proofs.set_word.Statement.{statement}

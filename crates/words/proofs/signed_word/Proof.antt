@@ -1,6 +1,5 @@
 -- The word's bits, read in two's complement: what `signed64` made of them fits 64 bits, so it is read back.
-use borrow.Author.Needs.{needs}
-use mir.Syntax.{w64}
+use Rattle.integers.specs.Basics.{w64, needs}
 use Rattle.words.specs.Words.{signedAt}
 use Rattle.words.proofs.Complement.{read-signed}
 use Rattle.words.proofs.signed_word.Statement.{statement}

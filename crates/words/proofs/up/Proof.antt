@@ -1,9 +1,5 @@
 -- The words from i on have moved (`risen-turn`). The last goes first, so a store never reaches a word that is still to be read.
-use Prim.Native.Nat.{_≤_}
-use mathlib.Core.Path.{_≡_, refl, _∙_}
-use native.Mathlib.Omega.{arith}
-use borrow.Author.Needs.{needs}
-use lib.ListN.{length}
+use Rattle.integers.specs.Basics.{_≤_, _≡_, refl, _∙_, length, arith, needs}
 use Rattle.words.proofs.Moves.{risen, risen-start, risen-turn, risen-end}
 use Rattle.words.proofs.up.Statement.{statement}
 use Rattle.words.proofs.up.Tie as tie

@@ -1,5 +1,5 @@
 -- Word k is the unsigned field at byte 8k: both unfold to the same eight bytes.
-use borrow.Author.Needs.{needs}
+use Rattle.integers.specs.Basics.{needs}
 use Rattle.words.specs.Words.{wordAt}
 use Rattle.words.specs.Fields.{u64At}
 use Rattle.words.proofs.word.Statement.{statement}

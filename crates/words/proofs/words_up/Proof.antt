@@ -1,7 +1,5 @@
 -- The loop over the part from word k on moves it by `by`; what is before the part stays, so the whole has moved (`moved-behind`).
-use mathlib.Core.Path.{refl}
-use native.Mathlib.Omega.{arith}
-use borrow.Author.Needs.{needs}
+use Rattle.integers.specs.Basics.{refl, arith, needs}
 use Rattle.words.proofs.Parts.{moved-behind}
 use Rattle.words.proofs.words_up.Statement.{statement}
 use Rattle.words.proofs.words_up.Tie as tie

@@ -1,12 +1,5 @@
 -- The conjunction of four tests for −1, in its order: the first figure that is not −1 makes it false, else the last decides.
-use mathlib.Core.Path.{_≡_, _∙_, sym, ap}
-use mathlib.Core.Bool.{Bool, true, false, not}
-use borrow.Author.Needs.{needs}
-use borrow.Author.Tests.{not-true, not-false}
-use lib.IntN.{ℤ}
-use mir.Syntax.{w64}
-use mir.Val.{SFits, toZ, ofZ}
-use mir.ValLaws.{toZ-ofZ}
+use Rattle.integers.specs.Basics.{_≡_, _∙_, sym, ap, Bool, true, false, not, ℤ, w64, SFits, toZ, ofZ, toZ-ofZ, needs, not-true, not-false}
 use Rattle.book.specs.Books.{isMinusOne, unsets}
 use Rattle.book.proofs.Figures.unsets.Statement.{statement}
 use Rattle.book.proofs.Figures.unsets.Tie as tie

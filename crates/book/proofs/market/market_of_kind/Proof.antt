@@ -1,5 +1,5 @@
 -- The two figures that the code gives are those of the definition.
-use borrow.Author.Tests.{ne-eqb}
+use Rattle.integers.specs.Basics.{ne-eqb}
 use Rattle.book.specs.Market.{largestOf, marketOfKind}
 use Rattle.book.proofs.market.market_of_kind.Statement.{statement}
 use Rattle.book.proofs.market.market_of_kind.Tie as tie

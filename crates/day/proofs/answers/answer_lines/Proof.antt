@@ -1,10 +1,5 @@
 -- Safe: a place fits 64 bits, since `before` is below 2^63, and the tens have at most 19 digits, made anew or not, as a line asks.
-use Prim.Native.Nat.{_-_, _≤_}
-use mathlib.Core.Logic.{⊎-elim}
-use mathlib.Core.Path.{_≡_}
-use native.Mathlib.Omega.{arith}
-use lib.ListN.{length}
-use borrow.Author.Needs.{needs}
+use Rattle.integers.specs.Basics.{_-_, _≤_, _≡_, ⊎-elim, length, arith, needs}
 use Rattle.day.proofs.answers.answer_lines.Statement.{statement}
 use Rattle.day.proofs.answers.answer_lines.Tie as tie
 

@@ -1,8 +1,5 @@
 -- All 20 bytes are within the buffer, since it has 20 from `at` on and keeps its length.
-use Prim.Native.Nat.{_-_}
-use mathlib.Core.Path.{_≡_}
-use lib.ListN.{length}
-use borrow.Author.Needs.{needs}
+use Rattle.integers.specs.Basics.{_-_, _≡_, length, needs}
 use Rattle.day.proofs.answers.put_tens.Statement.{statement}
 use Rattle.day.proofs.answers.put_tens.Tie as tie
 

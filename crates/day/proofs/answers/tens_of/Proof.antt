@@ -1,8 +1,6 @@
 -- A tenth of a 64-bit number is below 10^19, so its fewest digits are at most 19; a place below 10 has none.
-use Prim.Native.Nat.{ℕ, _-_, _/_, _^_, _≤_, _<_}
+use Rattle.integers.specs.Basics.{ℕ, _-_, _/_, _^_, _≤_, _<_, arith, needs}
 use native.Mathlib.Nat.{lt-of-not-le, pow-le-pow-right}
-use native.Mathlib.Omega.{arith}
-use borrow.Author.Needs.{needs}
 use Rattle.io.specs.Digits.{Fewest}
 use Rattle.day.proofs.answers.tens_of.Statement.{statement}
 use Rattle.day.proofs.answers.tens_of.Tie as tie

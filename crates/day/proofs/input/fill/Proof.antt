@@ -1,8 +1,5 @@
 -- Every read is between `done` and `end`, and the block reaches to `end`; a turn reads at least a byte and at most what is missing.
-use Prim.Native.Nat.{_-_, _≤_}
-use mathlib.Core.Path.{_≡_}
-use lib.ListN.{length}
-use borrow.Author.Needs.{needs}
+use Rattle.integers.specs.Basics.{_-_, _≤_, _≡_, length, needs}
 use Rattle.day.proofs.input.fill.Statement.{statement}
 use Rattle.day.proofs.input.fill.Tie as tie
 

@@ -1,8 +1,5 @@
 -- Each byte of the text is read within it, and the buffer keeps its length through every `put`.
-use Prim.Native.Nat.{_-_}
-use mathlib.Core.Path.{_≡_}
-use lib.ListN.{length}
-use borrow.Author.Needs.{needs}
+use Rattle.integers.specs.Basics.{_-_, _≡_, length, needs}
 use Rattle.day.proofs.output.put_all.Statement.{statement}
 use Rattle.day.proofs.output.put_all.Tie as tie
 

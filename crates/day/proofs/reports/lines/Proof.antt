@@ -1,8 +1,5 @@
 -- Safe: a + 1 and i + 1 are at most the numbers counted to, so they fit 16 bits; no line changes the buffer's length.
-use Prim.Native.Nat.{_-_}
-use mathlib.Core.Path.{_≡_}
-use lib.ListN.{length}
-use borrow.Author.Needs.{needs}
+use Rattle.integers.specs.Basics.{_-_, _≡_, length, needs}
 use Rattle.day.proofs.reports.lines.Statement.{statement}
 use Rattle.day.proofs.reports.lines.Tie as tie
 

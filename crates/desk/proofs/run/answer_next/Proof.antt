@@ -1,8 +1,6 @@
 -- An unsound desk answers 5 and writes nothing (`unsound-event`); a sound one steps on the decoded event (`sound-event`). Either way
 -- the memory stays as sound as it was (`sound-after`), so the next event need not ask again.
-use mathlib.Core.Path.{_∙_, sym, ap}
-use borrow.Author.Needs.{needs}
-use borrow.Author.Tests.{not-false}
+use Rattle.integers.specs.Basics.{_∙_, sym, ap, needs, not-false}
 use Rattle.memory_soundness.specs.Soundness.{soundDesk}
 use Rattle.memory_soundness.proofs.Asked.{answered-no, answered-yes}
 use Rattle.memory_soundness.proofs.SoundDesk.{sound-out}

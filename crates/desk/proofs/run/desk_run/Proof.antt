@@ -1,13 +1,6 @@
 -- What is left to answer from memory, room and place as they stand is what the whole run answers (`Running`). A turn cuts off one event,
 -- which has at least one byte, so the loop ends; question 5 is asked once, since each turn leaves `sound` and the sums true.
-use Prim.Native.Nat.{_-_}
-use mathlib.Core.Path.{_≡_, refl, _∙_}
-use mathlib.Core.Bool.{true}
-use mathlib.Core.Logic.{inr}
-use native.Mathlib.Omega.{arith}
-use borrow.Author.Needs.{needs}
-use borrow.Author.Tests.{ltb-true, ltb-false}
-use lib.ListN.{length}
+use Rattle.integers.specs.Basics.{_-_, _≡_, refl, _∙_, inr, true, length, arith, needs, ltb-true, ltb-false}
 use Rattle.memory_layout.specs.View.{openOrders}
 use Rattle.memory_soundness.specs.Soundness.{soundDesk}
 use Rattle.memory_soundness.specs.Cells.{Sums}

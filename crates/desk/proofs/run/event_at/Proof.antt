@@ -1,6 +1,6 @@
 -- Fewer than 48 bytes left are taken whole (`rest-taken`), else the next 48.
 use native.Mathlib.Nat.{add-sub-cancel-left}
-use borrow.Author.Needs.{needs}
+use Rattle.integers.specs.Basics.{needs}
 use Rattle.desk.proofs.Cutting.{rest-taken}
 use Rattle.desk.proofs.run.event_at.Statement.{statement}
 use Rattle.desk.proofs.run.event_at.Tie as tie

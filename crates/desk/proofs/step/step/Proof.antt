@@ -1,6 +1,5 @@
 -- An acceptance works the event, which is ready because the judge hands on the order that it names; a refusal changes nothing.
-use mathlib.Core.Path.{sym, _∙_}
-use borrow.Author.Needs.{needs}
+use Rattle.integers.specs.Basics.{_∙_, sym, needs}
 use Rattle.limits.specs.Answers.{numberOf}
 use Rattle.desk.proofs.Stepped.{is-zero, stepped-worked, stepped-same}
 use Rattle.desk.proofs.step.step.Statement.{statement}

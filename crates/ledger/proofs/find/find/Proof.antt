@@ -1,7 +1,5 @@
 -- The loop yields the first place from `from` on: a record that it leaves has another id, so the first place from p on stays the same.
-use Prim.Native.Nat.{_-_, _≤_}
-use mathlib.Core.Path.{_≡_, refl, _∙_, sym}
-use native.Mathlib.Omega.{arith}
+use Rattle.integers.specs.Basics.{_-_, _≤_, _≡_, refl, _∙_, sym, arith}
 use Rattle.ledger.proofs.Details.{id-at}
 use Rattle.ledger.proofs.Search.{seek, seek-end, seek-here, seek-on}
 use Rattle.ledger.proofs.find.find.Statement.{statement}

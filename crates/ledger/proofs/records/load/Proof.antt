@@ -1,5 +1,5 @@
 -- The record's two words are the id and the detail, and the order is theirs.
-use borrow.Author.Needs.{needs}
+use Rattle.integers.specs.Basics.{needs}
 use Rattle.ledger.specs.Records.{orderAt}
 use Rattle.ledger.proofs.records.load.Statement.{statement}
 use Rattle.ledger.proofs.records.load.Tie as tie

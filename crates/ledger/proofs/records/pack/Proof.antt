@@ -1,5 +1,5 @@
 -- Account, side and instrument make one number as the definition has it; both count from 1, so neither difference is below 0.
-use borrow.Author.Needs.{needs}
+use Rattle.integers.specs.Basics.{needs}
 use Rattle.ledger.specs.Records.{packed}
 use Rattle.ledger.proofs.records.pack.Statement.{statement}
 use Rattle.ledger.proofs.records.pack.Tie as tie

@@ -1,5 +1,5 @@
 -- Bit 5 of the detail is the side, 0 a buy: the branch tests what the definition tests.
-use borrow.Author.Tests.{eq-eqb, ne-eqb}
+use Rattle.integers.specs.Basics.{eq-eqb, ne-eqb}
 use Rattle.ledger.specs.Records.{packedSide}
 use Rattle.ledger.proofs.records.packed_side.Statement.{statement}
 use Rattle.ledger.proofs.records.packed_side.Tie as tie

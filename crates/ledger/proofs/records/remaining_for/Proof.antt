@@ -1,7 +1,5 @@
 -- What remains times 1 where the detail's account is the given one, and times 0 elsewhere (`part-is`).
-use mathlib.Core.Path.{_∙_}
-use native.Mathlib.Omega.{arith}
-use borrow.Author.Needs.{needs}
+use Rattle.integers.specs.Basics.{_∙_, arith, needs}
 use Rattle.ledger.proofs.Details.{part-is, part-small}
 use Rattle.ledger.proofs.records.remaining_for.Statement.{statement}
 use Rattle.ledger.proofs.records.remaining_for.Tie as tie

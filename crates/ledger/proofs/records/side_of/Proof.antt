@@ -1,5 +1,5 @@
 -- 1 is a buy and any other number a sell, as the definition's test has it.
-use borrow.Author.Tests.{eq-eqb, ne-eqb}
+use Rattle.integers.specs.Basics.{eq-eqb, ne-eqb}
 use Rattle.ledger.specs.Records.{sideOf}
 use Rattle.ledger.proofs.records.side_of.Statement.{statement}
 use Rattle.ledger.proofs.records.side_of.Tie as tie

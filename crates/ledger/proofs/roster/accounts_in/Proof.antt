@@ -1,5 +1,5 @@
 -- The first word is the number of accounts, by definition.
-use borrow.Author.Needs.{needs}
+use Rattle.integers.specs.Basics.{needs}
 use Rattle.ledger.specs.Records.{rosterIn}
 use Rattle.ledger.proofs.roster.accounts_in.Statement.{statement}
 use Rattle.ledger.proofs.roster.accounts_in.Tie as tie

@@ -1,5 +1,5 @@
 -- The third word is the number of contracts, by definition.
-use borrow.Author.Needs.{needs}
+use Rattle.integers.specs.Basics.{needs}
 use Rattle.ledger.specs.Records.{rosterIn}
 use Rattle.ledger.proofs.roster.contracts_in.Statement.{statement}
 use Rattle.ledger.proofs.roster.contracts_in.Tie as tie

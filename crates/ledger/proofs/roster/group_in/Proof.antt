@@ -1,5 +1,5 @@
 -- The word is that number's in the table of groups of contracts, by definition.
-use borrow.Author.Needs.{needs}
+use Rattle.integers.specs.Basics.{needs}
 use Rattle.ledger.specs.Records.{rosterIn}
 use Rattle.ledger.proofs.roster.group_in.Statement.{statement}
 use Rattle.ledger.proofs.roster.group_in.Tie as tie

@@ -1,5 +1,5 @@
 -- The second word is the number of groups, by definition.
-use borrow.Author.Needs.{needs}
+use Rattle.integers.specs.Basics.{needs}
 use Rattle.ledger.specs.Records.{rosterIn}
 use Rattle.ledger.proofs.roster.groups_in.Statement.{statement}
 use Rattle.ledger.proofs.roster.groups_in.Tie as tie

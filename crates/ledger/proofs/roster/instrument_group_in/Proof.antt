@@ -1,6 +1,5 @@
 -- The group of the contract that was read, which is the instrument's.
-use mathlib.Core.Path.{_∙_}
-use borrow.Author.Needs.{needs}
+use Rattle.integers.specs.Basics.{_∙_, needs}
 use Rattle.ledger.specs.Roster.{groupOfInstrument}
 use Rattle.ledger.proofs.roster.instrument_group_in.Statement.{statement}
 use Rattle.ledger.proofs.roster.instrument_group_in.Tie as tie

@@ -1,5 +1,5 @@
 -- The fourth word is the number of instruments, by definition.
-use borrow.Author.Needs.{needs}
+use Rattle.integers.specs.Basics.{needs}
 use Rattle.ledger.specs.Records.{rosterIn}
 use Rattle.ledger.proofs.roster.instruments_in.Statement.{statement}
 use Rattle.ledger.proofs.roster.instruments_in.Tie as tie

@@ -1,8 +1,5 @@
 -- The signed word is the instrument's in the table of weights, by definition; it fits 64 bits, so it is read back.
-use mathlib.Core.Path.{_∙_}
-use borrow.Author.Needs.{needs}
-use mir.Syntax.{w64}
-use mir.ValLaws.{toZ-ofZ}
+use Rattle.integers.specs.Basics.{_∙_, w64, toZ-ofZ, needs}
 use Rattle.ledger.specs.Records.{rosterIn}
 use Rattle.ledger.proofs.roster.weight_in.Statement.{statement}
 use Rattle.ledger.proofs.roster.weight_in.Tie as tie

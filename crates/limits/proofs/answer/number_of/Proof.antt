@@ -1,12 +1,5 @@
 -- Each way through the cast gives the number that its variant names, which is the number of the answer; none is above 255.
-use Prim.Native.Nat.{ℕ, _≤_}
-use mathlib.Core.Path.{_≡_, refl}
-use mathlib.Core.Logic.{⊎-elim}
-use native.Mathlib.Omega.{arith}
-use borrow.Author.Needs.{needs}
-use lib.IntN.{pos}
-use mir.Syntax.{w64}
-use mir.Val.{toZ}
+use Rattle.integers.specs.Basics.{ℕ, _≤_, _≡_, refl, ⊎-elim, pos, w64, toZ, arith, needs}
 use mir.ValLaws.{toZ-pos}
 use Rattle.limits.specs.declared.answer.Answer.{Answer}
 use Rattle.limits.specs.Answers.{numberOf}

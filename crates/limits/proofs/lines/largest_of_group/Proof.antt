@@ -1,7 +1,5 @@
 -- The side's figure in the group line is its largest position.
-use mathlib.Core.Path.{_∙_, ap}
-use borrow.Author.Needs.{needs}
-use lib.IntN.{pos}
+use Rattle.integers.specs.Basics.{_∙_, ap, pos, needs}
 use Rattle.limits.proofs.LinesRead.{group-figure}
 use Rattle.limits.proofs.lines.largest_of_group.Statement.{statement}
 use Rattle.limits.proofs.lines.largest_of_group.Tie as tie

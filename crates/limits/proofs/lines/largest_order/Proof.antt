@@ -1,7 +1,5 @@
 -- The side's figure in the line's first word is its largest order.
-use mathlib.Core.Path.{_∙_, ap}
-use borrow.Author.Needs.{needs}
-use lib.IntN.{pos}
+use Rattle.integers.specs.Basics.{_∙_, ap, pos, needs}
 use Rattle.limits.proofs.LinesRead.{order-figure}
 use Rattle.limits.proofs.lines.largest_order.Statement.{statement}
 use Rattle.limits.proofs.lines.largest_order.Tie as tie

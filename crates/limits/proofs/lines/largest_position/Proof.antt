@@ -1,7 +1,5 @@
 -- The side's figure in the line's second word is its largest position.
-use mathlib.Core.Path.{_∙_, ap}
-use borrow.Author.Needs.{needs}
-use lib.IntN.{pos}
+use Rattle.integers.specs.Basics.{_∙_, ap, pos, needs}
 use Rattle.limits.proofs.LinesRead.{position-figure}
 use Rattle.limits.proofs.lines.largest_position.Statement.{statement}
 use Rattle.limits.proofs.lines.largest_position.Tie as tie

@@ -1,6 +1,5 @@
 -- A set own line is the line in force (`own-part`), else the default line is (`default-part`): the branch tests the own set word.
-use mathlib.Core.Path.{_∙_}
-use borrow.Author.Needs.{needs}
+use Rattle.integers.specs.Basics.{_∙_, needs}
 use Rattle.limits.proofs.LinesRead.{own-part, default-part}
 use Rattle.limits.proofs.InOrder.{word-set, word-unset}
 use Rattle.limits.proofs.lines.line_in_force.Statement.{statement}

@@ -1,9 +1,5 @@
 -- The four bytes of the side in the word, which fit as contracts.
-use Prim.Native.Nat.{ℕ, _+_}
-use mathlib.Core.Path.{_∙_, ap}
-use native.Mathlib.Omega.{arith}
-use borrow.Author.Needs.{needs}
-use lib.IntN.{pos}
+use Rattle.integers.specs.Basics.{ℕ, _+_, _∙_, ap, pos, arith, needs}
 use Rattle.words.specs.Fields.{u32At}
 use Rattle.limits.proofs.LinesRead.{side-below}
 use Rattle.limits.proofs.lines.side_figure.Statement.{statement}

@@ -1,5 +1,5 @@
 -- 17 fails where the group's set word is 0, or both the own and the default one: the branches go through `existence`'s cases.
-use mathlib.Core.Path.{_∙_, sym}
+use Rattle.integers.specs.Basics.{_∙_, sym}
 use Rattle.limits.specs.Answers.{numberOf}
 use Rattle.limits.proofs.InOrder.{word-set, word-unset, existence}
 use Rattle.limits.proofs.questions.limits_exist.Statement.{statement}

@@ -1,8 +1,5 @@
 -- The test of the total against the side's figure is the size question's own: the first no is the side's, or none.
-use mathlib.Core.Path.{_≡_, _∙_, sym, ap}
-use mathlib.Core.Bool.{Bool, true, false, cond}
-use borrow.Author.Needs.{needs}
-use lib.IntN.{pos}
+use Rattle.integers.specs.Basics.{_≡_, _∙_, sym, ap, Bool, true, false, cond, pos, needs}
 use Rattle.ledger.specs.declared.order.Order.{Order}
 use Rattle.ledger.specs.Roster.{Roster}
 use Rattle.ledger.specs.Derivatives.{one}

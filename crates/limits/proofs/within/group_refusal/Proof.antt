@@ -1,5 +1,5 @@
 -- Each arm's refusal has the number of the group's question on that side.
-use borrow.Author.Needs.{needs}
+use Rattle.integers.specs.Basics.{needs}
 use Rattle.limits.specs.Answers.{numberOf}
 use Rattle.limits.proofs.within.group_refusal.Statement.{statement}
 use Rattle.limits.proofs.within.group_refusal.Tie as tie

@@ -1,11 +1,5 @@
 -- A weight below 0 turns the side (`turns`), any other keeps it (`keeps`): what the definition's `wayBy` does.
-use mathlib.Core.Path.{_∙_, sym, ap}
-use borrow.Author.Needs.{needs}
-use lib.IntN.{pos}
-use lib.Signed.{_≤ℤ_, _<ℤ_}
-use mir.Syntax.{w64}
-use mir.ValLaws.{toZ-ofZ}
-use Rattle.integers.specs.Parts.{signed}
+use Rattle.integers.specs.Basics.{_∙_, sym, ap, pos, _≤ℤ_, _<ℤ_, w64, toZ-ofZ, needs, signed}
 use Rattle.ledger.specs.declared.order.Side.{Side}
 use Rattle.ledger.specs.Positions.{opposite, wayOf}
 use Rattle.limits.proofs.Signs.{turns, keeps}

@@ -1,8 +1,5 @@
 -- What the weighed cells give on the side, and the rise times the weight's magnitude: both fit, and their sum is taken.
-use mathlib.Core.Path.{_≡_, _∙_, ap}
-use native.Mathlib.Omega.{arith}
-use borrow.Author.Needs.{needs}
-use lib.IntN.{ℤ, pos, natAbs, _*ℤ_}
+use Rattle.integers.specs.Basics.{_≡_, _∙_, ap, ℤ, pos, natAbs, _*ℤ_, arith, needs}
 use Rattle.ledger.specs.Positions.{wayOf}
 use Rattle.ledger.specs.Records.{balancesIn, rosterIn}
 use Rattle.ledger.proofs.Fits.{again, small-again}

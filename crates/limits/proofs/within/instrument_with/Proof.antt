@@ -1,11 +1,5 @@
 -- The balance and the cell of the order's side are small: with the rise they make PCI or PVI.
-use Prim.Native.Nat.{_≤_, _<_}
-use mathlib.Core.Path.{_≡_, _∙_, ap}
-use native.Mathlib.Omega.{arith}
-use lib.ListN.{length, getD}
-use lib.IntN.{ℤ, pos, natAbs, _+ℤ_}
-use mir.Syntax.{w64}
-use mir.ValLaws.{toZ-ofZ}
+use Rattle.integers.specs.Basics.{_≤_, _<_, _≡_, _∙_, ap, ℤ, pos, natAbs, _+ℤ_, length, getD, w64, toZ-ofZ, arith}
 use Rattle.integers.specs.Magnitude.{magnitude-sum}
 use Rattle.ledger.specs.Records.{balancesIn}
 use Rattle.ledger.proofs.Fits.{again}

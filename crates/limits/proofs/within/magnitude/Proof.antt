@@ -1,9 +1,5 @@
 -- The weight itself, or its negation below 0, is its magnitude; at most 1,000,000, the negation fits 64 bits.
-use mathlib.Core.Path.{_∙_}
-use native.Mathlib.Omega.{arith}
-use lib.IntN.{pos}
-use lib.Signed.{_≤ℤ_, _<ℤ_}
-use Rattle.integers.specs.Parts.{signed}
+use Rattle.integers.specs.Basics.{_∙_, pos, _≤ℤ_, _<ℤ_, arith, signed}
 use Rattle.ledger.proofs.Fits.{small-again, negation-fits, negation-again}
 use Rattle.limits.proofs.Signs.{negated, itself}
 use Rattle.limits.proofs.within.magnitude.Statement.{statement}

@@ -1,16 +1,6 @@
 -- The tests of the instrument's and the group's position are the questions' own, in their order.
-use Prim.Native.Nat.{ℕ}
-use mathlib.Core.Path.{_≡_, _∙_, sym, ap}
-use mathlib.Core.Bool.{Bool, true, false, cond}
-use mathlib.Core.List.{List}
-use native.Mathlib.Omega.{arith}
-use borrow.Author.Needs.{needs}
-use borrow.Author.Tests.{not-true, not-false}
-use lib.IntN.{pos, natAbs, _+ℤ_, _*ℤ_}
-use lib.Signed.{leZ}
-use mir.Syntax.{w64}
-use mir.Val.{toZ, ofZ}
-use mir.ValLaws.{toZ-ofZ}
+use Rattle.integers.specs.Basics.{ℕ, _≡_, _∙_, sym, ap, Bool, true, false, cond, List, pos, natAbs, _+ℤ_, _*ℤ_, leZ, w64, toZ, ofZ, toZ-ofZ}
+use Rattle.integers.specs.Basics.{arith, needs, not-true, not-false}
 use Rattle.ledger.specs.declared.order.Order.{Order}
 use Rattle.ledger.specs.Positions.{wayOf, ofInstrument}
 use Rattle.ledger.specs.Records.{balancesIn, rosterIn}

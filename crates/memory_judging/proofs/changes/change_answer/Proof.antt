@@ -1,10 +1,5 @@
 -- Each change by its own questions, with its figure, which is in range, as a whole number.
-use mathlib.Core.Path.{_≡_, _∙_, sym, ap}
-use mathlib.Core.Bool.{true}
-use borrow.Author.Needs.{needs}
-use mir.Syntax.{w64}
-use mir.Val.{SFits}
-use mir.ValLaws.{toZ-ofZ}
+use Rattle.integers.specs.Basics.{_≡_, _∙_, sym, ap, true, w64, SFits, toZ-ofZ, needs}
 use Rattle.ledger.specs.Records.{orderOf}
 use Rattle.limits.specs.Questions.{firstNo}
 use Rattle.limits.specs.Answers.{numberOf}

@@ -1,10 +1,5 @@
 -- The answer is 0 or 12 as the quantity is at most what remains of the order or not: the branch compares these two numbers.
-use Prim.Native.Nat.{ℕ}
-use mathlib.Core.Path.{sym, ap}
-use mathlib.Core.Bool.{Bool, cond}
-use native.Mathlib.Omega.{arith}
-use borrow.Author.Needs.{needs}
-use borrow.Author.Tests.{le-leb, lt-leb}
+use Rattle.integers.specs.Basics.{ℕ, sym, ap, Bool, cond, arith, needs, le-leb, lt-leb}
 use Rattle.ledger.specs.Orders.{remaining}
 use Rattle.ledger.specs.Records.{orderOf}
 use Rattle.limits.specs.Answers.{numberOf}

@@ -1,9 +1,5 @@
 -- 9, then 11 by the search, then the rest asked of the order whose detail is loaded from the place that the search found.
-use mathlib.Core.Path.{_≡_, sym, ap, _∙_}
-use mathlib.Core.Bool.{true}
-use mathlib.Core.Option.{some}
-use native.Mathlib.Omega.{arith}
-use borrow.Author.Needs.{needs}
+use Rattle.integers.specs.Basics.{_≡_, _∙_, sym, ap, true, some, arith, needs}
 use Rattle.ledger.specs.declared.find.Found.the-variants.{At}
 use Rattle.ledger.specs.Orders.{placeFrom}
 use Rattle.ledger.specs.Records.{orderOf}

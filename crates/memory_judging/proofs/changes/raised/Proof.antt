@@ -1,7 +1,5 @@
 -- A REPLACE that raises an order is asked 14 to 17 of the replaced order, and where they pass 19 to 24 with the rise added.
-use mathlib.Core.Path.{_≡_, sym, _∙_}
-use native.Mathlib.Omega.{arith}
-use borrow.Author.Needs.{needs}
+use Rattle.integers.specs.Basics.{_≡_, _∙_, sym, arith, needs}
 use Rattle.ledger.specs.Orders.{replacedTotal}
 use Rattle.limits.specs.Questions.{firstNo}
 use Rattle.limits.specs.Answers.{numberOf}

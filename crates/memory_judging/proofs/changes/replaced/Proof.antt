@@ -1,8 +1,5 @@
 -- At most what is filled is a 12, at most the present total an acceptance: questions on a rise are asked of a larger total only.
-use mathlib.Core.Path.{_∙_}
-use native.Mathlib.Omega.{arith}
-use borrow.Author.Needs.{needs}
-use borrow.Author.Tests.{lt-ltb, le-ltb}
+use Rattle.integers.specs.Basics.{_∙_, arith, needs, lt-ltb, le-ltb}
 use Rattle.limits.specs.Questions.{firstNo}
 use Rattle.limits.specs.Answers.{numberOf}
 use Rattle.memory_judging.specs.QuestionsLeft.{replaceFrom12}

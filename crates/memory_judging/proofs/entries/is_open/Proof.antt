@@ -1,8 +1,5 @@
 -- The order with the id, if one is open, is the last whose id is not larger: the one just before the place of the first larger id.
-use mathlib.Core.Path.{_∙_, sym}
-use native.Mathlib.Omega.{arith}
-use borrow.Author.Needs.{needs}
-use borrow.Author.Tests.{le-ltb}
+use Rattle.integers.specs.Basics.{_∙_, sym, arith, needs, le-ltb}
 use Rattle.memory_soundness.proofs.SoundDesk.{sound-records}
 use Rattle.memory_judging.proofs.Places.{rank-small, open-before, none-before}
 use Rattle.memory_judging.proofs.entries.is_open.Statement.{statement}

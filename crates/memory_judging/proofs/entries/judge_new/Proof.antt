@@ -1,10 +1,5 @@
 -- 7, 8 and 9 in turn, then `new_order` on an order that they put on the roster, with the id's rank as the place where it joins.
-use mathlib.Core.Path.{_≡_, refl, sym, _∙_}
-use mathlib.Core.Bool.{true, false}
-use native.Mathlib.Omega.{arith}
-use borrow.Author.Needs.{needs}
-use mir.Syntax.{w64}
-use mir.ValLaws.{toZ-ofZ}
+use Rattle.integers.specs.Basics.{_≡_, refl, _∙_, sym, true, false, w64, toZ-ofZ, arith, needs}
 use Rattle.limits.specs.declared.answer.Answer.the-variants.{UnknownAccount, UnknownItem, FigureOutOfRange}
 use Rattle.limits.specs.Answers.{numberOf}
 use Rattle.book.specs.Books.{newOrder}

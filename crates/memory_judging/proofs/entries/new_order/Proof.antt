@@ -1,7 +1,5 @@
 -- The questions are asked in their order: 13 by the record before the place, 14 to 17, and then the rest.
-use mathlib.Core.Path.{_≡_, sym, _∙_}
-use mathlib.Core.Bool.{false}
-use borrow.Author.Needs.{needs}
+use Rattle.integers.specs.Basics.{_≡_, _∙_, sym, false, needs}
 use Rattle.limits.specs.Lines.{isSet}
 use Rattle.limits.specs.Questions.{firstNo}
 use Rattle.limits.specs.Answers.{numberOf}

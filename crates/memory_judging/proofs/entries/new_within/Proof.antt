@@ -1,8 +1,5 @@
 -- A NEW is refused by 18 where 256 orders are open; else 19 to 24 decide, the order raising the sums by its whole total.
-use native.Mathlib.Omega.{arith}
-use borrow.Author.Needs.{needs}
-use borrow.Author.Tests.{lt-ltb, le-ltb}
-use lib.ListN.{length}
+use Rattle.integers.specs.Basics.{length, arith, needs, lt-ltb, le-ltb}
 use Rattle.limits.specs.Questions.{firstNo}
 use Rattle.limits.specs.Answers.{numberOf}
 use Rattle.memory_layout.specs.View.{openOrders}

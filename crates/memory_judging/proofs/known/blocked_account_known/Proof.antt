@@ -1,5 +1,5 @@
 -- A block that names an account asks for it on the roster; a block of an instrument names none, and passes.
-use borrow.Author.Needs.{needs}
+use Rattle.integers.specs.Basics.{needs}
 use Rattle.memory_judging.proofs.known.blocked_account_known.Statement.{statement}
 use Rattle.memory_judging.proofs.known.blocked_account_known.Tie as tie
 

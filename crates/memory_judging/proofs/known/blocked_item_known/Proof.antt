@@ -1,5 +1,5 @@
 -- A block of an instrument or of a group asks for that item on the roster; a block of an account names none, and passes.
-use borrow.Author.Needs.{needs}
+use Rattle.integers.specs.Basics.{needs}
 use Rattle.memory_judging.proofs.known.blocked_item_known.Statement.{statement}
 use Rattle.memory_judging.proofs.known.blocked_item_known.Tie as tie
 

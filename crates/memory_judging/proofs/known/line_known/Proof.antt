@@ -1,5 +1,5 @@
 -- A line's item is an instrument, a contract or a group by its level, and each arm asks the roster's count of that item.
-use borrow.Author.Needs.{needs}
+use Rattle.integers.specs.Basics.{needs}
 use Rattle.memory_judging.proofs.known.line_known.Statement.{statement}
 use Rattle.memory_judging.proofs.known.line_known.Tie as tie
 

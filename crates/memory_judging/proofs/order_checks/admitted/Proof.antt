@@ -1,7 +1,5 @@
 -- Each block that is set is the first no of 14 to 16, asked in their order; where none is, 17 decides.
-use mathlib.Core.Path.{_≡_, _∙_, sym}
-use mathlib.Core.Bool.{false}
-use borrow.Author.Needs.{needs}
+use Rattle.integers.specs.Basics.{_≡_, _∙_, sym, false, needs}
 use Rattle.ledger.specs.Roster.{groupOfInstrument}
 use Rattle.limits.specs.Questions.{firstNo}
 use Rattle.limits.specs.Numbers.{existenceQuestions}

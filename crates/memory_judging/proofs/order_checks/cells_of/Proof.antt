@@ -1,8 +1,5 @@
 -- The 65 cells from account × 64 on are the account's; at most 16 accounts, so they end within 1,089.
-use Prim.Native.Nat.{_+_, _*_, _-_}
-use mathlib.Core.Path.{_≡_}
-use native.Mathlib.Omega.{arith}
-use borrow.Author.Needs.{needs}
+use Rattle.integers.specs.Basics.{_+_, _*_, _-_, _≡_, arith, needs}
 use Rattle.memory_judging.specs.OrderFields.{cellsOf}
 use Rattle.memory_judging.proofs.order_checks.cells_of.Statement.{statement}
 use Rattle.memory_judging.proofs.order_checks.cells_of.Tie as tie

@@ -1,5 +1,5 @@
 -- The three words say whether the order's own, default and group line are set, so `limits_exist` answers question 17.
-use borrow.Author.Needs.{needs}
+use Rattle.integers.specs.Basics.{needs}
 use Rattle.memory_judging.proofs.order_checks.configured.Statement.{statement}
 use Rattle.memory_judging.proofs.order_checks.configured.Tie as tie
 

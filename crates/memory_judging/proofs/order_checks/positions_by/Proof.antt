@@ -1,7 +1,6 @@
 -- The row, balances, roster and group line are parts of the memory that say what its view says (`by-parts`), so the answer by the parts is
 -- that of questions 21 to 24; a sound desk keeps all within the bounds that are asked for.
-use mathlib.Core.Path.{_∙_}
-use borrow.Author.Needs.{needs}
+use Rattle.integers.specs.Basics.{_∙_, needs}
 use Rattle.ledger.specs.Roster.{groupOfInstrument}
 use Rattle.memory_layout.specs.View.{rosterOf, linesOf}
 use Rattle.memory_layout.specs.Readable.{HoldsGroupLine}

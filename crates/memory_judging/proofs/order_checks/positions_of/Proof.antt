@@ -1,8 +1,6 @@
 -- The row of the order's account is gathered where no cells are kept, and else it is a part of those; either way it holds the account's B
 -- and V.
-use mathlib.Core.Path.{_≡_, refl, _∙_}
-use mathlib.Core.Logic.{⊎-elim}
-use borrow.Author.Needs.{needs}
+use Rattle.integers.specs.Basics.{_≡_, refl, _∙_, ⊎-elim, needs}
 use Rattle.words.specs.Words.{wordAt}
 use Rattle.positions.proofs.Gathering.{empty-at}
 use Rattle.memory_layout.specs.Layout.{countWord}
@@ -57,4 +55,5 @@ positions-by-requires-2 c κs =
 pub positions-of-spec : {M : Type 1} → statement M
 positions-of-spec =
     tie.close (tie.spec (λ c κs. sound-records _ (c .before .before .before .before .pre .0 .on .held)) (λ c κs. search needs)
-    gather-requires (λ c. search needs) positions-by-requires (λ c. search needs) cells-of-requires positions-by-requires-2 (λ c. search needs))
+    gather-requires (λ c. search needs) positions-by-requires (λ c. search needs) cells-of-requires positions-by-requires-2
+    (λ c. search needs))

@@ -1,6 +1,5 @@
 -- What was read is the instrument's contract and that contract's group; a sound roster names its own.
-use mathlib.Core.Path.{_∙_}
-use borrow.Author.Needs.{needs}
+use Rattle.integers.specs.Basics.{_∙_, needs}
 use Rattle.ledger.specs.Roster.{groupOfInstrument}
 use Rattle.memory_soundness.proofs.Bounded.{sound-readable}
 use Rattle.memory_judging.proofs.order_checks.underlying_of.Statement.{statement}

@@ -1,7 +1,5 @@
 -- The size is asked first, and where it fits the positions: the first no of both tables.
-use mathlib.Core.Path.{_≡_, refl, _∙_, sym, ap}
-use native.Mathlib.Omega.{arith}
-use borrow.Author.Needs.{needs}
+use Rattle.integers.specs.Basics.{_≡_, refl, _∙_, sym, ap, arith, needs}
 use Rattle.ledger.specs.Derivatives.{one}
 use Rattle.limits.specs.Questions.{firstNo}
 use Rattle.limits.specs.Numbers.{sizeQuestions}

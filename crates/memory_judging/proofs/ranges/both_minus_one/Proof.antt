@@ -1,6 +1,5 @@
 -- The conjunction of two tests for −1: false where the first fails, else what the second says.
-use mathlib.Core.Path.{_∙_}
-use borrow.Author.Needs.{needs}
+use Rattle.integers.specs.Basics.{_∙_, needs}
 use Rattle.book.specs.Books.{isMinusOne}
 use Rattle.memory_soundness.proofs.Asked.{answered-no, answered-yes}
 use Rattle.memory_judging.proofs.HandedOn.{test-handed-on}

@@ -1,6 +1,5 @@
 -- A REPLACE's total and a FILL's quantity are asked by `is_quantity`; a CANCEL has no figure.
-use mathlib.Core.Path.{_∙_, sym, ap}
-use borrow.Author.Needs.{needs}
+use Rattle.integers.specs.Basics.{_∙_, sym, ap, needs}
 use Rattle.book.specs.Table.{isQuantity, changeInRange}
 use Rattle.memory_judging.proofs.HandedOn.{test-handed-on}
 use Rattle.memory_judging.proofs.ranges.change_in_range.Statement.{statement}

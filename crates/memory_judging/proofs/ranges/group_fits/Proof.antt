@@ -1,7 +1,5 @@
 -- Two figures fit where both are −1, or both are limits: the second test decides where the first fails.
-use mathlib.Core.Path.{_∙_, sym}
-use mathlib.Core.Bool.{_&&_}
-use borrow.Author.Needs.{needs}
+use Rattle.integers.specs.Basics.{_∙_, sym, _&&_, needs}
 use Rattle.book.specs.Books.{isMinusOne}
 use Rattle.memory_judging.proofs.Figures.{bothLimits}
 use Rattle.memory_judging.proofs.HandedOn.{tests-handed-on}

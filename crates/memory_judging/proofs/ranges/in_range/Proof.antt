@@ -1,6 +1,5 @@
 -- Both comparisons are those of `betweenℤ`, since each figure, carried as 64 bits, reads back as itself.
-use mir.Syntax.{w64}
-use mir.ValLaws.{toZ-ofZ}
+use Rattle.integers.specs.Basics.{w64, toZ-ofZ}
 use Rattle.memory_judging.proofs.ranges.in_range.Statement.{statement}
 use Rattle.memory_judging.proofs.ranges.in_range.Tie as tie
 

@@ -1,12 +1,5 @@
 -- Of a number that is not negative the comparison is of its size, of a negative one of its size less 1.
-use mathlib.Core.Path.{_≡_, sym}
-use native.Mathlib.Omega.{arith}
-use lib.IntN.{pos, negsuc, _-ℤ_}
-use lib.Signed.{mag}
-use mir.Syntax.{w64}
-use mir.Val.{SFits, toZ, ofZ}
-use mir.ValLaws.{toZ-ofZ}
-use Rattle.integers.specs.Parts.{signed, magnitude-parts}
+use Rattle.integers.specs.Basics.{_≡_, sym, pos, negsuc, _-ℤ_, mag, w64, SFits, toZ, ofZ, toZ-ofZ, arith, signed, magnitude-parts}
 use Rattle.memory_judging.proofs.Figures.{balance-by-size, one-less, balance-below}
 use Rattle.memory_judging.proofs.ranges.is_balance.Statement.{statement}
 use Rattle.memory_judging.proofs.ranges.is_balance.Tie as tie
@@ -25,7 +18,8 @@ sub-result : tie.Need-sub-result
 sub-result c = rw (less c) (less-fits c)
 
 cast-result : tie.Need-cast-result
-cast-result c = rw (less c, toZ-ofZ w64 (pos (mag (c .before .args .z))) (less-fits c)) (tt, record { fits = omega (arith, c .before .fits .z .sfits) })
+cast-result c =
+    rw (less c, toZ-ofZ w64 (pos (mag (c .before .args .z))) (less-fits c)) (tt, record { fits = omega (arith, c .before .fits .z .sfits) })
 
 returns : tie.Need-returns
 returns c =

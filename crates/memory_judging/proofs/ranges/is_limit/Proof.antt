@@ -1,8 +1,5 @@
 -- A negative number is no limit; of any other the comparison is of its size.
-use mathlib.Core.Path.{sym}
-use mir.Syntax.{w64}
-use mir.ValLaws.{toZ-ofZ}
-use Rattle.integers.specs.Parts.{signed, magnitude-parts}
+use Rattle.integers.specs.Basics.{sym, w64, toZ-ofZ, signed, magnitude-parts}
 use Rattle.memory_judging.proofs.Figures.{negative-no-limit, limit-by-size}
 use Rattle.memory_judging.proofs.ranges.is_limit.Statement.{statement}
 use Rattle.memory_judging.proofs.ranges.is_limit.Tie as tie

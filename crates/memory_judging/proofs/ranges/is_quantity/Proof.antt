@@ -1,5 +1,5 @@
 -- The bounds 1 and 1,000,000 that `in_range` is called with are those of a quantity.
-use borrow.Author.Needs.{needs}
+use Rattle.integers.specs.Basics.{needs}
 use Rattle.book.specs.Table.{isQuantity}
 use Rattle.memory_judging.proofs.HandedOn.{test-handed-on}
 use Rattle.memory_judging.proofs.ranges.is_quantity.Statement.{statement}

@@ -1,7 +1,5 @@
 -- The test of a LIMIT's figures is that of its level: four figures for an own or default line, two for a group's.
-use mathlib.Core.Path.{_∙_, sym, ap}
-use mathlib.Core.Bool.{_&&_, _||_}
-use borrow.Author.Needs.{needs}
+use Rattle.integers.specs.Basics.{_∙_, sym, ap, _&&_, _||_, needs}
 use Rattle.book.specs.Books.{isMinusOne}
 use Rattle.book.specs.Table.{lineFits}
 use Rattle.memory_judging.proofs.Figures.{bothLimits}

@@ -1,6 +1,5 @@
 -- Four figures fit where they unset the line, or are limits pair by pair: each return is where that disjunction is decided.
-use mathlib.Core.Path.{_∙_, sym}
-use borrow.Author.Needs.{needs}
+use Rattle.integers.specs.Basics.{_∙_, sym, needs}
 use Rattle.memory_soundness.proofs.Asked.{answered-no, answered-yes}
 use Rattle.memory_judging.proofs.Figures.{bothLimits}
 use Rattle.memory_judging.proofs.HandedOn.{tests-handed-on}

@@ -1,8 +1,5 @@
 -- BALANCE is asked 7, 8, 9 and 10: each return is the first that fails; 10 reads the mark of an account that 7 has found known.
-use mathlib.Core.Path.{_≡_, refl, sym, _∙_}
-use mathlib.Core.Bool.{Bool, true, false, not, cond}
-use borrow.Author.Needs.{needs}
-use lib.IntN.{pos, negℤ}
+use Rattle.integers.specs.Basics.{_≡_, refl, _∙_, sym, Bool, true, false, not, cond, pos, negℤ, needs}
 use Rattle.book.specs.declared.Event.the-variants.{Balance}
 use Rattle.limits.specs.Answers.{numberOf}
 use Rattle.book.specs.Decoding.{between}
@@ -64,7 +61,8 @@ is-trading-requires c κs =
     (sound-readable _ (s .pre), between-numbered (rosterOf (s .args .m .now) .accounts) (s .args .account) (known one))
 
 -- the three tests are passed, and t says whether the account trades
-answered : (c : tie.After-is-trading) (t : Bool) → let a = c .before .before .before .before .before .before .before .before .before .args in
+answered : (c : tie.After-is-trading) (t : Bool)
+    → let a = c .before .before .before .before .before .before .before .before .before .args in
     tradingOf (a .m .now) (a .account) ≡ t → judged (a .m .now) (Balance (a .account) (a .instrument) (a .balance)) ≡ cond (not t) 0 10
 answered c t e =
     let three = c .before in
@@ -82,5 +80,6 @@ returns-5 c = sym (answered (c .before) false (sym (c .before .is-trading .ensur
 
 pub judge-balance-spec : {M : Type 1} → statement M
 judge-balance-spec =
-    tie.close (tie.spec (λ c κs. search needs) returns (λ c κs. search needs) returns-2 (λ c κs. search needs) (λ c κs. search needs) returns-3 is-trading-requires
+    tie.close (tie.spec (λ c κs. search needs) returns (λ c κs. search needs) returns-2 (λ c κs. search needs)
+    (λ c κs. search needs) returns-3 is-trading-requires
     returns-4 returns-5)

@@ -1,8 +1,5 @@
 -- BLOCK is asked 7, 8 and 9 in this order: each return is the first of these tests that fails, or 0 where all pass.
-use mathlib.Core.Path.{_≡_, refl, sym}
-use mathlib.Core.Bool.{Bool, true, false, cond}
-use borrow.Author.Needs.{needs}
-use lib.IntN.{pos}
+use Rattle.integers.specs.Basics.{_≡_, refl, sym, Bool, true, false, cond, pos, needs}
 use Rattle.book.specs.declared.Event.the-variants.{Block}
 use Rattle.limits.specs.Answers.{numberOf}
 use Rattle.book.specs.Table.{whereSome, isListed, betweenℤ}

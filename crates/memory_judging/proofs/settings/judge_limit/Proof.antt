@@ -1,7 +1,5 @@
 -- LIMIT is asked 7, 8 and 9 in this order: each return is the first of these tests that fails, or 0 where all pass.
-use mathlib.Core.Path.{_≡_, refl, sym}
-use mathlib.Core.Bool.{Bool, true, false, cond}
-use borrow.Author.Needs.{needs}
+use Rattle.integers.specs.Basics.{_≡_, refl, sym, Bool, true, false, cond, needs}
 use Rattle.book.specs.declared.Event.the-variants.{Limit}
 use Rattle.limits.specs.Answers.{numberOf}
 use Rattle.book.specs.Decoding.{between}
@@ -48,4 +46,5 @@ returns-4 c = sym (answered (c .before) true (answered-yes _ _ (c .before .limit
 
 pub judge-limit-spec : {M : Type 1} → statement M
 judge-limit-spec =
-    tie.close (tie.spec (λ c κs. search needs) returns (λ c κs. search needs) returns-2 (λ c κs. search needs) (λ c κs. search needs) returns-3 returns-4)
+    tie.close (tie.spec (λ c κs. search needs) returns (λ c κs. search needs) returns-2 (λ c κs. search needs)
+    (λ c κs. search needs) returns-3 returns-4)

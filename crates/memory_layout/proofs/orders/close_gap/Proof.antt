@@ -1,8 +1,6 @@
 -- Either side of the gap may move, and both leave the list without place p: `leaves-before` moves the records before it up by one,
 -- `leaves-behind` those behind it down. The tests on p, n and first are those by which `leftFirst` says where the first record then stands.
-use mathlib.Core.Logic.{⊎-elim, inl, inr}
-use native.Mathlib.Omega.{arith}
-use borrow.Author.Needs.{needs}
+use Rattle.integers.specs.Basics.{inl, inr, ⊎-elim, arith, needs}
 use Rattle.memory_layout.proofs.ListChanges.{leaves-before, leaves-behind}
 use Rattle.memory_layout.proofs.orders.close_gap.Statement.{statement}
 use Rattle.memory_layout.proofs.orders.close_gap.Tie as tie

@@ -1,6 +1,5 @@
 -- The words that are copied are those of the orders, stored from record `to` on.
-use native.Mathlib.Omega.{arith}
-use borrow.Author.Needs.{needs}
+use Rattle.integers.specs.Basics.{arith, needs}
 use Rattle.memory_layout.proofs.Shifting.{moved}
 use Rattle.memory_layout.proofs.orders.copy_down.Statement.{statement}
 use Rattle.memory_layout.proofs.orders.copy_down.Tie as tie

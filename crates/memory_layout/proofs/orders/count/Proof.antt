@@ -1,6 +1,5 @@
 -- The list has as many orders as the count says (`length-open`).
-use mathlib.Core.Path.{_∙_, sym}
-use borrow.Author.Needs.{needs}
+use Rattle.integers.specs.Basics.{_∙_, sym, needs}
 use Rattle.memory_layout.proofs.Lengths.{length-open}
 use Rattle.memory_layout.proofs.orders.count.Statement.{statement}
 use Rattle.memory_layout.proofs.orders.count.Tie as tie

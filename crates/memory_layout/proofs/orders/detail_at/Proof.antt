@@ -1,8 +1,5 @@
 -- The detail read from record p of the part is that of the open order at p, because the part is the records in use; it holds record p.
-use mathlib.Core.Path.{ap}
-use native.Mathlib.Omega.{arith}
-use borrow.Author.Needs.{needs}
-use lib.ListN.{length}
+use Rattle.integers.specs.Basics.{ap, length, arith, needs}
 use Rattle.ledger.specs.Records.{orderOf, orderAt}
 use Rattle.memory_layout.proofs.OrderRecords.{records-long}
 use Rattle.memory_layout.proofs.orders.detail_at.Statement.{statement}

@@ -1,8 +1,6 @@
 -- Room made at the id's rank, the order put there, first and count written: by `joined-by` that stores the book's `insert`.
 -- The order's record lies inside the region, because the first record stands at most at 256 and fewer than 256 orders are open.
-use Prim.Native.Nat.{_+_, _<_}
-use native.Mathlib.Omega.{arith}
-use borrow.Author.Needs.{needs}
+use Rattle.integers.specs.Basics.{_+_, _<_, arith, needs}
 use Rattle.ledger.specs.Records.{orderOf}
 use Rattle.memory_layout.proofs.Lengths.{rank-open}
 use Rattle.memory_layout.proofs.ListChanges.{joined-by}

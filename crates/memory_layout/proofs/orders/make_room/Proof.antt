@@ -1,12 +1,6 @@
 -- Three ways to room at place p: records before it move down, all are copied to the region's start, or those behind it move up.
 -- `joins-before`, `joins-again` and `joins-behind` say of each that the room is there and the first record where `joinedFirst` has it.
-use Prim.Native.Nat.{_*_, _≤_, _<_}
-use mathlib.Core.Path.{_≡_}
-use mathlib.Core.Bool.{false}
-use mathlib.Core.Logic.{_⊎_, ⊎-elim, inl, inr}
-use native.Mathlib.Omega.{arith}
-use borrow.Author.Needs.{needs}
-use lib.Dec.{ltb}
+use Rattle.integers.specs.Basics.{_*_, _≤_, _<_, _≡_, _⊎_, inl, inr, ⊎-elim, false, ltb, arith, needs}
 use Rattle.memory_layout.proofs.ListChanges.{joins-before, joins-behind, joins-again}
 use Rattle.memory_layout.proofs.orders.make_room.Statement.{statement}
 use Rattle.memory_layout.proofs.orders.make_room.Tie as tie

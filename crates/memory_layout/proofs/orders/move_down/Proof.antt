@@ -1,7 +1,5 @@
 -- The words of the records that move down are their orders, stored one record lower.
-use Prim.Native.Nat.{_+_}
-use native.Mathlib.Omega.{arith}
-use borrow.Author.Needs.{needs}
+use Rattle.integers.specs.Basics.{_+_, arith, needs}
 use Rattle.memory_layout.proofs.Shifting.{moved}
 use Rattle.memory_layout.proofs.orders.move_down.Statement.{statement}
 use Rattle.memory_layout.proofs.orders.move_down.Tie as tie

@@ -1,5 +1,5 @@
 -- The two words written, the id and the detail, are the fields of the order's record, in the definition's order.
-use borrow.Author.Needs.{needs}
+use Rattle.integers.specs.Basics.{needs}
 use Rattle.words.specs.Words.{putWords}
 use Rattle.ledger.proofs.Packing.{detail-again}
 use Rattle.ledger.proofs.Details.{id-of}

@@ -1,7 +1,5 @@
 -- The part lent is 512 words from the first record in use: `first_of` reads the number that the definition counts from.
-use mathlib.Core.Path.{_∙_, ap}
-use Prim.Native.Nat.{_+_, _*_}
-use borrow.Author.Needs.{needs}
+use Rattle.integers.specs.Basics.{_+_, _*_, _∙_, ap, needs}
 use Rattle.words.specs.Words.{partOf}
 use Rattle.memory_layout.proofs.orders.records.Statement.{statement}
 use Rattle.memory_layout.proofs.orders.records.Tie as tie

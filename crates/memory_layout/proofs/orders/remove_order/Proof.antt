@@ -1,5 +1,5 @@
 -- The gap is closed, then first and count are written: by `left-by` that stores the list without place p, from the new first record.
-use borrow.Author.Needs.{needs}
+use Rattle.integers.specs.Basics.{needs}
 use Rattle.memory_layout.proofs.ListChanges.{left-by}
 use Rattle.memory_layout.proofs.orders.remove_order.Statement.{statement}
 use Rattle.memory_layout.proofs.orders.remove_order.Tie as tie

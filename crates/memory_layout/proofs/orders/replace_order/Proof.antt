@@ -1,6 +1,5 @@
 -- The order's record is first + p, and writing it stores the list with place p set (`changed`); nothing else moves.
-use mathlib.Core.Path.{_∙_}
-use borrow.Author.Needs.{needs}
+use Rattle.integers.specs.Basics.{_∙_, needs}
 use Rattle.memory_layout.proofs.ListChanges.{changed}
 use Rattle.memory_layout.proofs.orders.replace_order.Statement.{statement}
 use Rattle.memory_layout.proofs.orders.replace_order.Tie as tie

@@ -1,8 +1,5 @@
 -- The signed word is the balance of an account and instrument on the roster (`balance-word`); it fits 64 bits, so it is read back.
-use mathlib.Core.Path.{_∙_, sym}
-use borrow.Author.Needs.{needs}
-use mir.Syntax.{w64}
-use mir.ValLaws.{toZ-ofZ}
+use Rattle.integers.specs.Basics.{_∙_, sym, w64, toZ-ofZ, needs}
 use Rattle.memory_layout.proofs.FieldsRead.{balance-word}
 use Rattle.memory_layout.proofs.readers.balance.Statement.{statement}
 use Rattle.memory_layout.proofs.readers.balance.Tie as tie

@@ -1,6 +1,5 @@
 -- The word says whether the line is set, of an account and a number on the roster (`default-set`).
-use mathlib.Core.Path.{_∙_}
-use borrow.Author.Needs.{needs}
+use Rattle.integers.specs.Basics.{_∙_, needs}
 use Rattle.memory_layout.proofs.LinesInRows.{default-set}
 use Rattle.memory_layout.proofs.readers.default_set.Statement.{statement}
 use Rattle.memory_layout.proofs.readers.default_set.Tie as tie

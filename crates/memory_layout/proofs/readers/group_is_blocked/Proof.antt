@@ -1,6 +1,5 @@
 -- The word says it of an account and a group on the roster (`group-flag`).
-use mathlib.Core.Path.{_∙_, sym}
-use borrow.Author.Needs.{needs}
+use Rattle.integers.specs.Basics.{_∙_, sym, needs}
 use Rattle.memory_layout.proofs.FieldsRead.{group-flag}
 use Rattle.memory_layout.proofs.readers.group_is_blocked.Statement.{statement}
 use Rattle.memory_layout.proofs.readers.group_is_blocked.Tie as tie

@@ -1,6 +1,5 @@
 -- Word `group` of the account's group lines is the group's line (`holds-group-line`).
-use native.Mathlib.Omega.{arith}
-use borrow.Author.Needs.{needs}
+use Rattle.integers.specs.Basics.{arith, needs}
 use Rattle.memory_layout.proofs.LinesInRows.{groups-long, holds-group-line}
 use Rattle.memory_layout.proofs.readers.group_line.Statement.{statement}
 use Rattle.memory_layout.proofs.readers.group_line.Tie as tie

@@ -1,6 +1,5 @@
 -- The word says whether the line is set, of an account and a number on the roster (`group-set`).
-use mathlib.Core.Path.{_∙_}
-use borrow.Author.Needs.{needs}
+use Rattle.integers.specs.Basics.{_∙_, needs}
 use Rattle.memory_layout.proofs.LinesInRows.{group-set}
 use Rattle.memory_layout.proofs.readers.group_set.Statement.{statement}
 use Rattle.memory_layout.proofs.readers.group_set.Tie as tie

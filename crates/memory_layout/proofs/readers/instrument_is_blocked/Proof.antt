@@ -1,6 +1,5 @@
 -- The word says it of an instrument on the roster (`instrument-flag`).
-use mathlib.Core.Path.{_∙_, sym}
-use borrow.Author.Needs.{needs}
+use Rattle.integers.specs.Basics.{_∙_, sym, needs}
 use Rattle.memory_layout.proofs.FieldsRead.{instrument-flag}
 use Rattle.memory_layout.proofs.readers.instrument_is_blocked.Statement.{statement}
 use Rattle.memory_layout.proofs.readers.instrument_is_blocked.Tie as tie

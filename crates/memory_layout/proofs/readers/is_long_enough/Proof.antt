@@ -1,5 +1,5 @@
 -- The test is that of question 1.
-use mathlib.Core.Path.{refl}
+use Rattle.integers.specs.Basics.{refl}
 use Rattle.memory_layout.specs.Rosters.{longEnough}
 use Rattle.memory_layout.proofs.readers.is_long_enough.Statement.{statement}
 use Rattle.memory_layout.proofs.readers.is_long_enough.Tie as tie

@@ -1,6 +1,5 @@
 -- The word says it of an account on the roster (`trading-flag`).
-use mathlib.Core.Path.{_∙_, sym}
-use borrow.Author.Needs.{needs}
+use Rattle.integers.specs.Basics.{_∙_, sym, needs}
 use Rattle.memory_layout.proofs.FieldsRead.{trading-flag}
 use Rattle.memory_layout.proofs.readers.is_trading.Statement.{statement}
 use Rattle.memory_layout.proofs.readers.is_trading.Tie as tie

@@ -1,6 +1,5 @@
 -- The own line's part where its word says that it is set, else the default line's: the line in force, where there is one (`holds-line`).
-use native.Mathlib.Omega.{arith}
-use borrow.Author.Needs.{needs}
+use Rattle.integers.specs.Basics.{arith, needs}
 use Rattle.memory_layout.proofs.LinesInRows.{own-long, default-long, holds-line}
 use Rattle.memory_layout.proofs.readers.line_in_force.Statement.{statement}
 use Rattle.memory_layout.proofs.readers.line_in_force.Tie as tie

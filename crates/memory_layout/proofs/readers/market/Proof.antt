@@ -1,6 +1,5 @@
 -- The market of the kind that is read is the memory's.
-use mathlib.Core.Path.{_∙_, ap}
-use borrow.Author.Needs.{needs}
+use Rattle.integers.specs.Basics.{_∙_, ap, needs}
 use Rattle.book.specs.Market.{marketOfKind}
 use Rattle.memory_layout.proofs.readers.market.Statement.{statement}
 use Rattle.memory_layout.proofs.readers.market.Tie as tie

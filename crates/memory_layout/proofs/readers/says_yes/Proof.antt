@@ -1,5 +1,5 @@
 -- A word that is not 0 says yes.
-use borrow.Author.Needs.{needs}
+use Rattle.integers.specs.Basics.{needs}
 use Rattle.memory_layout.proofs.readers.says_yes.Statement.{statement}
 use Rattle.memory_layout.proofs.readers.says_yes.Tie as tie
 

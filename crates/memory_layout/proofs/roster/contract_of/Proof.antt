@@ -1,7 +1,5 @@
 -- What the part with the roster says of one of the roster's instruments is what the view says (`contract-same`).
-use mathlib.Core.Path.{_∙_, sym}
-use native.Mathlib.Omega.{arith}
-use borrow.Author.Needs.{needs}
+use Rattle.integers.specs.Basics.{_∙_, sym, arith, needs}
 use Rattle.memory_layout.proofs.RosterRead.{roster-long, contract-same}
 use Rattle.memory_layout.proofs.roster.contract_of.Statement.{statement}
 use Rattle.memory_layout.proofs.roster.contract_of.Tie as tie

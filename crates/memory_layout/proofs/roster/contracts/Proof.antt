@@ -1,7 +1,5 @@
 -- The part with the roster is 608 bytes long, and its number of contracts is the view's.
-use mathlib.Core.Path.{_∙_}
-use native.Mathlib.Omega.{arith}
-use borrow.Author.Needs.{needs}
+use Rattle.integers.specs.Basics.{_∙_, arith, needs}
 use Rattle.memory_layout.specs.Rosters.{listed}
 use Rattle.memory_layout.specs.View.{rosterOf}
 use Rattle.memory_layout.proofs.RosterRead.{roster-long}

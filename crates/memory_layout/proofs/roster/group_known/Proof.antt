@@ -1,6 +1,5 @@
 -- The range ends with the number of groups that was read.
-use mathlib.Core.Path.{_∙_}
-use borrow.Author.Needs.{needs}
+use Rattle.integers.specs.Basics.{_∙_, needs}
 use Rattle.memory_layout.proofs.roster.group_known.Statement.{statement}
 use Rattle.memory_layout.proofs.roster.group_known.Tie as tie
 

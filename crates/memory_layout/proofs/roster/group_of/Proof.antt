@@ -1,7 +1,5 @@
 -- What the part with the roster says of one of the roster's contracts is what the view says (`group-same`).
-use mathlib.Core.Path.{_∙_, sym}
-use native.Mathlib.Omega.{arith}
-use borrow.Author.Needs.{needs}
+use Rattle.integers.specs.Basics.{_∙_, sym, arith, needs}
 use Rattle.memory_layout.proofs.RosterRead.{roster-long, group-same}
 use Rattle.memory_layout.proofs.roster.group_of.Statement.{statement}
 use Rattle.memory_layout.proofs.roster.group_of.Tie as tie

@@ -1,9 +1,6 @@
 -- The blocks that end with a smaller id are the first ones: ids ascend, so that behind a block that does not end with one none does.
-use Prim.Native.Nat.{ℕ, _+_, _*_, _-_, _≤_, _<_}
-use mathlib.Core.Path.{_≡_}
-use mathlib.Core.List.{List}
+use Rattle.integers.specs.Basics.{ℕ, _+_, _*_, _-_, _≤_, _<_, _≡_, List, arith}
 use native.Mathlib.Decide.{decLe}
-use native.Mathlib.Omega.{arith}
 use Rattle.words.specs.Words.{wordAt}
 use Rattle.book.specs.Sound.{Ascending}
 use Rattle.memory_layout.specs.Layout.{countWord}

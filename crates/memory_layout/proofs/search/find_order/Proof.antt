@@ -1,8 +1,5 @@
 -- The order with the id, if one is open, is in the block that is searched: ids before the block are smaller, and those behind it larger.
-use mathlib.Core.Path.{ap}
-use native.Mathlib.Omega.{arith}
-use borrow.Author.Needs.{needs}
-use lib.ListN.{length}
+use Rattle.integers.specs.Basics.{ap, length, arith, needs}
 use Rattle.memory_layout.proofs.OrderRecords.{records-long}
 use Rattle.memory_layout.proofs.Ranking.{block-told, found-in-block}
 use Rattle.memory_layout.proofs.search.find_order.Statement.{statement}

@@ -1,8 +1,5 @@
 -- The id is read from record p of the part, which is that of the records in use, so it is the id of the open order at p.
-use mathlib.Core.Path.{_∙_, sym, ap}
-use native.Mathlib.Omega.{arith}
-use borrow.Author.Needs.{needs}
-use lib.ListN.{length}
+use Rattle.integers.specs.Basics.{_∙_, sym, ap, length, arith, needs}
 use Rattle.ledger.specs.Records.{idAt}
 use Rattle.ledger.proofs.Details.{id-at}
 use Rattle.memory_layout.specs.View.{recordsOf}

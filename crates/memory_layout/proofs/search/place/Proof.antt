@@ -1,7 +1,5 @@
 -- An id above the last one has its place at the end, any other in the first block that does not end with a smaller id, or at its end.
-use native.Mathlib.Omega.{arith}
-use borrow.Author.Needs.{needs}
-use borrow.Author.Tests.{ltb-true}
+use Rattle.integers.specs.Basics.{arith, needs, ltb-true}
 use Rattle.memory_layout.proofs.Lengths.{rank-open}
 use Rattle.memory_layout.proofs.Ranking.{at-other, block-told, rank-from, rank-upto}
 use Rattle.memory_layout.proofs.search.place.Statement.{statement}

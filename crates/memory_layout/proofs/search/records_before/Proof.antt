@@ -1,7 +1,5 @@
 -- Of the records that were looked at, those before the place were counted: an id that is larger is not before it, any other is.
-use Prim.Native.Nat.{ℕ, _+_, _-_, _≤_, _<_}
-use mathlib.Core.Path.{_≡_}
-use native.Mathlib.Omega.{arith}
+use Rattle.integers.specs.Basics.{ℕ, _+_, _-_, _≤_, _<_, _≡_, arith}
 use Rattle.words.specs.Words.{wordAt}
 use Rattle.memory_layout.specs.Layout.{countWord}
 use Rattle.memory_layout.specs.View.{openOrders}

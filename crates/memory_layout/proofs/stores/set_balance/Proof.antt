@@ -1,8 +1,5 @@
 -- The balance's word is written with z, whose 64 bits read back as z because z fits them.
-use mathlib.Core.Path.{_∙_, ap}
-use borrow.Author.Needs.{needs}
-use mir.Syntax.{w64}
-use mir.ValLaws.{toZ-ofZ}
+use Rattle.integers.specs.Basics.{_∙_, ap, w64, toZ-ofZ, needs}
 use Rattle.words.specs.Words.{putSigned}
 use Rattle.memory_layout.proofs.stores.set_balance.Statement.{statement}
 use Rattle.memory_layout.proofs.stores.set_balance.Tie as tie

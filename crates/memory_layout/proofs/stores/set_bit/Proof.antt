@@ -1,6 +1,5 @@
 -- What is stored is the word of a yes or no.
-use mathlib.Core.Path.{_∙_, ap}
-use borrow.Author.Needs.{needs}
+use Rattle.integers.specs.Basics.{_∙_, ap, needs}
 use Rattle.words.specs.Words.{putWord}
 use Rattle.memory_layout.proofs.stores.set_bit.Statement.{statement}
 use Rattle.memory_layout.proofs.stores.set_bit.Tie as tie

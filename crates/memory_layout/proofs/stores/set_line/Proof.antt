@@ -1,5 +1,5 @@
 -- The three words that are stored are those of `storeLine`, one after another.
-use borrow.Author.Needs.{needs}
+use Rattle.integers.specs.Basics.{needs}
 use Rattle.words.specs.Words.{putWords}
 use Rattle.memory_layout.proofs.stores.set_line.Statement.{statement}
 use Rattle.memory_layout.proofs.stores.set_line.Tie as tie

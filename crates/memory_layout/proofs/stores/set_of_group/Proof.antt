@@ -1,5 +1,5 @@
 -- The two words written, the group's figures in halves and that the line is set, are those of the definition, in its order.
-use borrow.Author.Needs.{needs}
+use Rattle.integers.specs.Basics.{needs}
 use Rattle.words.specs.Words.{putWords}
 use Rattle.memory_layout.proofs.stores.set_of_group.Statement.{statement}
 use Rattle.memory_layout.proofs.stores.set_of_group.Tie as tie

@@ -1,8 +1,5 @@
 -- Byte by byte, the answer is that of the test of the byte read; the loop leaves at the first no.
-use Prim.Native.Nat.{_+_, _-_}
-use mathlib.Core.Path.{_≡_, _∙_}
-use native.Mathlib.Omega.{arith}
-use borrow.Author.Needs.{needs}
+use Rattle.integers.specs.Basics.{_+_, _-_, _≡_, _∙_, arith, needs}
 use Rattle.words.specs.Fields.{u8At}
 use Rattle.book.specs.Decoding.{between}
 use Rattle.memory_layout.proofs.Every.{SoFar, so-far-none, so-far-on, so-far-all, every-no}

@@ -1,7 +1,5 @@
 -- Four sizes in turn, each return being one outside its limit; where all pass, the exact length decides (`lengths-exact`).
-use mathlib.Core.Path.{_∙_, sym}
-use borrow.Author.Needs.{needs}
-use borrow.Author.Tests.{not-true, not-false}
+use Rattle.integers.specs.Basics.{_∙_, sym, needs, not-true, not-false}
 use Rattle.memory_opening.proofs.Tests.{lengths-short, lengths-accounts, lengths-groups, lengths-contracts, lengths-instruments}
 use Rattle.memory_opening.proofs.Tests.{lengths-exact}
 use Rattle.memory_opening.proofs.questions.lengths_fit.Statement.{statement}

@@ -1,8 +1,5 @@
 -- Contracts' groups first, then instruments' contracts: the bytes tested are the roster's names (`names-first`, `names-second`).
-use mathlib.Core.Path.{_∙_}
-use native.Mathlib.Omega.{arith}
-use borrow.Author.Needs.{needs}
-use borrow.Author.Tests.{not-true, not-false}
+use Rattle.integers.specs.Basics.{_∙_, arith, needs, not-true, not-false}
 use Rattle.memory_opening.proofs.Tests.{lengths-out, lengths-long, names-first, names-second}
 use Rattle.memory_opening.proofs.questions.names_fit.Statement.{statement}
 use Rattle.memory_opening.proofs.questions.names_fit.Tie as tie

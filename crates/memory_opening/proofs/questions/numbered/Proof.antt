@@ -1,6 +1,5 @@
 -- Below 1 the conjunction of `between` is false; from there on it is the comparison with `most`.
-use native.Mathlib.Omega.{arith}
-use borrow.Author.Tests.{le-leb, lt-leb}
+use Rattle.integers.specs.Basics.{arith, le-leb, lt-leb}
 use Rattle.memory_opening.proofs.questions.numbered.Statement.{statement}
 use Rattle.memory_opening.proofs.questions.numbered.Tie as tie
 

@@ -1,8 +1,5 @@
 -- Below −1,000,000 the magnitude is too large (`weight-low`); from there on the upper comparison decides (`weight-high`).
-use mathlib.Core.Path.{sym}
-use mir.Syntax.{w32}
-use mir.ValLaws.{toZ-ofZ}
-use Rattle.integers.specs.Parts.{signed}
+use Rattle.integers.specs.Basics.{sym, w32, toZ-ofZ, signed}
 use Rattle.memory_opening.proofs.Tests.{weight-low, weight-high}
 use Rattle.memory_opening.proofs.questions.weighs.Statement.{statement}
 use Rattle.memory_opening.proofs.questions.weighs.Tie as tie

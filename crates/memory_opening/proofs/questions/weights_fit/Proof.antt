@@ -1,7 +1,5 @@
 -- The lengths fit, so the weights are inside; they are those of the roster that the bytes say.
-use mathlib.Core.Path.{_∙_}
-use native.Mathlib.Omega.{arith}
-use borrow.Author.Needs.{needs}
+use Rattle.integers.specs.Basics.{_∙_, arith, needs}
 use Rattle.memory_opening.proofs.Tests.{lengths-out, lengths-long, weights-read}
 use Rattle.memory_opening.proofs.questions.weights_fit.Statement.{statement}
 use Rattle.memory_opening.proofs.questions.weights_fit.Tie as tie

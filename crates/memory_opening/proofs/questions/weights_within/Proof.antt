@@ -1,10 +1,5 @@
 -- Weight by weight, the answer is that of the test of the weight read; the loop leaves at the first no.
-use Prim.Native.Nat.{_+_, _*_, _-_}
-use mathlib.Core.Path.{_≡_, _∙_, sym}
-use native.Mathlib.Omega.{arith}
-use borrow.Author.Needs.{needs}
-use lib.Dec.{leb}
-use lib.IntN.{natAbs}
+use Rattle.integers.specs.Basics.{_+_, _*_, _-_, _≡_, _∙_, sym, natAbs, leb, arith, needs}
 use Rattle.words.specs.Fields.{i32At}
 use Rattle.memory_layout.proofs.Every.{SoFar, so-far-none, so-far-on, so-far-all, every-no}
 use Rattle.memory_opening.specs.Questions.{weightsWithin}

@@ -1,9 +1,5 @@
 -- After k turns the first k words are 0 (`cleared-more`); k ends at 8,192, all words of a desk.
-use Prim.Native.Nat.{_-_, _≤_}
-use mathlib.Core.Path.{_≡_, refl, _∙_, sym, ap}
-use native.Mathlib.Omega.{arith}
-use borrow.Author.Needs.{needs}
-use lib.ListN.{length}
+use Rattle.integers.specs.Basics.{_-_, _≤_, _≡_, refl, _∙_, sym, ap, length, arith, needs}
 use Rattle.words.specs.Words.{putWord}
 use Rattle.memory_opening.specs.Opening.{cleared}
 use Rattle.memory_opening.proofs.Written.{cleared-none, cleared-more}

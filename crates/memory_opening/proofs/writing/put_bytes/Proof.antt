@@ -1,8 +1,5 @@
 -- Each turn writes the byte read to its own word.
-use Prim.Native.Nat.{_+_, _-_}
-use mathlib.Core.Path.{_∙_, ap}
-use native.Mathlib.Omega.{arith}
-use borrow.Author.Needs.{needs}
+use Rattle.integers.specs.Basics.{_+_, _-_, _∙_, ap, arith, needs}
 use Rattle.words.specs.Fields.{u8At}
 use Rattle.words.specs.Words.{putWord}
 use Rattle.memory_opening.proofs.Written.{WrittenTo, written-start, written-turn, written-end}

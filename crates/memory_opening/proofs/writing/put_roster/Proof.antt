@@ -1,7 +1,6 @@
 -- Sizes, groups of contracts, contracts of instruments and weights, each at its words, are the roster of the bytes (`roster-written`);
 -- sizes that fit keep every read within the bytes and every word within the memory.
-use native.Mathlib.Omega.{arith}
-use borrow.Author.Needs.{needs}
+use Rattle.integers.specs.Basics.{arith, needs}
 use Rattle.memory_opening.proofs.Tests.{lengths-out, lengths-long}
 use Rattle.memory_opening.proofs.Answers.{roster-written}
 use Rattle.memory_opening.proofs.writing.put_roster.Statement.{statement}

@@ -1,5 +1,5 @@
 -- The four words written are the roster's sizes, in the definition's order.
-use borrow.Author.Needs.{needs}
+use Rattle.integers.specs.Basics.{needs}
 use Rattle.words.specs.Words.{putWords}
 use Rattle.memory_layout.specs.Rosters.{listed}
 use Rattle.memory_opening.specs.Questions.{rosterFrom}

@@ -1,11 +1,5 @@
 -- Each turn writes the weight read, in 64 bits what it was in 32, to its own word.
-use Prim.Native.Nat.{_+_, _*_, _-_}
-use mathlib.Core.Path.{_∙_, ap}
-use native.Mathlib.Omega.{arith}
-use borrow.Author.Needs.{needs}
-use mir.Syntax.{w32}
-use mir.Val.{SFits}
-use mir.ValLaws.{toZ-ofZ}
+use Rattle.integers.specs.Basics.{_+_, _*_, _-_, _∙_, ap, w32, SFits, toZ-ofZ, arith, needs}
 use Rattle.words.specs.Fields.{i32At}
 use Rattle.words.specs.Words.{putSigned}
 use Rattle.memory_opening.proofs.Written.{WrittenTo, written-start, written-turn, written-end}

@@ -1,10 +1,6 @@
 -- Where the whole row is small, each position is in range whatever the orders (`row-small`), B and V being bounded; else the
 -- loop asks instrument by instrument, the first j being sound.
-use Prim.Native.Nat.{_-_, _≤_}
-use mathlib.Core.Path.{_≡_, sym}
-use mathlib.Core.Bool.{true}
-use native.Mathlib.Omega.{arith}
-use borrow.Author.Needs.{needs}
+use Rattle.integers.specs.Basics.{_-_, _≤_, _≡_, sym, true, arith, needs}
 use Rattle.memory_layout.specs.Rosters.{every}
 use Rattle.memory_layout.specs.View.{rosterOf}
 use Rattle.memory_soundness.specs.Soundness.{instrumentSound, accountSound}

@@ -1,10 +1,5 @@
 -- The balances of the first j accounts are small.
-use Prim.Native.Nat.{ℕ, _+_, _-_, _≤_, _<_}
-use mathlib.Core.Path.{_≡_}
-use mathlib.Core.Bool.{false≢true}
-use native.Mathlib.Omega.{arith}
-use borrow.Author.Needs.{needs}
-use borrow.Author.Tests.{not-false}
+use Rattle.integers.specs.Basics.{ℕ, _+_, _-_, _≤_, _<_, _≡_, false≢true, arith, needs, not-false}
 use Rattle.memory_layout.specs.View.{rosterOf}
 use Rattle.memory_soundness.specs.Cells.{SmallBalances}
 use Rattle.memory_soundness.proofs.Telling.{below}

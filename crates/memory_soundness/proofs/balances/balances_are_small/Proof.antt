@@ -1,6 +1,5 @@
 -- The row of balances is small where `all_small` says so; a market of smaller figures is told nothing.
-use mathlib.Core.Bool.{false≢true}
-use native.Mathlib.Omega.{arith}
+use Rattle.integers.specs.Basics.{false≢true, arith}
 use Rattle.memory_layout.proofs.FieldsRead.{balances-long}
 use Rattle.memory_soundness.proofs.balances.balances_are_small.Statement.{statement}
 use Rattle.memory_soundness.proofs.balances.balances_are_small.Tie as tie

@@ -1,13 +1,6 @@
 -- The two tests of the code are those of S + B and −S + V, asked without a sum with the balance, which may be any word.
-use mathlib.Core.Path.{_≡_, refl, _∙_, ap}
-use mathlib.Core.Bool.{_&&_}
-use native.Mathlib.Omega.{arith}
-use borrow.Author.Needs.{needs}
-use borrow.Author.Tests.{not-true, not-false}
-use lib.IntN.{ℤ, pos, negℤ, natAbs, _+ℤ_}
-use lib.Signed.{leZ}
-use mir.Syntax.{w64}
-use mir.ValLaws.{toZ-ofZ}
+use Rattle.integers.specs.Basics.{_≡_, refl, _∙_, ap, _&&_, ℤ, pos, negℤ, natAbs, _+ℤ_, leZ, w64, toZ-ofZ, arith, needs, not-true}
+use Rattle.integers.specs.Basics.{not-false}
 use Rattle.ledger.specs.declared.order.Side.the-variants.{Buy, Sell}
 use Rattle.ledger.proofs.Fits.{again}
 use Rattle.memory_layout.proofs.MarketRead.{market-most}

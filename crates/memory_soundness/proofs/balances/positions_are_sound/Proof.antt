@@ -1,7 +1,5 @@
 -- Where all balances are small, each position is in range whatever the orders (`row-small`), B and V being small.
-use mathlib.Core.Path.{_≡_, sym}
-use native.Mathlib.Omega.{arith}
-use borrow.Author.Needs.{needs}
+use Rattle.integers.specs.Basics.{_≡_, sym, arith, needs}
 use Rattle.memory_layout.proofs.Every.{every-in}
 use Rattle.memory_soundness.specs.Soundness.{accountSound, positionsSound}
 use Rattle.memory_soundness.proofs.OrdersTested.{orders-few}

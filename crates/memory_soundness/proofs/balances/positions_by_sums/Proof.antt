@@ -1,9 +1,5 @@
 -- The positions of the first j accounts are sound: `every-no` ends at an account whose are not, `every-on` goes on.
-use Prim.Native.Nat.{_-_, _≤_}
-use mathlib.Core.Path.{_≡_, refl}
-use mathlib.Core.Bool.{true}
-use native.Mathlib.Omega.{arith}
-use borrow.Author.Needs.{needs}
+use Rattle.integers.specs.Basics.{_-_, _≤_, _≡_, refl, true, arith, needs}
 use Rattle.memory_layout.specs.Rosters.{every}
 use Rattle.memory_layout.specs.View.{rosterOf}
 use Rattle.memory_soundness.specs.Soundness.{accountSound, positionsSound}

@@ -1,10 +1,6 @@
 -- Every number is at most the bits of all, so where that is at most `largest` each is: a word's two figures are two of them.
 -- A no says nothing.
-use Prim.Native.Nat.{_+_, _*_}
-use mathlib.Core.Path.{_≡_}
-use native.Mathlib.Omega.{arith}
-use borrow.Author.Needs.{needs}
-use borrow.Author.Tests.{leb-true}
+use Rattle.integers.specs.Basics.{_+_, _*_, _≡_, arith, needs, leb-true}
 use Rattle.words.proofs.HalfWords.{lower-field, upper-field}
 use Rattle.limits.specs.InBytes.{groupLineAt}
 use Rattle.memory_soundness.proofs.bits.all_in_range.Statement.{statement}

@@ -1,7 +1,5 @@
 -- Every word less 1 is at most the bits of all; where those are below `most`, it is no word that wraps, and the word is from 1 to `most`.
-use native.Mathlib.Omega.{arith}
-use borrow.Author.Needs.{needs}
-use borrow.Author.Tests.{ltb-true}
+use Rattle.integers.specs.Basics.{arith, needs, ltb-true}
 use Rattle.words.proofs.Memory.{word-below}
 use Rattle.memory_soundness.proofs.Joining.{numbered-less}
 use Rattle.memory_soundness.proofs.bits.all_numbered.Statement.{statement}

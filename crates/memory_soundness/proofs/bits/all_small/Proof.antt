@@ -1,8 +1,6 @@
 -- Every word with `half` added is at most the bits of all; one below twice that stands for a number of at most `half` either way
 -- (`offset-small`).
-use native.Mathlib.Omega.{arith}
-use borrow.Author.Needs.{needs}
-use borrow.Author.Tests.{ltb-true}
+use Rattle.integers.specs.Basics.{arith, needs, ltb-true}
 use Rattle.words.specs.Words.{wordAt, signedAt}
 use Rattle.words.proofs.Memory.{word-below}
 use Rattle.memory_soundness.proofs.Joining.{offset-small}

@@ -1,6 +1,5 @@
 -- After j numbers each of them is at most `all`: a number with the bits of others is at least each (`bits-more`).
-use Prim.Native.Nat.{ℕ, _+_, _*_, _-_, _≤_, _<_}
-use native.Mathlib.Omega.{arith}
+use Rattle.integers.specs.Basics.{ℕ, _+_, _*_, _-_, _≤_, _<_, arith}
 use Rattle.words.specs.Fields.{u32At}
 use Rattle.memory_soundness.proofs.Joining.{bits-more}
 use Rattle.memory_soundness.proofs.bits.bits_of_all.Statement.{statement}

@@ -1,7 +1,5 @@
 -- After j words each of them, with the offset added, is at most `all`: a number with the bits of others is at least each (`bits-more`).
-use Prim.Native.Nat.{ℕ, _+_, _-_, _≤_, _<_}
-use native.Mathlib.Omega.{arith}
-use borrow.Author.Needs.{needs}
+use Rattle.integers.specs.Basics.{ℕ, _+_, _-_, _≤_, _<_, arith, needs}
 use Rattle.words.specs.Words.{wordAt}
 use Rattle.memory_soundness.specs.Cells.{offsetWord}
 use Rattle.memory_soundness.proofs.Joining.{bits-more}

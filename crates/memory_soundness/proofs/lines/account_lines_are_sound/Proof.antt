@@ -1,7 +1,5 @@
 -- All figures in range at once are those on the roster; else each row says its part.
-use mathlib.Core.Path.{_≡_, _∙_, sym, ap}
-use native.Mathlib.Omega.{arith}
-use borrow.Author.Needs.{needs}
+use Rattle.integers.specs.Basics.{_≡_, _∙_, sym, ap, arith, needs}
 use Rattle.memory_layout.specs.Rosters.{every}
 use Rattle.memory_layout.specs.View.{marketOf, rosterOf, ownFigures, defaultFigures, groupFigures}
 use Rattle.memory_layout.proofs.Every.{every-same}
@@ -36,7 +34,8 @@ group-row-in-range-requires c κs =
 
 -- what each call says of the account's rows
 own : (c : tie.After-row-in-range) → let a = c .before .before .before .before .before .before .before .args in
-    c .row-in-range .result ≡ every (rosterOf (a .m .now) .instruments) (λ i. lineInRange (marketOf (a .m .now) .largest) (ownFigures (a .m .now) (a .a) i))
+    c .row-in-range .result ≡ every (rosterOf (a .m .now) .instruments)
+    (λ i. lineInRange (marketOf (a .m .now) .largest) (ownFigures (a .m .now) (a .a) i))
 own c =
     let s = c .before .before .before .before .before .before .before in
     c .row-in-range .ensures
@@ -45,7 +44,8 @@ own c =
 
 default : (c : tie.After-row-in-range2) → let a =
     c .before .before .before .before .before .before .before .before .before .before .before .args in
-    c .row-in-range2 .result ≡ every (rosterOf (a .m .now) .contracts) (λ i. lineInRange (marketOf (a .m .now) .largest) (defaultFigures (a .m .now) (a .a) i))
+    c .row-in-range2 .result ≡ every (rosterOf (a .m .now) .contracts)
+    (λ i. lineInRange (marketOf (a .m .now) .largest) (defaultFigures (a .m .now) (a .a) i))
 default c =
     let s = c .before .before .before .before .before .before .before .before .before .before .before in
     c .row-in-range2 .ensures
@@ -54,7 +54,8 @@ default c =
 
 of-group : (c : tie.After-group-row-in-range) → let a =
     c .before .before .before .before .before .before .before .before .before .before .before .before .before .before .before .args in
-    c .group-row-in-range .result ≡ every (rosterOf (a .m .now) .groups) (λ i. groupLineInRange (marketOf (a .m .now) .largest) (groupFigures (a .m .now) (a .a) i))
+    c .group-row-in-range .result ≡ every (rosterOf (a .m .now) .groups)
+    (λ i. groupLineInRange (marketOf (a .m .now) .largest) (groupFigures (a .m .now) (a .a) i))
 of-group c =
     let s = c .before .before .before .before .before .before .before .before .before .before .before .before .before .before .before in
     c .group-row-in-range .ensures
@@ -65,7 +66,8 @@ returns : tie.Need-returns
 returns c =
     let row = c .before .before in
     let s = row .before .before in
-    sym (row-within _ (s .pre .0) _ (s .pre .1) (rw (row .lines-row .ensures, s .pre .2) at (c .before .all-in-range .ensures (c .if1 .taken))))
+    sym (row-within _ (s .pre .0) _ (s .pre .1)
+    (rw (row .lines-row .ensures, s .pre .2) at (c .before .all-in-range .ensures (c .if1 .taken))))
 
 returns-2 : tie.Need-returns-2
 unfolding accountLinesSound

@@ -1,6 +1,5 @@
 -- As `row_in_range`, word by word.
-use Prim.Native.Nat.{_-_}
-use native.Mathlib.Omega.{arith}
+use Rattle.integers.specs.Basics.{_-_, arith}
 use Rattle.limits.specs.InBytes.{groupLineAt}
 use Rattle.memory_soundness.specs.Soundness.{groupLineInRange}
 use Rattle.memory_layout.proofs.Every.{SoFar, so-far-none, so-far-on, so-far-all, every-no}

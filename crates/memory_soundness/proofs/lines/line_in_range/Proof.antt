@@ -1,5 +1,5 @@
 -- A line's four figures are the halves of its two words: it is in range where both words are.
-use borrow.Author.Needs.{needs}
+use Rattle.integers.specs.Basics.{needs}
 use Rattle.limits.specs.InBytes.{lineAt, groupLineAt}
 use Rattle.memory_soundness.specs.Soundness.{lineInRange, groupLineInRange}
 use Rattle.memory_soundness.proofs.Asked.{answered-no, answered-yes}

@@ -1,8 +1,5 @@
 -- Account by account, the answer is `account_lines_are_sound`'s; the loop leaves at the first no.
-use Prim.Native.Nat.{_-_}
-use mathlib.Core.Path.{_≡_}
-use native.Mathlib.Omega.{arith}
-use borrow.Author.Needs.{needs}
+use Rattle.integers.specs.Basics.{_-_, _≡_, arith, needs}
 use Rattle.memory_layout.specs.View.{rosterOf}
 use Rattle.memory_soundness.specs.Soundness.{accountLinesSound, linesSound}
 use Rattle.memory_layout.proofs.Every.{SoFar, so-far-none, so-far-on, so-far-all, every-no}

@@ -1,6 +1,5 @@
 -- Line by line, the answer is that of `line_in_range`; the loop leaves at the first no.
-use Prim.Native.Nat.{_*_, _-_}
-use native.Mathlib.Omega.{arith}
+use Rattle.integers.specs.Basics.{_*_, _-_, arith}
 use Rattle.limits.specs.InBytes.{lineAt}
 use Rattle.memory_soundness.specs.Soundness.{lineInRange}
 use Rattle.memory_layout.proofs.Every.{SoFar, so-far-none, so-far-on, so-far-all, every-no}

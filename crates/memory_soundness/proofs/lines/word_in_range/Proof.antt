@@ -1,6 +1,5 @@
 -- A word's lower and upper half are the group line's two figures, and each is compared with the largest.
-use mathlib.Core.Path.{ap}
-use borrow.Author.Needs.{needs}
+use Rattle.integers.specs.Basics.{ap, needs}
 use Rattle.words.specs.Words.{lower}
 use Rattle.limits.specs.InBytes.{groupLineAt}
 use Rattle.memory_soundness.specs.Soundness.{groupLineInRange}

@@ -1,8 +1,5 @@
 -- A yes of the details is one for every record within them; else the loop asks record by record, all before p having been marked.
-use Prim.Native.Nat.{_-_, _<_}
-use mathlib.Core.Path.{_≡_, _∙_}
-use native.Mathlib.Omega.{arith}
-use lib.ListN.{length}
+use Rattle.integers.specs.Basics.{_-_, _<_, _≡_, _∙_, length, arith}
 use Rattle.memory_layout.proofs.Lengths.{length-open}
 use Rattle.memory_soundness.specs.Each.{Marked}
 use Rattle.memory_soundness.proofs.Details.{record-packable}

@@ -1,9 +1,6 @@
 -- The loop has seen the first a marks set. A yes covers the largest account and instrument that the details' bits allow, so each order
 -- within the details has its account and instrument on the roster and its account's mark among those seen.
-use Prim.Native.Nat.{ℕ, _+_, _-_, _≤_, _<_}
-use mathlib.Core.Path.{_≡_}
-use mathlib.Core.Bool.{true, false≢true}
-use native.Mathlib.Omega.{arith}
+use Rattle.integers.specs.Basics.{ℕ, _+_, _-_, _≤_, _<_, _≡_, true, false≢true, arith}
 use Rattle.ledger.specs.Records.{packedAccount}
 use Rattle.memory_layout.specs.View.{rosterOf, tradingOf}
 use Rattle.memory_soundness.proofs.Asked.{answered-yes}

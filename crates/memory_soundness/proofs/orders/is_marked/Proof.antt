@@ -1,7 +1,5 @@
 -- Yes exactly where account and instrument are on the roster and the mark is set: a no is one of these failing.
-use mathlib.Core.Path.{_∙_, sym}
-use mathlib.Core.Bool.{true≢false}
-use borrow.Author.Needs.{needs}
+use Rattle.integers.specs.Basics.{_∙_, sym, true≢false, needs}
 use Rattle.book.proofs.Tables.{between-numbered}
 use Rattle.ledger.specs.Roster.{Numbered}
 use Rattle.memory_layout.specs.View.{rosterOf}

@@ -1,6 +1,5 @@
 -- What the pass, the totals and the marks tell together is that the ids ascend and each order is sound.
-use borrow.Author.Needs.{needs}
-use borrow.Author.Tests.{not-false}
+use Rattle.integers.specs.Basics.{needs, not-false}
 use Rattle.ledger.specs.Records.{Within}
 use Rattle.memory_soundness.specs.Each.{Each}
 use Rattle.memory_soundness.proofs.Telling.{told-yes, told-no}

@@ -1,10 +1,6 @@
 -- After t turns 2 t records are passed, whose ids ascend and of which something remains; `ended` says what the pass tells at its end.
-use Prim.Native.Nat.{_+_, _*_, _/_, _-_, _≤_}
-use mathlib.Core.Path.{_≡_, refl, _∙_, sym}
-use mathlib.Core.Bool.{true, false≢true, true≢false}
-use native.Mathlib.Omega.{arith}
-use borrow.Author.Tests.{not-true, not-false}
-use lib.ListN.{length}
+use Rattle.integers.specs.Basics.{_+_, _*_, _-_, _/_, _≤_, _≡_, refl, _∙_, sym, true, true≢false, false≢true, length, arith, not-true}
+use Rattle.integers.specs.Basics.{not-false}
 use Rattle.words.specs.Words.{wordAt}
 use Rattle.memory_layout.specs.Layout.{countWord}
 use Rattle.memory_layout.specs.View.{recordsOf}

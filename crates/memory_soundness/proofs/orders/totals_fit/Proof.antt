@@ -1,8 +1,5 @@
 -- No total exceeds filled plus remaining of the details' bits taken together; where that does not tell, the loop asks record by record.
-use Prim.Native.Nat.{_-_, _<_}
-use mathlib.Core.Path.{_≡_, _∙_}
-use native.Mathlib.Omega.{arith}
-use lib.ListN.{length}
+use Rattle.integers.specs.Basics.{_-_, _<_, _≡_, _∙_, length, arith}
 use Rattle.memory_layout.proofs.Lengths.{length-open}
 use Rattle.memory_soundness.specs.Each.{TotalFits}
 use Rattle.ledger.proofs.Details.{within-total}

@@ -1,6 +1,5 @@
 -- Below −1,000,000 the magnitude is too large (`weight-low`); from there on the upper comparison decides (`weight-high`).
-use mir.Syntax.{w64}
-use mir.ValLaws.{toZ-ofZ}
+use Rattle.integers.specs.Basics.{w64, toZ-ofZ}
 use Rattle.memory_soundness.proofs.Asked.{weight-low, weight-high}
 use Rattle.memory_soundness.proofs.ranges.is_weight.Statement.{statement}
 use Rattle.memory_soundness.proofs.ranges.is_weight.Tie as tie

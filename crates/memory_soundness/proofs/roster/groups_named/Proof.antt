@@ -1,8 +1,5 @@
 -- Contract by contract, the answer is that of the test of the group read; the loop leaves at the first no.
-use Prim.Native.Nat.{_+_, _-_}
-use mathlib.Core.Path.{_≡_, _∙_, sym}
-use native.Mathlib.Omega.{arith}
-use borrow.Author.Needs.{needs}
+use Rattle.integers.specs.Basics.{_+_, _-_, _≡_, _∙_, sym, arith, needs}
 use Rattle.ledger.specs.Records.{rosterIn}
 use Rattle.book.specs.Decoding.{between}
 use Rattle.memory_layout.proofs.Every.{SoFar, so-far-none, so-far-on, so-far-all, every-no, every-in}

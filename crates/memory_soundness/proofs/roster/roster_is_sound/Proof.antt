@@ -1,12 +1,5 @@
 -- Sizes first, since they keep the tables inside the part; then each contract's group, each instrument's contract, each weight.
-use Prim.Native.Nat.{_≤_}
-use mathlib.Core.Path.{_≡_, _∙_, ap}
-use mathlib.Core.Bool.{true}
-use native.Mathlib.Omega.{arith}
-use borrow.Author.Needs.{needs}
-use lib.Dec.{leb}
-use lib.IntN.{natAbs}
-use lib.ListN.{length}
+use Rattle.integers.specs.Basics.{_≤_, _≡_, _∙_, ap, true, natAbs, leb, length, arith, needs}
 use Rattle.ledger.specs.Records.{rosterIn}
 use Rattle.book.specs.Decoding.{between}
 use Rattle.memory_layout.specs.Rosters.{every, sizesFit}

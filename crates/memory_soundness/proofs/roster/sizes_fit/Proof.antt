@@ -1,7 +1,5 @@
 -- The four sizes are tested in the definition's order with its bounds 16, 4, 8 and 32: each return is the first that fails, or the last.
-use Prim.Native.Nat.{ℕ}
-use mathlib.Core.Path.{_≡_, _∙_, ap}
-use borrow.Author.Needs.{needs}
+use Rattle.integers.specs.Basics.{ℕ, _≡_, _∙_, ap, needs}
 use Rattle.book.specs.Decoding.{between}
 use Rattle.memory_layout.specs.Rosters.{sizesFit}
 use Rattle.memory_layout.specs.View.{rosterOf}

@@ -1,13 +1,5 @@
 -- Instrument by instrument, the answer is that of the test of the weight read; the loop leaves at the first no.
-use Prim.Native.Nat.{_+_, _-_}
-use mathlib.Core.Path.{_≡_, _∙_, sym}
-use native.Mathlib.Omega.{arith}
-use borrow.Author.Needs.{needs}
-use borrow.Author.Tests.{le-leb}
-use lib.Dec.{leb}
-use lib.IntN.{natAbs}
-use mir.Syntax.{w64}
-use mir.ValLaws.{toZ-ofZ}
+use Rattle.integers.specs.Basics.{_+_, _-_, _≡_, _∙_, sym, natAbs, leb, w64, toZ-ofZ, arith, needs, le-leb}
 use Rattle.words.specs.Words.{signedAt}
 use Rattle.ledger.specs.Records.{rosterIn}
 use Rattle.memory_layout.proofs.Every.{SoFar, so-far-none, so-far-on, so-far-all, every-no, every-in}

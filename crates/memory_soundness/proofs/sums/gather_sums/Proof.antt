@@ -1,9 +1,5 @@
 -- The records passed are gathered; each order adds what remains of it to its own cell.
-use Prim.Native.Nat.{_+_, _-_, _<_}
-use mathlib.Core.Path.{_≡_, _∙_}
-use native.Mathlib.Omega.{arith}
-use lib.ListN.{length}
-use Rattle.integers.specs.Parts.{signed}
+use Rattle.integers.specs.Basics.{_+_, _-_, _<_, _≡_, _∙_, length, arith, signed}
 use Rattle.words.specs.Words.{wordAt}
 use Rattle.ledger.proofs.Details.{remaining-below}
 use Rattle.memory_layout.specs.Layout.{countWord}

@@ -1,6 +1,5 @@
 -- The balance and the fill are small: on a buy their sum is taken, on a sell their difference.
-use mathlib.Core.Path.{_∙_}
-use borrow.Author.Needs.{needs}
+use Rattle.integers.specs.Basics.{_∙_, needs}
 use Rattle.memory_working.proofs.orders.balance_after.Statement.{statement}
 use Rattle.memory_working.proofs.orders.balance_after.Tie as tie
 

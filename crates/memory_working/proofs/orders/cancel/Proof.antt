@@ -1,6 +1,6 @@
 -- Nothing of the order counts any more, and the order at the place is the one that the id names: removing that record is the book's change
 -- to no order.
-use borrow.Author.Needs.{needs}
+use Rattle.integers.specs.Basics.{needs}
 use Rattle.memory_working.proofs.Changing.{inside, cancelled}
 use Rattle.memory_working.proofs.SumsMoved.{change-sums}
 use Rattle.memory_working.proofs.Keeping.{recountable}

@@ -1,5 +1,5 @@
 -- Each change by its own function, with its figure, which is no less than 0, as a whole number.
-use borrow.Author.Needs.{needs}
+use Rattle.integers.specs.Basics.{needs}
 use Rattle.book.specs.declared.OrderChange.the-variants.{Replace, Fill}
 use Rattle.memory_working.proofs.Handing.{Whole, whole, change-as}
 use Rattle.memory_working.proofs.Changing.{change-facts}

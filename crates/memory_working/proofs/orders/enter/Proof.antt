@@ -1,7 +1,6 @@
 -- What remains of the order comes to count, it joins at its id's rank, and its account is marked: both stores are the event's. An
 -- acceptance says that a place is free.
-use native.Mathlib.Omega.{arith}
-use borrow.Author.Needs.{needs}
+use Rattle.integers.specs.Basics.{arith, needs}
 use Rattle.memory_working.proofs.Changing.{new-room, order-joins}
 use Rattle.memory_working.proofs.SumsMoved.{new-sums}
 use Rattle.memory_working.proofs.Keeping.{recountable}

@@ -1,8 +1,5 @@
 -- What is filled counts no more; the record and the balance are what the definition says of the order that the event names.
-use Prim.Native.Nat.{_≤_}
-use mathlib.Core.Path.{_≡_}
-use native.Mathlib.Omega.{arith}
-use borrow.Author.Needs.{needs}
+use Rattle.integers.specs.Basics.{_≤_, _≡_, arith, needs}
 use Rattle.ledger.specs.Records.{orderOf}
 use Rattle.memory_layout.specs.View.{balancesOf}
 use Rattle.memory_working.proofs.Filling.{fill-most, fill-quantity, fill-room, fill-readable, fill-stands, fill-small, fill-worked}

@@ -1,6 +1,5 @@
 -- At remaining 0 the record leaves and else it is replaced, which is what `kept` makes of the filled order in the book's `change`.
-use mathlib.Core.Path.{_∙_}
-use borrow.Author.Needs.{needs}
+use Rattle.integers.specs.Basics.{_∙_, needs}
 use Rattle.memory_working.proofs.Changing.{at-place, filled-leaves, filled-stays}
 use Rattle.memory_working.proofs.orders.fill_record.Statement.{statement}
 use Rattle.memory_working.proofs.orders.fill_record.Tie as tie

@@ -1,5 +1,5 @@
 -- What remains at the new total counts, and the order that the id names gets that total at its place, which is the book's change.
-use borrow.Author.Needs.{needs}
+use Rattle.integers.specs.Basics.{needs}
 use Rattle.ledger.specs.Orders.{remaining, replacedTotal}
 use Rattle.memory_working.proofs.Changing.{inside, replaced-room, replaced}
 use Rattle.memory_working.proofs.SumsMoved.{change-sums}

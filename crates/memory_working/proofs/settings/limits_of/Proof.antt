@@ -1,6 +1,5 @@
 -- Figures that fit and do not unset the line are four limits, so none is negative, each fits 32 bits, and they are `lineOf`'s.
-use mir.Syntax.{w64}
-use mir.ValLaws.{toZ-ofZ}
+use Rattle.integers.specs.Basics.{w64, toZ-ofZ}
 use Rattle.memory_working.proofs.LineFigures.{limit-cast, all-limits, line-set}
 use Rattle.memory_working.proofs.settings.limits_of.Statement.{statement}
 use Rattle.memory_working.proofs.settings.limits_of.Tie as tie

@@ -1,8 +1,5 @@
 -- S is stored at the account and instrument, which an acceptance has put on the roster, as the 64 bits that read back as it.
-use mathlib.Core.Path.{_∙_, ap}
-use borrow.Author.Needs.{needs}
-use mir.Syntax.{w64}
-use mir.ValLaws.{toZ-ofZ}
+use Rattle.integers.specs.Basics.{_∙_, ap, w64, toZ-ofZ, needs}
 use Rattle.memory_layout.specs.FieldStores.{storeBalance}
 use Rattle.memory_working.specs.Working.{worked}
 use Rattle.memory_working.proofs.Rooms.{room}

@@ -1,6 +1,5 @@
 -- Each kind of block stores one bit, which is set where the figure is not 0; its account, instrument or group is on the roster.
-use native.Mathlib.Omega.{arith}
-use borrow.Author.Needs.{needs}
+use Rattle.integers.specs.Basics.{arith, needs}
 use Rattle.memory_working.proofs.Rooms.{room}
 use Rattle.memory_working.proofs.Blocking.{ready-block, worked-block}
 use Rattle.memory_working.proofs.settings.work_block.Statement.{statement}

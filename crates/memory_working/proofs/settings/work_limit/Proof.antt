@@ -1,8 +1,6 @@
 -- Each level's line, by the name that the match gives it, is judged, so its words are inside the memory; what is stored there is what
 -- `worked` stores.
-use mathlib.Core.Path.{_∙_}
-use native.Mathlib.Omega.{arith}
-use borrow.Author.Needs.{needs}
+use Rattle.integers.specs.Basics.{_∙_, arith, needs}
 use Rattle.memory_working.proofs.AcceptedFacts.{accepted-facts}
 use Rattle.memory_working.proofs.Rooms.{room}
 use Rattle.memory_working.proofs.LineFigures.{storable-figures, ready-line, worked-line, group-handed}

@@ -1,6 +1,5 @@
 -- Where the figures unset the line none is stored, and else the limits that they are: in either case `lineOf figures`.
-use mathlib.Core.Path.{_∙_, sym, ap}
-use borrow.Author.Needs.{needs}
+use Rattle.integers.specs.Basics.{_∙_, sym, ap, needs}
 use Rattle.memory_layout.specs.FieldStores.{storeLine}
 use Rattle.memory_working.proofs.LineFigures.{line-unset}
 use Rattle.memory_working.proofs.settings.work_line.Statement.{statement}

@@ -1,6 +1,5 @@
 -- An LCC of −1 means both are −1 in an accepted LIMIT, and the line is unset; else both are limits, which fit 32 bits.
-use mathlib.Core.Path.{_∙_, ap}
-use borrow.Author.Needs.{needs}
+use Rattle.integers.specs.Basics.{_∙_, ap, needs}
 use Rattle.memory_layout.specs.FieldStores.{storeOfGroup}
 use Rattle.memory_working.proofs.Rooms.{room}
 use Rattle.memory_working.proofs.LineFigures.{group-unset, group-casts, group-set}

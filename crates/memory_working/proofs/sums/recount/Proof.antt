@@ -1,13 +1,6 @@
 -- The order's cell holds B or V, which is small and at least what counted of the order: what counts then is put in and what counted
 -- taken out; no other cell moves.
-use Prim.Native.Nat.{ℕ, _+_, _-_, _≤_, _<_}
-use mathlib.Core.Path.{_≡_, _∙_, ap}
-use mathlib.Core.Logic.{inl, inr, ⊎-elim}
-use native.Mathlib.Omega.{arith}
-use borrow.Author.Needs.{needs}
-use lib.ListN.{length, getD}
-use lib.IntN.{pos, _+ℤ_}
-use Rattle.integers.specs.Parts.{signed}
+use Rattle.integers.specs.Basics.{ℕ, _+_, _-_, _≤_, _<_, _≡_, _∙_, ap, inl, inr, ⊎-elim, pos, _+ℤ_, length, getD, arith, needs, signed}
 use Rattle.memory_working.specs.SumsChanged.{cellOf, Countable}
 use Rattle.memory_working.proofs.Keeping.{settled, kept}
 use Rattle.memory_working.proofs.sums.recount.Statement.{statement}

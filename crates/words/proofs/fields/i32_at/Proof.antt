@@ -1,6 +1,5 @@
 -- The unsigned field's bits, read in two's complement: what `signed32` made of them fits 32 bits, so it is read back.
-use borrow.Author.Needs.{needs}
-use mir.Syntax.{w32}
+use Rattle.integers.specs.Basics.{w32, needs}
 use Rattle.words.specs.Fields.{u32At, i32At}
 use Rattle.words.proofs.Complement.{read-signed}
 use Rattle.words.proofs.fields.i32_at.Statement.{statement}

@@ -1,6 +1,5 @@
 -- As `i32_at`: the field's bits in two's complement.
-use borrow.Author.Needs.{needs}
-use mir.Syntax.{w64}
+use Rattle.integers.specs.Basics.{w64, needs}
 use Rattle.words.specs.Fields.{u64At, i64At}
 use Rattle.words.proofs.Complement.{read-signed}
 use Rattle.words.proofs.fields.i64_at.Statement.{statement}

@@ -1,7 +1,5 @@
 -- Two bytes joined are the number of two bytes, which the definition computes; it is below 2 ^ 16, so the cast keeps it.
-use Prim.Native.Nat.{_+_}
-use native.Mathlib.Omega.{arith}
-use borrow.Author.Needs.{needs}
+use Rattle.integers.specs.Basics.{_+_, arith, needs}
 use Rattle.words.specs.Bytes.{number}
 use Rattle.words.specs.Fields.{u16At}
 use Rattle.words.proofs.fields.u16_at.Statement.{statement}

@@ -1,8 +1,5 @@
 -- Four bytes joined are the number of four bytes, written out; it is below 2 ^ 32, so the cast keeps it.
-use Prim.Native.Nat.{_+_}
-use mathlib.Core.Path.{_∙_, sym}
-use native.Mathlib.Omega.{arith}
-use borrow.Author.Needs.{needs}
+use Rattle.integers.specs.Basics.{_+_, _∙_, sym, arith, needs}
 use Rattle.words.specs.Fields.{u32At}
 use Rattle.words.proofs.Unrolled.{number-four}
 use Rattle.words.proofs.fields.u32_at.Statement.{statement}

@@ -1,6 +1,5 @@
 -- Eight bytes joined are the number of eight bytes, written out.
-use mathlib.Core.Path.{_∙_, sym}
-use borrow.Author.Needs.{needs}
+use Rattle.integers.specs.Basics.{_∙_, sym, needs}
 use Rattle.words.specs.Fields.{u64At}
 use Rattle.words.proofs.Unrolled.{number-eight}
 use Rattle.words.proofs.fields.u64_at.Statement.{statement}

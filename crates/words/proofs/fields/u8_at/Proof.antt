@@ -1,6 +1,5 @@
 -- A number of one byte is that byte.
-use native.Mathlib.Omega.{arith}
-use borrow.Author.Needs.{needs}
+use Rattle.integers.specs.Basics.{arith, needs}
 use Rattle.words.specs.Bytes.{number}
 use Rattle.words.specs.Fields.{u8At}
 use Rattle.words.proofs.fields.u8_at.Statement.{statement}

@@ -1,10 +1,5 @@
 -- A number not below 0 is its own bits; below 0, 2^64 − 1 less its complement is 2^64 less its magnitude (`bits-negative`).
-use mathlib.Core.Path.{sym}
-use lib.IntN.{pos}
-use lib.Signed.{_≤ℤ_, _<ℤ_}
-use mir.Syntax.{w64}
-use mir.Val.{SFits}
-use Rattle.integers.specs.Parts.{signed, magnitude-parts}
+use Rattle.integers.specs.Basics.{sym, pos, _≤ℤ_, _<ℤ_, w64, SFits, signed, magnitude-parts}
 use Rattle.integers.specs.TwosComplement.{bits-nonneg, bits-negative}
 use Rattle.words.proofs.Complement.{read-back, below-fits, below-read}
 use Rattle.words.proofs.signed.bits64.Statement.{statement}

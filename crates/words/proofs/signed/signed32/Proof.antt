@@ -1,8 +1,5 @@
 -- Below half of the width the bits are the number; from there on −1 less the bits' complement is, and no step of it leaves 32 bits.
-use mathlib.Core.Path.{sym}
-use native.Mathlib.Omega.{arith}
-use borrow.Author.Needs.{needs}
-use mir.Syntax.{w32}
+use Rattle.integers.specs.Basics.{sym, w32, arith, needs}
 use Rattle.integers.specs.TwosComplement.{signed-toZ}
 use Rattle.words.proofs.Complement.{complement-fits, complement-read}
 use Rattle.words.proofs.signed.signed32.Statement.{statement}

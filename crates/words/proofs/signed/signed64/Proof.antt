@@ -1,8 +1,5 @@
 -- As `signed32`, by the same laws of every width.
-use mathlib.Core.Path.{sym}
-use native.Mathlib.Omega.{arith}
-use borrow.Author.Needs.{needs}
-use mir.Syntax.{w64}
+use Rattle.integers.specs.Basics.{sym, w64, arith, needs}
 use Rattle.integers.specs.TwosComplement.{signed-toZ}
 use Rattle.words.proofs.Complement.{complement-fits, complement-read}
 use Rattle.words.proofs.signed.signed64.Statement.{statement}

@@ -1,6 +1,5 @@
 -- What is filled and what remains move against each other in their bits, and no bit below them changes.
-use native.Mathlib.Omega.{arith}
-use borrow.Author.Needs.{needs}
+use Rattle.integers.specs.Basics.{arith, needs}
 use Rattle.ledger.specs.Orders.{filledBy}
 use Rattle.ledger.specs.Records.{orderOf}
 use Rattle.ledger.proofs.Details.{moved}

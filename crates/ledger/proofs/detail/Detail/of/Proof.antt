@@ -1,6 +1,5 @@
 -- Packed names, filled and remaining are put at their bits: a storable order has each below its bound, so the sum fits 64 bits.
-use native.Mathlib.Omega.{arith}
-use borrow.Author.Needs.{needs}
+use Rattle.integers.specs.Basics.{arith, needs}
 use Rattle.ledger.specs.Orders.{remaining}
 use Rattle.ledger.specs.Records.{detail}
 use Rattle.ledger.proofs.Packing.{packed-below, detail-below, detail-back}

@@ -1,5 +1,5 @@
 -- Each field is read from its bits of the detail, as `orderOf` does; filled and remaining are below 2^27, so the total fits.
-use borrow.Author.Needs.{needs}
+use Rattle.integers.specs.Basics.{needs}
 use Rattle.ledger.specs.Records.{orderOf}
 use Rattle.ledger.proofs.detail.Detail.order.Statement.{statement}
 use Rattle.ledger.proofs.detail.Detail.order.Tie as tie

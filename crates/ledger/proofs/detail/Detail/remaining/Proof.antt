@@ -1,6 +1,5 @@
 -- What remains of the order of any id is what the upper bits say (`remaining-of`).
-use mathlib.Core.Path.{_∙_, sym}
-use borrow.Author.Needs.{needs}
+use Rattle.integers.specs.Basics.{_∙_, sym, needs}
 use Rattle.ledger.proofs.Details.{remaining-of}
 use Rattle.ledger.proofs.detail.Detail.remaining.Statement.{statement}
 use Rattle.ledger.proofs.detail.Detail.remaining.Tie as tie

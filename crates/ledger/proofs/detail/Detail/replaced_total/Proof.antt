@@ -1,7 +1,5 @@
 -- The bits below what remains are kept, and the new total less what is filled is put above them.
-use mathlib.Core.Path.{refl}
-use native.Mathlib.Omega.{arith}
-use borrow.Author.Needs.{needs}
+use Rattle.integers.specs.Basics.{refl, arith, needs}
 use Rattle.ledger.specs.Orders.{replacedTotal}
 use Rattle.ledger.specs.Records.{orderOf}
 use Rattle.ledger.proofs.Details.{below-remaining, moved}

@@ -1,6 +1,5 @@
 -- The filled quantity alone rises, by n, and the required bound keeps it in 64 bits.
-use mathlib.Core.Path.{refl}
-use borrow.Author.Needs.{needs}
+use Rattle.integers.specs.Basics.{refl, needs}
 use Rattle.ledger.specs.Orders.{filledBy}
 use Rattle.ledger.proofs.order.Order.filled_by.Statement.{statement}
 use Rattle.ledger.proofs.order.Order.filled_by.Tie as tie

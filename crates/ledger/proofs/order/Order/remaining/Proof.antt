@@ -1,6 +1,5 @@
 -- The difference is taken where it is not below 0, and 0 elsewhere: subtraction of natural numbers.
-use mathlib.Core.Path.{refl}
-use native.Mathlib.Omega.{arith}
+use Rattle.integers.specs.Basics.{refl, arith}
 use Rattle.ledger.specs.Orders.{remaining}
 use Rattle.ledger.proofs.order.Order.remaining.Statement.{statement}
 use Rattle.ledger.proofs.order.Order.remaining.Tie as tie

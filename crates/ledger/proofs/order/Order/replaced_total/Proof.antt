@@ -1,5 +1,5 @@
 -- The total alone is written, so the order is the definition's record with the new total.
-use mathlib.Core.Path.{refl}
+use Rattle.integers.specs.Basics.{refl}
 use Rattle.ledger.specs.Orders.{replacedTotal}
 use Rattle.ledger.proofs.order.Order.replaced_total.Statement.{statement}
 use Rattle.ledger.proofs.order.Order.replaced_total.Tie as tie

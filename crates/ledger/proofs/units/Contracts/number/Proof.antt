@@ -1,6 +1,5 @@
 -- A signed number that is not below 0 is the same as an unsigned one.
-use borrow.Author.Needs.{needs}
-use Rattle.integers.specs.Parts.{signed}
+use Rattle.integers.specs.Basics.{needs, signed}
 use Rattle.integers.specs.Magnitude.{sized}
 use Rattle.ledger.proofs.Fits.{small-again}
 use Rattle.ledger.proofs.units.Contracts.number.Statement.{statement}

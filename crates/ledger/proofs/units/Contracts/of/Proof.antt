@@ -1,7 +1,5 @@
 -- A number of at most 9·10^18 is below 2^63, so that as a signed word it is itself.
-use native.Mathlib.Omega.{arith}
-use borrow.Author.Needs.{needs}
-use mir.Syntax.{w64}
+use Rattle.integers.specs.Basics.{w64, arith, needs}
 use mir.ValLaws.{toZ-pos}
 use Rattle.ledger.proofs.units.Contracts.of.Statement.{statement}
 use Rattle.ledger.proofs.units.Contracts.of.Tie as tie
