@@ -61,13 +61,9 @@ loop-again c =
           (λ large. none-before _ _ b before _ was read large),
     )
 
-returns : tie.Need-returns Inv-loop μ-loop
-returns c =
-    let inv = c .before .loop .inv in
-    (omega arith, inv .1 .1, λ less. inv .1 .2 (omega arith))
-
 pub blocks-before-spec : {M : Type 1} → statement M
 blocks-before-spec =
     tie.close (tie.spec Inv-loop μ-loop (λ c. (omega arith, (omega arith, λ h. absurd (omega arith), λ less. absurd (omega arith))))
     (λ c. omega arith) (λ c. omega arith) (λ c κs. (c .before .before .before .pre .0 .0, omega arith)) (λ c κs. tt) (λ c. omega arith)
-    (λ c. omega arith) (λ c. omega arith) loop-again returns)
+    (λ c. omega arith) (λ c. omega arith) loop-again
+    (λ c. let inv = c .before .loop .inv in (omega arith, inv .1 .1, λ less. inv .1 .2 (omega arith))))
