@@ -78,7 +78,8 @@ module _ (put : List ℕ → ℕ → List ℕ) where
   written-there of x m k here others long zero low high = absurd (omega arith)
   written-there of x m k here others long (suc n) low high =
       by-cases (ℕ-discrete k (suc n)) (λ same. rw (← same) (here (written put m n) (written-length long m n)))
-      (λ other. others (written put m n) (suc n) (λ e. other (sym e)) ∙ written-there of x m k here others long n low (omega (arith, other)))
+      (λ other. others (written put m n) (suc n) (λ e. other (sym e))
+      ∙ written-there of x m k here others long n low (omega (arith, other)))
 
 pub written-same : (f g : List ℕ → ℕ → List ℕ) (m : List ℕ) (n : ℕ) → ((l : List ℕ) (k : ℕ) → 1 ≤ k → k ≤ n → f l k ≡ g l k)
     → written f m n ≡ written g m n
