@@ -1,6 +1,6 @@
 -- A test of every number from 1 to n, number by number.
-use Rattle.integers.specs.Basics.{ℕ, zero, suc, _+_, _≤_, _<_, _≡_, refl, _∙_, sym, Bool, true, false, not, _&&_, ℕ-discrete, arith}
-use Rattle.integers.specs.Basics.{not-true, not-false}
+use Rattle.integers.specs.Basics.{ℕ, zero, suc, _+_, _≤_, _<_, _≡_, refl, _∙_, sym, by-cases, Bool, true, false, not, _&&_, ℕ-discrete}
+use Rattle.integers.specs.Basics.{arith, not-true, not-false}
 use native.Mathlib.Numerals.{add-one}
 use Rattle.ledger.specs.Roster.{Numbered}
 use Rattle.limits.proofs.Answers.{both-true, and-true}
@@ -20,11 +20,7 @@ module _ (test : ℕ → Bool) where
   every-out zero e k h = absurd (omega arith)
   every-out (suc n) e k h =
       let both = both-true (every n test) (test (suc n)) e in
-      by (ℕ-discrete k (suc n)) (both .1) (λ l. every-out n (both .0) k (h .0, l))
-    where
-      by : Dec (k ≡ suc n) → test (suc n) ≡ true → (k ≤ n → test k ≡ true) → test k ≡ true
-      by (yes same) here below = rw same here
-      by (no apart) here below = below (omega (arith, apart))
+      by-cases (ℕ-discrete k (suc n)) (λ same. rw same (both .1)) (λ apart. every-out n (both .0) k (h .0, omega (arith, apart)))
 
   pub every-in : (n : ℕ) → ((k : ℕ) → Numbered n k → test k ≡ true) → every n test ≡ true
   unfolding every
@@ -35,11 +31,8 @@ module _ (test : ℕ → Bool) where
   fails : (n k : ℕ) → k < n → test (suc k) ≡ false → every n test ≡ false
   unfolding every
   fails zero k h f = absurd (omega arith)
-  fails (suc n) k h f = by (ℕ-discrete k n) (λ l. fails n k l f)
-    where
-      by : Dec (k ≡ n) → (k < n → every n test ≡ false) → every n test && test (suc n) ≡ false
-      by (yes same) below = rw (← same, f, and-false)
-      by (no apart) below = rw (below (omega (arith, apart)))
+  fails (suc n) k h f =
+      by-cases (ℕ-discrete k n) (λ same. rw (← same, f, and-false)) (λ apart. rw (fails n k (omega (arith, apart)) f))
 
   -- ---- a loop that leaves at the first no: t is its answer at number j + 1
   pub every-no : (n j : ℕ) (t : Bool) → j < n → t ≡ test (j + 1) → not t ≡ true → false ≡ every n test

@@ -1,10 +1,12 @@
 -- Where the first record stands when an order joins or leaves: which side moves, and that it stays inside the region.
-use Rattle.integers.specs.Basics.{ℕ, _+_, _*_, _-_, _≤_, _<_, _≡_, refl, _⊎_, inl, inr, Bool, true, false, _&&_, cond, List, ltb, eqb}
+use Rattle.integers.specs.Basics.{ℕ, _+_, _*_, _-_, _≤_, _<_, _≡_, _⊎_, inl, inr, Bool, true, false, _&&_, cond, List, ltb, eqb}
 use Rattle.integers.specs.Basics.{arith, ltb-true, lt-ltb, le-ltb}
 use Rattle.words.specs.Words.{wordAt}
+use Rattle.limits.proofs.Answers.{both-true}
 use Rattle.memory_layout.specs.Layout.{countWord}
 use Rattle.memory_layout.specs.View.{firstOf}
 use Rattle.memory_layout.specs.Stores.{joinedFirst, leftFirst}
+use Rattle.memory_layout.proofs.RosterLaws.{by-test}
 
 module _ (x y a n : ℕ) (t : Bool) where
   pub side-before : a < n → t ≡ true → cond (ltb a n && t) x y ≡ x
@@ -16,12 +18,7 @@ module _ (x y a n : ℕ) (t : Bool) where
 
   -- what holds of both, of the first where t holds
   side-small : (most : ℕ) → (t ≡ true → x ≤ most) → y ≤ most → cond (ltb a n && t) x y ≤ most
-  side-small most hx hy = by (ltb a n) t hx
-    where
-      by : (s u : Bool) → (u ≡ true → x ≤ most) → cond (s && u) x y ≤ most
-      by true true h = h refl
-      by true false h = hy
-      by false u h = hy
+  side-small most hx hy = by-test (ltb a n && t) x y (λ z. z ≤ most) (λ e. hx (both-true (ltb a n) t e .1)) (λ e. hy)
 
 -- the first record stands inside the region wherever an order joins or leaves
 module _ (m : List ℕ) (p : ℕ) (few : firstOf m ≤ 256) where
@@ -30,11 +27,7 @@ module _ (m : List ℕ) (p : ℕ) (few : firstOf m ≤ 256) where
   joined-small =
       side-small (firstOf m - 1) (cond (eqb (firstOf m) 256) 0 (firstOf m)) (p * 2) (wordAt m countWord) (ltb 0 (firstOf m)) 256
       (λ e. omega arith)
-      (by (eqb (firstOf m) 256))
-    where
-      by : (t : Bool) → cond t 0 (firstOf m) ≤ 256
-      by true = omega arith
-      by false = few
+      (by-test (eqb (firstOf m) 256) 0 (firstOf m) (λ z. z ≤ 256) (λ e. omega arith) (λ e. few))
 
   pub left-small : leftFirst m p ≤ 256
   unfolding leftFirst

@@ -11,7 +11,7 @@ use Rattle.book.specs.Market.{Market}
 use Rattle.book.specs.States.{State}
 use Rattle.book.proofs.Tables.{between-numbered}
 use Rattle.memory_layout.specs.View.{onRoster}
-use Rattle.memory_layout.proofs.RosterLaws.{by-test, numbered-between}
+use Rattle.memory_layout.proofs.RosterLaws.{by-test, same-where, numbered-between}
 
 -- the view's records, field by field
 pub same-lines : (o o′ d d′ : ℕ → Option Line) (g g′ : ℕ → Option GroupLine) → o ≡ o′ → d ≡ d′ → g ≡ g′
@@ -50,14 +50,10 @@ on-each accounts numbers a n x otherwise P on off =
 pub on-same : {A : Type 0} (accounts numbers a n : ℕ) (x y otherwise : A) → (Numbered accounts a → Numbered numbers n → x ≡ y)
     → onRoster accounts numbers a n x otherwise ≡ onRoster accounts numbers a n y otherwise
 on-same accounts numbers a n x y otherwise same =
-    by (between 1 accounts a && between 1 numbers n)
+    same-where (between 1 accounts a && between 1 numbers n) x y otherwise
     (λ e.
     let h = both-true (between 1 accounts a) (between 1 numbers n) e in
     same (between-numbered accounts a (h .0)) (between-numbered numbers n (h .1)))
-  where
-    by : (t : Bool) → (t ≡ true → x ≡ y) → cond t x otherwise ≡ cond t y otherwise
-    by true e = e refl
-    by false e = refl
 
 pub on-here : {A : Type 0} (accounts numbers a n : ℕ) (x otherwise : A) → Numbered accounts a → Numbered numbers n
     → onRoster accounts numbers a n x otherwise ≡ x

@@ -1,7 +1,8 @@
 -- How many orders the lists have, and that a place is among them.
-use Rattle.integers.specs.Basics.{ℕ, zero, suc, _+_, _-_, _≤_, _<_, _≡_, refl, Bool, true, false, cond, List, [], _∷_, ltb, length, arith}
+use Rattle.integers.specs.Basics.{ℕ, zero, suc, _+_, _-_, _≤_, _<_, _≡_, refl, List, [], _∷_, ltb, length, arith}
 use Rattle.words.specs.Words.{wordAt}
 use Rattle.ledger.specs.declared.order.Order.{Order}
+use Rattle.ledger.proofs.Ways.{by-test}
 use Rattle.book.specs.OpenOrders.{insert}
 use Rattle.memory_layout.specs.Layout.{countWord}
 use Rattle.memory_layout.specs.View.{recordsOf, openOrders}
@@ -11,11 +12,8 @@ use Rattle.memory_layout.proofs.Stored.{length-orders-from}
 pub length-insert : (o : Order) (os : List Order) → length (insert o os) ≡ length os + 1
 unfolding insert
 length-insert o [] = refl
-length-insert o (x ∷ os) = by (ltb (o .id) (x .id)) (length-insert o os)
-  where
-    by : (t : Bool) → length (insert o os) ≡ length os + 1 → length (cond t (o ∷ x ∷ os) (x ∷ insert o os)) ≡ suc (length os) + 1
-    by true e = omega arith
-    by false e = omega arith
+length-insert o (x ∷ os) =
+    by-test (ltb (o .id) (x .id)) (λ t. rw t (omega arith)) (λ t. rw t (omega (arith, length-insert o os)))
 
 pub length-without : (p : ℕ) (os : List Order) → p < length os → length (without p os) ≡ length os - 1
 unfolding without
@@ -26,11 +24,7 @@ length-without (suc p) (o ∷ os) h = omega (arith, length-without p os (omega a
 rank-within : (id : ℕ) (os : List Order) → rank id os ≤ length os
 unfolding rank
 rank-within id [] = omega arith
-rank-within id (o ∷ os) = by (ltb id (o .id)) (rank-within id os)
-  where
-    by : (t : Bool) → rank id os ≤ length os → cond t 0 (suc (rank id os)) ≤ suc (length os)
-    by true h = omega arith
-    by false h = omega arith
+rank-within id (o ∷ os) = by-test (ltb id (o .id)) (λ t. rw t (omega arith)) (λ t. rw t (omega (arith, rank-within id os)))
 
 pub length-open : (m : List ℕ) → length (openOrders m) ≡ wordAt m countWord
 unfolding openOrders

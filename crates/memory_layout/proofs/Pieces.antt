@@ -1,7 +1,8 @@
 -- A list of orders in records, cut at a place: with an order that joins there, leaves there, or becomes another there.
-use Rattle.integers.specs.Basics.{ℕ, zero, suc, _+_, _-_, _<_, _≡_, refl, ap, Bool, true, false, cond, List, _∷_, _++_, ltb, set, arith}
+use Rattle.integers.specs.Basics.{ℕ, zero, suc, _+_, _-_, _<_, _≡_, refl, ap, List, _∷_, _++_, ltb, set, arith}
 use Rattle.ledger.specs.declared.order.Order.{Order}
 use Rattle.ledger.specs.Records.{orderAt, ordersFrom}
+use Rattle.ledger.proofs.Ways.{by-test}
 use Rattle.book.specs.OpenOrders.{insert}
 use Rattle.memory_layout.specs.Stores.{rank, without}
 
@@ -14,21 +15,14 @@ module _ (s : List ℕ) (o : Order) where
       (n - rank (o .id) (ordersFrom s r n))
   unfolding insert rank ordersFrom
   cut-insert zero r = refl
-  cut-insert (suc n) r = by (ltb (o .id) (orderAt s r .id)) (cut-insert n (r + 1))
-    where
-      by : (t : Bool) → insert o (ordersFrom s (r + 1) n) ≡ with-at (r + 1) (rank (o .id) (ordersFrom s (r + 1) n))
-          (n - rank (o .id) (ordersFrom s (r + 1) n))
-          → cond t (o ∷ orderAt s r ∷ ordersFrom s (r + 1) n) (orderAt s r ∷ insert o (ordersFrom s (r + 1) n)) ≡ with-at r
-          (cond t 0 (suc (rank (o .id) (ordersFrom s (r + 1) n)))) (suc n - cond t 0 (suc (rank (o .id) (ordersFrom s (r + 1) n))))
-      by true later =
-          let e : r + 0 ≡ r = omega arith in
-          let f : suc n - 0 ≡ suc n = omega arith in
-          rw (e, f)
-      by false later =
-          let p : ℕ = rank (o .id) (ordersFrom s (r + 1) n) in
-          let e : r + suc p ≡ r + 1 + p = omega arith in
-          let f : suc n - suc p ≡ n - p = omega arith in
-          rw (e, f) (ap (λ l. orderAt s r ∷ l) later)
+  cut-insert (suc n) r =
+      let p : ℕ = rank (o .id) (ordersFrom s (r + 1) n) in
+      let none : r + 0 ≡ r = omega arith in
+      let all : suc n - 0 ≡ suc n = omega arith in
+      let e : r + suc p ≡ r + 1 + p = omega arith in
+      let f : suc n - suc p ≡ n - p = omega arith in
+      by-test (ltb (o .id) (orderAt s r .id)) (λ t. rw (t, none, all))
+      (λ t. rw (t, e, f) (ap (λ l. orderAt s r ∷ l) (cut-insert n (r + 1))))
 
   pub cut-set : (p n r : ℕ) → p < n → set (ordersFrom s r n) p o ≡ ordersFrom s r p ++ (o ∷ ordersFrom s (r + p + 1) (n - (p + 1)))
   unfolding ordersFrom

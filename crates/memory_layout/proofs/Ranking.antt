@@ -1,6 +1,6 @@
 -- The search by id among records whose ids ascend: what the id in a record says of the records before it and behind it.
-use Rattle.integers.specs.Basics.{ℕ, zero, suc, _+_, _*_, _-_, _/_, _≤_, _<_, _≡_, refl, _∙_, sym, ap, _≢_, List, _∷_, ℕ-discrete, arith}
-use Rattle.integers.specs.Basics.{lt-ltb, le-ltb}
+use Rattle.integers.specs.Basics.{ℕ, zero, suc, _+_, _*_, _-_, _/_, _≤_, _<_, _≡_, refl, _∙_, sym, ap, _≢_, by-cases, List, _∷_, ℕ-discrete}
+use Rattle.integers.specs.Basics.{arith, lt-ltb, le-ltb}
 use native.Mathlib.Decide.{decLe}
 use Rattle.words.specs.Words.{wordAt}
 use Rattle.ledger.specs.declared.order.Order.{Order}
@@ -20,11 +20,8 @@ ascending-out (next l a) = (l, a)
 
 -- what k, which is 1 where a is smaller than b and else 0, has where both cases have it
 pub by-smaller : (P : ℕ → Type 0) {a b k : ℕ} → (a < b → k ≡ 1) × (b ≤ a → k ≡ 0) × (k ≤ 1) → (a < b → P 1) → (b ≤ a → P 0) → P k
-by-smaller P {a} {b} {k} is less other = by (decLe b a)
-  where
-    by : Dec (b ≤ a) → P k
-    by (yes h) = rw (is .1 h) (other h)
-    by (no h) = let l : a < b = omega (arith, h) in rw (is .0 l) (less l)
+by-smaller P {a} {b} is less other =
+    by-cases (decLe b a) (λ h. rw (is .1 h) (other h)) (λ h. let l : a < b = omega (arith, h) in rw (is .0 l) (less l))
 
 -- ---- the records s from p on
 module _ (s : List ℕ) where
@@ -32,20 +29,18 @@ module _ (s : List ℕ) where
   above : (n p q least : ℕ) → Ascending least (ordersFrom s p n) → p ≤ q → q < p + n → least < orderAt s q .id
   unfolding ordersFrom
   above zero p q least up low high = absurd (omega arith)
-  above (suc n) p q least up low high = by (ℕ-discrete p q) (above n (p + 1) q (orderAt s p .id) (ascending-out up .1))
-    where
-      by : Dec (p ≡ q) → (p + 1 ≤ q → q < p + 1 + n → orderAt s p .id < orderAt s q .id) → least < orderAt s q .id
-      by (yes here) later = rw (← here) (ascending-out up .0)
-      by (no other) later = omega (arith, ascending-out up .0, later (omega arith) (omega arith))
+  above (suc n) p q least up low high =
+      let later = above n (p + 1) q (orderAt s p .id) (ascending-out up .1) in
+      by-cases (ℕ-discrete p q) (λ here. rw (← here) (ascending-out up .0))
+      (λ other. omega (arith, ascending-out up .0, later (omega arith) (omega arith)))
 
   rises : (n p q r least : ℕ) → Ascending least (ordersFrom s p n) → p ≤ q → q < r → r < p + n → orderAt s q .id < orderAt s r .id
   unfolding ordersFrom
   rises zero p q r least up low less high = absurd (omega arith)
-  rises (suc n) p q r least up low less high = by (ℕ-discrete p q) (rises n (p + 1) q r (orderAt s p .id) (ascending-out up .1))
-    where
-      by : Dec (p ≡ q) → (p + 1 ≤ q → q < r → r < p + 1 + n → orderAt s q .id < orderAt s r .id) → orderAt s q .id < orderAt s r .id
-      by (yes here) later = rw (← here) (above n (p + 1) r (orderAt s p .id) (ascending-out up .1) (omega arith) (omega arith))
-      by (no other) later = later (omega arith) less (omega arith)
+  rises (suc n) p q r least up low less high =
+      by-cases (ℕ-discrete p q)
+      (λ here. rw (← here) (above n (p + 1) r (orderAt s p .id) (ascending-out up .1) (omega arith) (omega arith)))
+      (λ other. rises n (p + 1) q r (orderAt s p .id) (ascending-out up .1) (omega arith) less (omega arith))
 
   module _ (id : ℕ) where
     rank-more : (n p : ℕ) → orderAt s p .id ≤ id → rank id (ordersFrom s p (suc n)) ≡ suc (rank id (ordersFrom s (p + 1) n))
@@ -59,30 +54,22 @@ module _ (s : List ℕ) where
     -- a larger id is not before the place
     not-before : (n p q : ℕ) → p ≤ q → q < p + n → id < orderAt s q .id → p + rank id (ordersFrom s p n) ≤ q
     not-before zero p q low high larger = absurd (omega arith)
-    not-before (suc n) p q low high larger = by (decLe (orderAt s p .id) id) (not-before n (p + 1) q)
-      where
-        by : Dec (orderAt s p .id ≤ id)
-            → (p + 1 ≤ q → q < p + 1 + n → id < orderAt s q .id → p + 1 + rank id (ordersFrom s (p + 1) n) ≤ q)
-            → p + rank id (ordersFrom s p (suc n)) ≤ q
-        by (yes small) later =
-            let other : p ≢ q = λ e. absurd (omega (arith, ap (λ r. orderAt s r .id) e)) in
-            omega (arith, rank-more n p small, later (omega arith) (omega arith) larger)
-        by (no large) later = omega (arith, rank-none n p (omega (arith, large)))
+    not-before (suc n) p q low high larger =
+        by-cases (decLe (orderAt s p .id) id)
+        (λ small. let other : p ≢ q = λ e. absurd (omega (arith, ap (λ r. orderAt s r .id) e)) in
+        omega (arith, rank-more n p small, not-before n (p + 1) q (omega arith) (omega arith) larger))
+        (λ large. omega (arith, rank-none n p (omega (arith, large))))
 
     -- any other is
     before : (n p q least : ℕ) → Ascending least (ordersFrom s p n) → p ≤ q → q < p + n → orderAt s q .id ≤ id
         → q < p + rank id (ordersFrom s p n)
     unfolding ordersFrom
     before zero p q least up low high small = absurd (omega arith)
-    before (suc n) p q least up low high small = by (ℕ-discrete p q) (before n (p + 1) q (orderAt s p .id) (ascending-out up .1))
-      where
-        by : Dec (p ≡ q)
-            → (p + 1 ≤ q → q < p + 1 + n → orderAt s q .id ≤ id → q < p + 1 + rank id (ordersFrom s (p + 1) n))
-            → q < p + rank id (ordersFrom s p (suc n))
-        by (yes here) later = omega (arith, rank-more n p (rw here small))
-        by (no other) later =
-            let l = above n (p + 1) q (orderAt s p .id) (ascending-out up .1) (omega arith) (omega arith) in
-            omega (arith, rank-more n p (omega arith), later (omega arith) (omega arith) small)
+    before (suc n) p q least up low high small =
+        let later = before n (p + 1) q (orderAt s p .id) (ascending-out up .1) in
+        by-cases (ℕ-discrete p q) (λ here. omega (arith, rank-more n p (rw here small)))
+        (λ other. let l = above n (p + 1) q (orderAt s p .id) (ascending-out up .1) (omega arith) (omega arith) in
+        omega (arith, rank-more n p (omega arith), later (omega arith) (omega arith) small))
 
 -- ---- the open orders
 module _ (m : List ℕ) (id : ℕ) where
@@ -106,24 +93,19 @@ module _ (m : List ℕ) (id : ℕ) where
 
     -- up to a place whose id is smaller, and behind one whose id is not, no order has the id
     none-upto : (r : ℕ) → r < count → orderIn m r .id < id → NotIn (recordsOf m) id 0 (r + 1)
-    none-upto r high small q low less same = by (ℕ-discrete q r)
-      where
-        by : Dec (q ≡ r) → ⊥
-        by (yes here) = omega (arith, ap (λ k. orderIn m k .id) here)
-        by (no other) = omega (arith, ids-rise q r (omega arith) high)
+    none-upto r high small q low less same =
+        by-cases (ℕ-discrete q r) (λ here. omega (arith, ap (λ k. orderIn m k .id) here))
+        (λ other. omega (arith, ids-rise q r (omega arith) high))
 
     none-behind : (r : ℕ) → id ≤ orderIn m r .id → NotIn (recordsOf m) id (r + 1) count
     none-behind r large q low high same = omega (arith, ids-rise r q (omega arith) high)
 
     -- the first larger id is not further behind such a place
     rank-behind : (r : ℕ) → r < count → id ≤ orderIn m r .id → rank id (openOrders m) ≤ r + 1
-    rank-behind r high large = by (decLe count (r + 1))
-      where
-        by : Dec (count ≤ r + 1) → rank id (openOrders m) ≤ r + 1
-        by (yes last) = omega (arith, rank-open m id)
-        by (no more) =
-            let inside : r + 1 < count = omega (arith, more) in
-            at-larger (r + 1) _ inside refl (omega (arith, ids-rise r (r + 1) (omega arith) inside))
+    rank-behind r high large =
+        by-cases (decLe count (r + 1)) (λ last. omega (arith, rank-open m id))
+        (λ more. let inside : r + 1 < count = omega (arith, more) in
+        at-larger (r + 1) _ inside refl (omega (arith, ids-rise r (r + 1) (omega arith) inside)))
 
     -- the order with the id, if there is one, stands just before the place p of the first larger id
     module _ (p x : ℕ) (is : p ≡ rank id (openOrders m)) (read : x ≡ orderIn m (p - 1) .id) where
@@ -144,13 +126,10 @@ module _ (m : List ℕ) (id : ℕ) where
           let s : List ℕ = recordsOf m in
           sym (seek-all s count id)
           ∙ seek-nowhere s count id 0 (omega arith)
-          (λ q low high same. by q high same (at-other q _ high refl up (omega arith)) (ℕ-discrete (q + 1) p))
-        where
-          by : (q : ℕ) → q < count → orderIn m q .id ≡ id → q < rank id (openOrders m) → Dec (q + 1 ≡ p) → ⊥
-          by q high same there (yes last) =
-              let e : q ≡ p - 1 = omega arith in
-              other (omega arith) (read ∙ ap (λ r. orderIn m r .id) (sym e) ∙ same)
-          by q high same there (no earlier) = omega (arith, earlier, rank-behind q high (omega arith))
+          (λ q low high same. let there = at-other q _ high refl up (omega arith) in
+          by-cases (ℕ-discrete (q + 1) p)
+          (λ last. let e : q ≡ p - 1 = omega arith in other (omega arith) (read ∙ ap (λ r. orderIn m r .id) (sym e) ∙ same))
+          (λ earlier. omega (arith, earlier, rank-behind q high (omega arith))))
 
 -- ---- the block that is searched: it stands behind the first r blocks, which end with a smaller id, and ends at `to`
 pub record Block (m : List ℕ) (id r to : ℕ) : Type 0 where
@@ -198,17 +177,13 @@ module _ (m : List ℕ) (id r to : ℕ) (up : Ascending 0 (openOrders m)) (b : B
 
   -- and the place of the first larger id is in it, or at its end
   pub rank-from : r * 16 ≤ rank id (openOrders m)
-  rank-from = by (decLe 1 r)
-    where
-      by : Dec (1 ≤ r) → r * 16 ≤ rank id (openOrders m)
-      by (yes some) = omega (arith, at-other m id (r * 16 - 1) _ (omega (arith, b .inside)) refl up (omega (arith, b .small some)))
-      by (no none) = omega (arith, none)
+  rank-from =
+      by-cases (decLe 1 r)
+      (λ some. omega (arith, at-other m id (r * 16 - 1) _ (omega (arith, b .inside)) refl up (omega (arith, b .small some))))
+      (λ none. omega (arith, none))
 
   pub rank-upto : rank id (openOrders m) ≤ to
-  rank-upto = by (decLe (wordAt m countWord) to)
-    where
-      by : Dec (wordAt m countWord ≤ to) → rank id (openOrders m) ≤ to
-      by (yes all) = omega (arith, rank-open m id)
-      by (no some) =
-          let e = b .ends (omega (arith, some)) in
-          omega (arith, rank-behind m id up (r * 16 + 15) (omega (arith, some)) (b .large (omega (arith, some))))
+  rank-upto =
+      by-cases (decLe (wordAt m countWord) to) (λ all. omega (arith, rank-open m id))
+      (λ some. let e = b .ends (omega (arith, some)) in
+      omega (arith, rank-behind m id up (r * 16 + 15) (omega (arith, some)) (b .large (omega (arith, some)))))

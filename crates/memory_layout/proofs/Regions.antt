@@ -68,11 +68,7 @@ pub record ApartOf (a b c d g h : ℕ) : Type 0 where
 
 pub apart : (a b i k : ℕ) → Numbered 32 i → Numbered 32 k → Apart a b i k
 apart a b i k on-i on-k =
-    record {
-      balance = λ e. omega arith;
-      ownSet = λ e. omega arith;
-      own = λ x y p q e. omega arith;
-    }
+    record { balance = λ e. omega arith; ownSet = λ e. omega arith; own = λ x y p q e. omega arith }
 
 pub apart-of : (a b c d g h : ℕ) → Numbered 8 c → Numbered 8 d → Numbered 4 g → Numbered 4 h → ApartOf a b c d g h
 apart-of a b c d g h on-c on-d on-g on-h =
@@ -92,8 +88,4 @@ pub record ApartKinds (a b i c g : ℕ) : Type 0 where
 
 pub apart-kinds : (a b i c g : ℕ) → Numbered 32 i → Numbered 8 c → Numbered 4 g → ApartKinds a b i c g
 apart-kinds a b i c g on-i on-c on-g =
-    record {
-      ownDefault = λ x y p q e. omega arith;
-      ownGroup = λ x p e. omega arith;
-      defaultGroup = λ x p e. omega arith;
-    }
+    record { ownDefault = λ x y p q e. omega arith; ownGroup = λ x p e. omega arith; defaultGroup = λ x p e. omega arith }

@@ -17,6 +17,10 @@ pub by-test : {A : Type 0} (t : Bool) (x y : A) (P : A → Type 0) → (t ≡ tr
 by-test true x y P taken left = taken refl
 by-test false x y P taken left = left refl
 
+pub same-where : {A : Type 0} (t : Bool) (x y otherwise : A) → (t ≡ true → x ≡ y) → cond t x otherwise ≡ cond t y otherwise
+same-where true x y otherwise same = same refl
+same-where false x y otherwise same = refl
+
 pub numbered-between : (most n : ℕ) → Numbered most n → between 1 most n ≡ true
 numbered-between most n on = and-true (leb 1 n) (leb n most) (le-leb 1 n (on .0)) (le-leb n most (on .1))
 
@@ -27,11 +31,8 @@ guarded most f otherwise k = cond (between 1 most k) (f k) otherwise
 pub guarded-same : {A : Type 0} (most : ℕ) (f g : ℕ → A) (otherwise : A) → ((k : ℕ) → 1 ≤ k → k ≤ most → f k ≡ g k)
     → guarded most f otherwise ≡ guarded most g otherwise
 guarded-same most f g otherwise same =
-    fun-ext (λ k. by (between 1 most k) (λ e. same k (between-numbered most k e .0) (between-numbered most k e .1)))
-  where
-    by : {k : ℕ} (t : Bool) → (t ≡ true → f k ≡ g k) → cond t (f k) otherwise ≡ cond t (g k) otherwise
-    by true here = here refl
-    by false here = refl
+    fun-ext
+    (λ k. same-where (between 1 most k) _ _ _ (λ e. same k (between-numbered most k e .0) (between-numbered most k e .1)))
 
 pub listed-same : (a g c i : ℕ) (f f′ h h′ : ℕ → ℕ) (w w′ : ℕ → ℤ) → ((k : ℕ) → 1 ≤ k → k ≤ c → f k ≡ f′ k)
     → ((k : ℕ) → 1 ≤ k → k ≤ i → h k ≡ h′ k) → ((k : ℕ) → 1 ≤ k → k ≤ i → w k ≡ w′ k) → listed a g c i f h w ≡ listed a g c i f′ h′ w′

@@ -1,13 +1,13 @@
 -- Stored orders: the view's list is the book's, nothing else of the view changes, and the records can be worked on again. And an order
 -- found by its id, where the book finds it.
-use Rattle.integers.specs.Basics.{ℕ, zero, suc, _+_, _≤_, _<_, _≡_, _∙_, sym, ap, Bool, true, false, cond, List, [], _∷_, some, eqb, length}
-use Rattle.integers.specs.Basics.{set, arith}
+use Rattle.integers.specs.Basics.{ℕ, zero, suc, _+_, _≤_, _<_, _≡_, _∙_, sym, ap, List, [], _∷_, some, eqb, length, set, arith}
 use Rattle.words.specs.Words.{wordAt}
 use Rattle.ledger.specs.declared.order.Order.{Order}
 use Rattle.ledger.specs.declared.find.Found.the-variants.{At}
 use Rattle.ledger.specs.Orders.{placeFrom}
 use Rattle.ledger.specs.Records.{orderAt, ordersFrom}
 use Rattle.ledger.proofs.Search.{found-place}
+use Rattle.ledger.proofs.Ways.{by-test}
 use Rattle.book.specs.OpenOrders.{find, change}
 use Rattle.memory_layout.specs.Layout.{kindWord, countWord}
 use Rattle.memory_layout.specs.View.{marketOf, balancesOf, linesOf, blocksOf, rosterOf, recordsOf, openOrders, bookOf, tradingOf}
@@ -56,13 +56,10 @@ module _ (m : List ℕ) (f : ℕ) (os : List Order) (held : InBounds m) (low : f
 found-there : (s : List ℕ) (id n q p : ℕ) → placeFrom q id (ordersFrom s q n) ≡ At p → find id (ordersFrom s q n) ≡ some (orderAt s p)
 unfolding placeFrom ordersFrom find
 found-there s id zero q p e = let z : _≡_ {A = ℕ} 0 1 = cc in absurd (omega arith)
-found-there s id (suc n) q p e = by (eqb (orderAt s q .id) id) e (found-there s id n (q + 1) p)
-  where
-    by : (t : Bool) → cond t (At q) (placeFrom (q + 1) id (ordersFrom s (q + 1) n)) ≡ At p
-        → (placeFrom (q + 1) id (ordersFrom s (q + 1) n) ≡ At p → find id (ordersFrom s (q + 1) n) ≡ some (orderAt s p))
-        → cond t (some (orderAt s q)) (find id (ordersFrom s (q + 1) n)) ≡ some (orderAt s p)
-    by true here later = let same : q ≡ p = cc in rw same
-    by false there later = later there
+found-there s id (suc n) q p e =
+    by-test (eqb (orderAt s q .id) id)
+    (λ t. let here : At q ≡ At p = rw t at e in let same : q ≡ p = cc in rw t (ap (λ r. some (orderAt s r)) same))
+    (λ t. rw t (found-there s id n (q + 1) p (rw t at e)))
 
 -- it is one of the open orders, the one that the book's search finds
 module _ (m : List ℕ) (id p : ℕ) (found : placeFrom 0 id (openOrders m) ≡ At p) where

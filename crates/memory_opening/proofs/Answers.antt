@@ -46,36 +46,24 @@ module _ (m s : List ℕ) where
   unfolding afterOpening
   refused n e = (sym e, rw (e, ne-eqb (suc n) 0 (λ z. omega arith)))
 
-  too-short-no : length m < 65536 → openingAnswer m s ≡ 1
-  unfolding openingAnswer openingQuestions firstNo longEnough
-  too-short-no h = rw (lt-leb 65536 (length m) h)
-
   pub too-short : length m < 65536 → (1 ≡ openingAnswer m s) × (m ≡ afterOpening m s)
-  too-short h = refused 0 (too-short-no h)
+  unfolding openingAnswer openingQuestions firstNo longEnough
+  too-short h = refused 0 (rw (lt-leb 65536 (length m) h))
 
   module _ (long : 65536 ≤ length m) where
-    wrong-sizes-no : lengthsFit s ≡ false → openingAnswer m s ≡ 2
-    unfolding openingAnswer openingQuestions firstNo longEnough
-    wrong-sizes-no e = rw (le-leb 65536 (length m) long, e)
-
     pub wrong-sizes : lengthsFit s ≡ false → (2 ≡ openingAnswer m s) × (m ≡ afterOpening m s)
-    wrong-sizes e = refused 1 (wrong-sizes-no e)
+    unfolding openingAnswer openingQuestions firstNo longEnough
+    wrong-sizes e = refused 1 (rw (le-leb 65536 (length m) long, e))
 
     module _ (sizes : lengthsFit s ≡ true) where
-      unknown-name-no : namesFit (rosterFrom s) ≡ false → openingAnswer m s ≡ 3
-      unfolding openingAnswer openingQuestions firstNo longEnough
-      unknown-name-no e = rw (le-leb 65536 (length m) long, sizes, e)
-
       pub unknown-name : namesFit (rosterFrom s) ≡ false → (3 ≡ openingAnswer m s) × (m ≡ afterOpening m s)
-      unknown-name e = refused 2 (unknown-name-no e)
+      unfolding openingAnswer openingQuestions firstNo longEnough
+      unknown-name e = refused 2 (rw (le-leb 65536 (length m) long, sizes, e))
 
       module _ (names : namesFit (rosterFrom s) ≡ true) where
-        weight-out-no : weightsFit (rosterFrom s) ≡ false → openingAnswer m s ≡ 4
-        unfolding openingAnswer openingQuestions firstNo longEnough
-        weight-out-no e = rw (le-leb 65536 (length m) long, sizes, names, e)
-
         pub weight-out : weightsFit (rosterFrom s) ≡ false → (4 ≡ openingAnswer m s) × (m ≡ afterOpening m s)
-        weight-out e = refused 3 (weight-out-no e)
+        unfolding openingAnswer openingQuestions firstNo longEnough
+        weight-out e = refused 3 (rw (le-leb 65536 (length m) long, sizes, names, e))
 
         module _ (weights : weightsFit (rosterFrom s) ≡ true) where
           passed : openingAnswer m s ≡ 0

@@ -1,5 +1,5 @@
 -- An accepted opening: the roster that it leaves is that of the bytes, the view has just begun, and nothing else changed.
-use Rattle.integers.specs.Basics.{ℕ, _+_, _*_, _≤_, _<_, _≡_, refl, _∙_, sym, ap, List, [], _∷_, ℤ, natAbs, leb, eqb, length, getD, arith}
+use Rattle.integers.specs.Basics.{ℕ, _+_, _*_, _≤_, _<_, _≡_, refl, _∙_, sym, List, [], _∷_, ℤ, natAbs, leb, eqb, length, getD, arith}
 use Rattle.integers.specs.Basics.{leb-true, eqb-true}
 use Rattle.integers.specs.Magnitude.{sized}
 use Rattle.integers.specs.TwosComplement.{bitsOf}

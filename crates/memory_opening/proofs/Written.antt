@@ -1,5 +1,6 @@
 -- Runs of stores: what is cleared, and what is written number by number.
-use Rattle.integers.specs.Basics.{ℕ, zero, suc, _+_, _*_, _≤_, _<_, _≡_, refl, _∙_, sym, ap, _≢_, List, length, getD, ℕ-discrete, arith}
+use Rattle.integers.specs.Basics.{ℕ, zero, suc, _+_, _*_, _≤_, _<_, _≡_, refl, _∙_, sym, ap, _≢_, by-cases, List, length, getD, ℕ-discrete}
+use Rattle.integers.specs.Basics.{arith}
 use native.Mathlib.Numerals.{add-one}
 use Rattle.words.specs.Bytes.{Bytes}
 use Rattle.words.specs.Words.{wordAt, putWord}
@@ -36,13 +37,9 @@ module _ (m : List ℕ) where
   pub cleared-word : (n k : ℕ) → n * 8 ≤ length m → k < n → wordAt (cleared m n) k ≡ 0
   unfolding cleared
   cleared-word zero k fits h = absurd (omega arith)
-  cleared-word (suc n) k fits h = by (ℕ-discrete k n) (λ g. cleared-word n k (omega arith) g)
-    where
-      by : Dec (k ≡ n) → (k < n → wordAt (cleared m n) k ≡ 0) → wordAt (putWord (cleared m n) n 0) k ≡ 0
-      by (yes same) before =
-          let room : n * 8 + 8 ≤ length (cleared m n) = omega (arith, cleared-length n) in
-          rw same (word-put-same (cleared m n) n 0 room (omega arith))
-      by (no other) before = word-put-other (cleared m n) n 0 k other ∙ before (omega (arith, other))
+  cleared-word (suc n) k fits h =
+      by-cases (ℕ-discrete k n) (λ same. rw same (word-put-same (cleared m n) n 0 (omega (arith, cleared-length n)) (omega arith)))
+      (λ other. word-put-other (cleared m n) n 0 k other ∙ cleared-word n k (omega arith) (omega (arith, other)))
 
 -- ---- numbers 1 to n written, each by `put`
 module _ (put : List ℕ → ℕ → List ℕ) where
@@ -80,11 +77,9 @@ module _ (put : List ℕ → ℕ → List ℕ) where
   unfolding written
   written-there of x m k here others long zero low high = absurd (omega arith)
   written-there of x m k here others long (suc n) low high =
-      by (ℕ-discrete k (suc n)) (λ g. written-there of x m k here others long n low g)
-    where
-      by : Dec (k ≡ suc n) → (k ≤ n → of (written put m n) ≡ x) → of (put (written put m n) (suc n)) ≡ x
-      by (yes same) before = rw (← same) (here (written put m n) (written-length long m n))
-      by (no other) before = others (written put m n) (suc n) (λ e. other (sym e)) ∙ before (omega (arith, other))
+      by-cases (ℕ-discrete k (suc n)) (λ same. rw (← same) (here (written put m n) (written-length long m n)))
+      (λ other. others (written put m n) (suc n) (λ e. other (sym e))
+      ∙ written-there of x m k here others long n low (omega (arith, other)))
 
 pub written-same : (f g : List ℕ → ℕ → List ℕ) (m : List ℕ) (n : ℕ) → ((l : List ℕ) (k : ℕ) → 1 ≤ k → k ≤ n → f l k ≡ g l k)
     → written f m n ≡ written g m n

@@ -4,8 +4,5 @@ use Rattle.memory_layout.proofs.Lengths.{length-open}
 use Rattle.memory_layout.proofs.orders.count.Statement.{statement}
 use Rattle.memory_layout.proofs.orders.count.Tie as tie
 
-returns : tie.Need-returns
-returns c = c .word .ensures ∙ sym (length-open _)
-
 pub count-spec : {M : Type 1} → statement M
-count-spec = tie.close (tie.spec (λ c κs. search needs) returns)
+count-spec = tie.close (tie.spec (λ c κs. search needs) (λ c. c .word .ensures ∙ sym (length-open _)))

@@ -5,14 +5,10 @@ use Rattle.memory_layout.proofs.OrderRecords.{records-long}
 use Rattle.memory_layout.proofs.orders.detail_at.Statement.{statement}
 use Rattle.memory_layout.proofs.orders.detail_at.Tie as tie
 
-detail-in-requires : tie.Need-detail-in-requires
-detail-in-requires c κs =
-    let start = c .before .before in
-    omega (arith, ap length (c .records .ensures), records-long (start .args .m .now) (start .pre .0))
-
-returns : tie.Need-returns
-unfolding orderAt orderOf
-returns c = rw (c .detail-in .ensures, c .before .records .ensures)
-
 pub detail-at-spec : {M : Type 1} → statement M
-detail-at-spec = tie.close (tie.spec (λ c κs. search needs) detail-in-requires returns)
+unfolding orderAt orderOf
+detail-at-spec =
+    tie.close (tie.spec (λ c κs. search needs)
+    (λ c κs. let start = c .before .before in
+    omega (arith, ap length (c .records .ensures), records-long (start .args .m .now) (start .pre .0)))
+    (λ c. rw (c .detail-in .ensures, c .before .records .ensures)))

@@ -38,10 +38,6 @@ inside c =
       start .pre .2,
     )
 
-put-order-requires : tie.Need-put-order-requires
-put-order-requires c κs =
-    (search needs, inside c)
-
 returns : tie.Need-returns
 unfolding orderOf
 returns c =
@@ -60,5 +56,5 @@ returns c =
 
 pub insert-order-spec : {M : Type 1} → statement M
 insert-order-spec =
-    tie.close (tie.spec (λ c κs. search needs) make-room-requires (λ c. omega (arith, inside c)) put-order-requires (λ c κs. search needs)
-    (λ c. search needs) (λ c κs. search needs) (λ c. search needs) returns)
+    tie.close (tie.spec (λ c κs. search needs) make-room-requires (λ c. omega (arith, inside c)) (λ c κs. (search needs, inside c))
+    (λ c κs. search needs) (λ c. search needs) (λ c κs. search needs) (λ c. search needs) returns)

@@ -7,13 +7,10 @@ use Rattle.memory_layout.specs.Stores.{fields, putOrder}
 use Rattle.memory_layout.proofs.orders.put_order.Statement.{statement}
 use Rattle.memory_layout.proofs.orders.put_order.Tie as tie
 
-returns : tie.Need-returns
-unfolding putOrder fields putWords
-returns c =
-    let start = c .before .before .before .before .before .before .before .before .before in
-    cc (detail-again (start .args .id) (start .args .w .0), id-of (start .args .id) (start .args .w .0))
-
 pub put-order-spec : {M : Type 1} → statement M
+unfolding putOrder fields putWords
 put-order-spec =
     tie.close (tie.spec (λ c. search needs) (λ c. search needs) (λ c κs. search needs) (λ c. search needs) (λ c κs. search needs)
-    (λ c. search needs) returns)
+    (λ c. search needs)
+    (λ c. let start = c .before .before .before .before .before .before .before .before .before in
+    cc (detail-again (start .args .id) (start .args .w .0), id-of (start .args .id) (start .args .w .0))))

@@ -4,12 +4,8 @@ use Rattle.memory_layout.proofs.FieldsRead.{balance-word}
 use Rattle.memory_layout.proofs.readers.balance.Statement.{statement}
 use Rattle.memory_layout.proofs.readers.balance.Tie as tie
 
-returns : tie.Need-returns
-returns c =
-    let s = c .before .before in
-    toZ-ofZ w64 (c .signed-word .result) (record { sfits = c .signed-word .ok })
-    ∙ c .signed-word .ensures
-    ∙ sym (balance-word _ _ (s .pre .1) _ (s .pre .2))
-
 pub balance-spec : {M : Type 1} → statement M
-balance-spec = tie.close (tie.spec (λ c. search needs) (λ c. search needs) (λ c. search needs) (λ c κs. search needs) returns)
+balance-spec =
+    tie.close (tie.spec (λ c. search needs) (λ c. search needs) (λ c. search needs) (λ c κs. search needs)
+    (λ c. let s = c .before .before in toZ-ofZ w64 (c .signed-word .result) (record { sfits = c .signed-word .ok })
+    ∙ c .signed-word .ensures ∙ sym (balance-word _ _ (s .pre .1) _ (s .pre .2))))

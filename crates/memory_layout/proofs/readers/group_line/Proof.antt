@@ -4,15 +4,9 @@ use Rattle.memory_layout.proofs.LinesInRows.{groups-long, holds-group-l
 use Rattle.memory_layout.proofs.readers.group_line.Statement.{statement}
 use Rattle.memory_layout.proofs.readers.group_line.Tie as tie
 
-part-requires : tie.Need-part-requires
-part-requires c κs =
-    let s = c .before .before in
-    rw (c .group-lines .ensures) (omega (arith, groups-long _ (s .pre .0) _ (s .pre .1)))
-
-returns : tie.Need-returns
-returns c =
-    let s = c .before .before .before in
-    rw (c .part .ensures, c .before .group-lines .ensures) (holds-group-line _ (s .pre .0) _ (s .pre .1) _ (s .pre .2))
-
 pub group-line-spec : {M : Type 1} → statement M
-group-line-spec = tie.close (tie.spec (λ c κs. search needs) part-requires returns)
+group-line-spec =
+    tie.close (tie.spec (λ c κs. search needs)
+    (λ c κs. let s = c .before .before in rw (c .group-lines .ensures) (omega (arith, groups-long _ (s .pre .0) _ (s .pre .1))))
+    (λ c. let s = c .before .before .before in
+    rw (c .part .ensures, c .before .group-lines .ensures) (holds-group-line _ (s .pre .0) _ (s .pre .1) _ (s .pre .2))))

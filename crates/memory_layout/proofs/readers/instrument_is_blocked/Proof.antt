@@ -4,8 +4,7 @@ use Rattle.memory_layout.proofs.FieldsRead.{instrument-flag}
 use Rattle.memory_layout.proofs.readers.instrument_is_blocked.Statement.{statement}
 use Rattle.memory_layout.proofs.readers.instrument_is_blocked.Tie as tie
 
-returns : tie.Need-returns
-returns c = c .says-yes .ensures ∙ sym (instrument-flag _ _ (c .before .before .pre .1))
-
 pub instrument-is-blocked-spec : {M : Type 1} → statement M
-instrument-is-blocked-spec = tie.close (tie.spec (λ c. search needs) (λ c κs. search needs) returns)
+instrument-is-blocked-spec =
+    tie.close (tie.spec (λ c. search needs) (λ c κs. search needs)
+    (λ c. c .says-yes .ensures ∙ sym (instrument-flag _ _ (c .before .before .pre .1))))

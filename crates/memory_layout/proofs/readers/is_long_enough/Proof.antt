@@ -4,9 +4,6 @@ use Rattle.memory_layout.specs.Rosters.{longEnough}
 use Rattle.memory_layout.proofs.readers.is_long_enough.Statement.{statement}
 use Rattle.memory_layout.proofs.readers.is_long_enough.Tie as tie
 
-returns : tie.Need-returns
-unfolding longEnough
-returns c = refl
-
 pub is-long-enough-spec : {M : Type 1} → statement M
-is-long-enough-spec = tie.close (tie.spec returns)
+unfolding longEnough
+is-long-enough-spec = tie.close (tie.spec (λ c. refl))

@@ -4,12 +4,6 @@ use Rattle.memory_layout.proofs.LinesInRows.{own-long, default-long, ho
 use Rattle.memory_layout.proofs.readers.line_in_force.Statement.{statement}
 use Rattle.memory_layout.proofs.readers.line_in_force.Tie as tie
 
-line-in-force-requires : tie.Need-line-in-force-requires
-line-in-force-requires c κs =
-    let s = c .before .before .before .before in
-    rw (c .before .own-lines .ensures, c .default-lines .ensures)
-    (omega (arith, own-long _ (s .pre .0) _ (s .pre .1)), omega (arith, default-long _ (s .pre .0) _ (s .pre .1)))
-
 returns : tie.Need-returns
 returns c =
     let lines = c .before in
@@ -20,4 +14,7 @@ returns c =
 
 pub line-in-force-spec : {M : Type 1} → statement M
 line-in-force-spec =
-    tie.close (tie.spec (λ c κs. search needs) (λ c κs. search needs) (λ c κs. search needs) line-in-force-requires returns)
+    tie.close (tie.spec (λ c κs. search needs) (λ c κs. search needs) (λ c κs. search needs)
+    (λ c κs. let s = c .before .before .before .before in
+    rw (c .before .own-lines .ensures, c .default-lines .ensures)
+    (omega (arith, own-long _ (s .pre .0) _ (s .pre .1)), omega (arith, default-long _ (s .pre .0) _ (s .pre .1)))) returns)

@@ -4,8 +4,7 @@ use Rattle.book.specs.Market.{marketOfKind}
 use Rattle.memory_layout.proofs.readers.market.Statement.{statement}
 use Rattle.memory_layout.proofs.readers.market.Tie as tie
 
-returns : tie.Need-returns
-returns c = c .market-of-kind .ensures ∙ ap (λ k. marketOfKind k .largest) (c .before .kind .ensures)
-
 pub market-spec : {M : Type 1} → statement M
-market-spec = tie.close (tie.spec (λ c κs. search needs) (λ c κs. search needs) returns)
+market-spec =
+    tie.close (tie.spec (λ c κs. search needs) (λ c κs. search needs)
+    (λ c. c .market-of-kind .ensures ∙ ap (λ k. marketOfKind k .largest) (c .before .kind .ensures)))

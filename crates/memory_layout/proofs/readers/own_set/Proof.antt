@@ -4,10 +4,7 @@ use Rattle.memory_layout.proofs.LinesInRows.{own-set}
 use Rattle.memory_layout.proofs.readers.own_set.Statement.{statement}
 use Rattle.memory_layout.proofs.readers.own_set.Tie as tie
 
-returns : tie.Need-returns
-returns c =
-    let s = c .before .before in
-    own-set _ (s .pre .0) _ (s .pre .1) _ (s .pre .2) ∙ rw (c .word .ensures)
-
 pub own-set-spec : {M : Type 1} → statement M
-own-set-spec = tie.close (tie.spec (λ c. search needs) (λ c. search needs) (λ c. search needs) (λ c κs. search needs) returns)
+own-set-spec =
+    tie.close (tie.spec (λ c. search needs) (λ c. search needs) (λ c. search needs) (λ c κs. search needs)
+    (λ c. let s = c .before .before in own-set _ (s .pre .0) _ (s .pre .1) _ (s .pre .2) ∙ rw (c .word .ensures)))

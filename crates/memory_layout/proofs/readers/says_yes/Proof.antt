@@ -3,8 +3,5 @@ use Rattle.integers.specs.Basics.{needs}
 use Rattle.memory_layout.proofs.readers.says_yes.Statement.{statement}
 use Rattle.memory_layout.proofs.readers.says_yes.Tie as tie
 
-returns : tie.Need-returns
-returns c = rw (c .word .ensures)
-
 pub says-yes-spec : {M : Type 1} → statement M
-says-yes-spec = tie.close (tie.spec (λ c κs. search needs) returns)
+says-yes-spec = tie.close (tie.spec (λ c κs. search needs) (λ c. rw (c .word .ensures)))

@@ -6,12 +6,9 @@ use Rattle.memory_layout.proofs.RosterRead.{roster-long}
 use Rattle.memory_layout.proofs.roster.accounts.Statement.{statement}
 use Rattle.memory_layout.proofs.roster.accounts.Tie as tie
 
-accounts-in-requires : tie.Need-accounts-in-requires
-accounts-in-requires c κs = rw (c .roster .ensures) (omega (arith, roster-long (c .before .before .args .m .now) (c .before .before .pre)))
-
-returns : tie.Need-returns
-unfolding rosterOf listed
-returns c = c .accounts-in .ensures ∙ rw (c .before .roster .ensures)
-
 pub accounts-spec : {M : Type 1} → statement M
-accounts-spec = tie.close (tie.spec (λ c κs. search needs) accounts-in-requires returns)
+unfolding rosterOf listed
+accounts-spec =
+    tie.close (tie.spec (λ c κs. search needs)
+    (λ c κs. rw (c .roster .ensures) (omega (arith, roster-long (c .before .before .args .m .now) (c .before .before .pre))))
+    (λ c. c .accounts-in .ensures ∙ rw (c .before .roster .ensures)))

@@ -6,12 +6,9 @@ use Rattle.memory_layout.proofs.RosterRead.{roster-long}
 use Rattle.memory_layout.proofs.roster.contracts.Statement.{statement}
 use Rattle.memory_layout.proofs.roster.contracts.Tie as tie
 
-contracts-in-requires : tie.Need-contracts-in-requires
-contracts-in-requires c κs = rw (c .roster .ensures) (omega (arith, roster-long (c .before .before .args .m .now) (c .before .before .pre)))
-
-returns : tie.Need-returns
-unfolding rosterOf listed
-returns c = c .contracts-in .ensures ∙ rw (c .before .roster .ensures)
-
 pub contracts-spec : {M : Type 1} → statement M
-contracts-spec = tie.close (tie.spec (λ c κs. search needs) contracts-in-requires returns)
+unfolding rosterOf listed
+contracts-spec =
+    tie.close (tie.spec (λ c κs. search needs)
+    (λ c κs. rw (c .roster .ensures) (omega (arith, roster-long (c .before .before .args .m .now) (c .before .before .pre))))
+    (λ c. c .contracts-in .ensures ∙ rw (c .before .roster .ensures)))

@@ -4,13 +4,9 @@ use Rattle.memory_layout.proofs.RosterRead.{roster-long, group-same}
 use Rattle.memory_layout.proofs.roster.group_of.Statement.{statement}
 use Rattle.memory_layout.proofs.roster.group_of.Tie as tie
 
-group-in-requires : tie.Need-group-in-requires
-group-in-requires c κs =
-    let s = c .before .before in
-    rw (c .roster .ensures) (omega (arith, roster-long (s .args .m .now) (s .pre .0 .long)), omega arith)
-
-returns : tie.Need-returns
-returns c = c .group-in .ensures ∙ rw (c .before .roster .ensures) (sym (group-same _ _ (c .before .before .before .pre .1)))
-
 pub group-of-spec : {M : Type 1} → statement M
-group-of-spec = tie.close (tie.spec (λ c κs. search needs) group-in-requires returns)
+group-of-spec =
+    tie.close (tie.spec (λ c κs. search needs)
+    (λ c κs. let s = c .before .before in rw (c .roster .ensures)
+    (omega (arith, roster-long (s .args .m .now) (s .pre .0 .long)), omega arith))
+    (λ c. c .group-in .ensures ∙ rw (c .before .roster .ensures) (sym (group-same _ _ (c .before .before .before .pre .1)))))

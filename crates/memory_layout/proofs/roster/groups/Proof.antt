@@ -6,12 +6,9 @@ use Rattle.memory_layout.proofs.RosterRead.{roster-long}
 use Rattle.memory_layout.proofs.roster.groups.Statement.{statement}
 use Rattle.memory_layout.proofs.roster.groups.Tie as tie
 
-groups-in-requires : tie.Need-groups-in-requires
-groups-in-requires c κs = rw (c .roster .ensures) (omega (arith, roster-long (c .before .before .args .m .now) (c .before .before .pre)))
-
-returns : tie.Need-returns
-unfolding rosterOf listed
-returns c = c .groups-in .ensures ∙ rw (c .before .roster .ensures)
-
 pub groups-spec : {M : Type 1} → statement M
-groups-spec = tie.close (tie.spec (λ c κs. search needs) groups-in-requires returns)
+unfolding rosterOf listed
+groups-spec =
+    tie.close (tie.spec (λ c κs. search needs)
+    (λ c κs. rw (c .roster .ensures) (omega (arith, roster-long (c .before .before .args .m .now) (c .before .before .pre))))
+    (λ c. c .groups-in .ensures ∙ rw (c .before .roster .ensures)))

@@ -1,5 +1,5 @@
 -- The blocks that end with a smaller id are the first ones: ids ascend, so that behind a block that does not end with one none does.
-use Rattle.integers.specs.Basics.{ℕ, _+_, _*_, _-_, _≤_, _<_, _≡_, List, arith}
+use Rattle.integers.specs.Basics.{ℕ, _+_, _*_, _-_, _≤_, _<_, _≡_, by-cases, List, arith}
 use native.Mathlib.Decide.{decLe}
 use Rattle.words.specs.Words.{wordAt}
 use Rattle.book.specs.Sound.{Ascending}
@@ -26,24 +26,22 @@ abbrev μ-loop : tie.MeasureT-loop
 -- one block more, which ends with id x
 module _ (m : List ℕ) (id b before x : ℕ) (was : Before m id b before) (read : x ≡ orderIn m (b * 16 + 15) .id) where
   one-before : Ascending 0 (openOrders m) → b * 16 + 15 < wordAt m countWord → x < id → Before m id (b + 1) (before + 1)
-  one-before up inside small = by (decLe b before)
-    where
-      by : Dec (b ≤ before) → Before m id (b + 1) (before + 1)
-      by (yes all) =
-          let e : (before + 1) * 16 - 1 ≡ b * 16 + 15 = omega arith in
-          (omega arith, λ h. rw e (omega arith), λ less. absurd (omega arith))
-      by (no some) =
-          let large = was .2 (omega (arith, some)) in
-          absurd (omega (arith, ids-rise m id up (before * 16 + 15) (b * 16 + 15) (omega (arith, some)) inside))
+  one-before up inside small =
+      by-cases (decLe b before)
+      (λ all. let e : (before + 1) * 16 - 1 ≡ b * 16 + 15 = omega arith in
+      (omega arith, λ h. rw e (omega arith), λ less. absurd (omega arith)))
+      (λ some. let large = was .2 (omega (arith, some)) in
+      absurd (omega (arith, ids-rise m id up (before * 16 + 15) (b * 16 + 15) (omega (arith, some)) inside)))
 
   none-before : id ≤ x → Before m id (b + 1) (before + 0)
   none-before large =
       let e : before + 0 ≡ before = omega arith in
-      rw e (omega arith, was .1, λ less. by (decLe b before))
-    where
-      by : Dec (b ≤ before) → id ≤ orderIn m (before * 16 + 15) .id
-      by (yes all) = let e : before ≡ b = omega arith in rw e (omega arith)
-      by (no some) = was .2 (omega (arith, some))
+      rw e (
+        omega arith,
+        was .1,
+        λ less. by-cases (decLe b before) (λ all. let e : before ≡ b = omega arith in rw e (omega arith))
+            (λ some. was .2 (omega (arith, some))),
+      )
 
 loop-again : tie.Need-loop-again Inv-loop μ-loop
 loop-again c =
@@ -61,13 +59,9 @@ loop-again c =
           (λ large. none-before _ _ b before _ was read large),
     )
 
-returns : tie.Need-returns Inv-loop μ-loop
-returns c =
-    let inv = c .before .loop .inv in
-    (omega arith, inv .1 .1, λ less. inv .1 .2 (omega arith))
-
 pub blocks-before-spec : {M : Type 1} → statement M
 blocks-before-spec =
     tie.close (tie.spec Inv-loop μ-loop (λ c. (omega arith, (omega arith, λ h. absurd (omega arith), λ less. absurd (omega arith))))
     (λ c. omega arith) (λ c. omega arith) (λ c κs. (c .before .before .before .pre .0 .0, omega arith)) (λ c κs. tt) (λ c. omega arith)
-    (λ c. omega arith) (λ c. omega arith) loop-again returns)
+    (λ c. omega arith) (λ c. omega arith) loop-again
+    (λ c. let inv = c .before .loop .inv in (omega arith, inv .1 .1, λ less. inv .1 .2 (omega arith))))

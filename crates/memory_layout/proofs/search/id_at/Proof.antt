@@ -7,16 +7,10 @@ use Rattle.memory_layout.proofs.OrderRecords.{records-long}
 use Rattle.memory_layout.proofs.search.id_at.Statement.{statement}
 use Rattle.memory_layout.proofs.search.id_at.Tie as tie
 
-id-in-requires : tie.Need-id-in-requires
-id-in-requires c κs =
-    let start = c .before .before in
-    omega (arith, ap length (c .records .ensures), records-long (start .args .m .now) (start .pre .0))
-
-returns : tie.Need-returns
-returns c =
-    let start = c .before .before .before in
-    let p = start .args .p in
-    c .id-in .ensures ∙ ap (λ s. idAt s p) (c .before .records .ensures) ∙ sym (id-at (recordsOf (start .args .m .now)) p)
-
 pub id-at-spec : {M : Type 1} → statement M
-id-at-spec = tie.close (tie.spec (λ c κs. search needs) id-in-requires returns)
+id-at-spec =
+    tie.close (tie.spec (λ c κs. search needs)
+    (λ c κs. let start = c .before .before in
+    omega (arith, ap length (c .records .ensures), records-long (start .args .m .now) (start .pre .0)))
+    (λ c. let start = c .before .before .before in let p = start .args .p in
+    c .id-in .ensures ∙ ap (λ s. idAt s p) (c .before .records .ensures) ∙ sym (id-at (recordsOf (start .args .m .now)) p)))

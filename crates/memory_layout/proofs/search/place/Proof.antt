@@ -25,12 +25,9 @@ records-before-requires c κs =
     let block = block-told _ _ _ _ _ n (c .before .blocks-before .ensures) end in
     (start .pre, rank-from _ _ _ _ (start .pre .1) block, rank-upto _ _ _ _ (start .pre .1) block, omega (arith, n, end))
 
-add-result : tie.Need-add-result
-add-result c =
-    let start = c .before .before .before .before .before .before in
-    omega (arith, c .records-before .ensures, rank-open (start .args .m .now) (start .args .id))
-
 pub place-spec : {M : Type 1} → statement M
 place-spec =
     tie.close (tie.spec (λ c κs. search needs) (λ c. search needs) (λ c κs. search needs) returns (λ c κs. search needs) (λ c. search needs)
-    (λ c κs. search needs) records-before-requires add-result (λ c. search needs))
+    (λ c κs. search needs) records-before-requires
+    (λ c. let start = c .before .before .before .before .before .before in
+    omega (arith, c .records-before .ensures, rank-open (start .args .m .now) (start .args .id))) (λ c. search needs))

@@ -4,11 +4,8 @@ use Rattle.words.specs.Words.{putWords}
 use Rattle.memory_layout.proofs.stores.set_of_group.Statement.{statement}
 use Rattle.memory_layout.proofs.stores.set_of_group.Tie as tie
 
-returns : tie.Need-returns
-unfolding putWords
-returns c = cc
-
 pub set-of-group-spec : {M : Type 1} → statement M
+unfolding putWords
 set-of-group-spec =
     tie.close (tie.spec (λ c. search needs) (λ c. search needs) (λ c. search needs) (λ c κs. search needs) (λ c κs. search needs)
-    (λ c. search needs) (λ c. search needs) (λ c. search needs) (λ c κs. search needs) (λ c. search needs) returns)
+    (λ c. search needs) (λ c. search needs) (λ c. search needs) (λ c κs. search needs) (λ c. search needs) (λ c. cc))

@@ -5,25 +5,6 @@ use Rattle.memory_opening.proofs.Tests.{lengths-exact}
 use Rattle.memory_opening.proofs.questions.lengths_fit.Statement.{statement}
 use Rattle.memory_opening.proofs.questions.lengths_fit.Tie as tie
 
-returns : tie.Need-returns
-returns c = sym (lengths-short _ (c .if1 .taken))
-
-returns-2 : tie.Need-returns-2
-returns-2 c =
-    sym (lengths-accounts _ _ (c .before .before .u16-at .ensures) (sym (c .before .numbered .ensures) ∙ not-true _ (c .if2 .taken)))
-
-returns-3 : tie.Need-returns-3
-returns-3 c =
-    sym (lengths-groups _ _ (c .before .before .u16-at2 .ensures) (sym (c .before .numbered2 .ensures) ∙ not-true _ (c .if3 .taken)))
-
-returns-4 : tie.Need-returns-4
-returns-4 c =
-    sym (lengths-contracts _ _ (c .before .before .u16-at3 .ensures) (sym (c .before .numbered3 .ensures) ∙ not-true _ (c .if4 .taken)))
-
-returns-5 : tie.Need-returns-5
-returns-5 c =
-    sym (lengths-instruments _ _ (c .before .before .u16-at4 .ensures) (sym (c .before .numbered4 .ensures) ∙ not-true _ (c .if5 .taken)))
-
 -- the sizes passed, and the length decides
 returns-6 : tie.Need-returns-6
 returns-6 c =
@@ -43,7 +24,13 @@ returns-6 c =
 
 pub lengths-fit-spec : {M : Type 1} → statement M
 lengths-fit-spec =
-    tie.close (tie.spec returns (λ c κs. search needs) (λ c. search needs) (λ c κs. search needs) returns-2 (λ c κs. search needs)
-    (λ c. search needs) (λ c κs. search needs) returns-3 (λ c κs. search needs) (λ c. search needs) (λ c κs. search needs) returns-4
-    (λ c κs. search needs) (λ c. search needs) (λ c κs. search needs) returns-5 (λ c κs. search needs) (λ c. search needs)
-    (λ c. search needs) (λ c κs. search needs) (λ c. search needs) (λ c. search needs) (λ c. search needs) returns-6)
+    tie.close (tie.spec (λ c. sym (lengths-short _ (c .if1 .taken))) (λ c κs. search needs) (λ c. search needs) (λ c κs. search needs)
+    (λ c. sym (lengths-accounts _ _ (c .before .before .u16-at .ensures) (sym (c .before .numbered .ensures) ∙ not-true _ (c .if2 .taken))))
+    (λ c κs. search needs) (λ c. search needs) (λ c κs. search needs)
+    (λ c. sym (lengths-groups _ _ (c .before .before .u16-at2 .ensures) (sym (c .before .numbered2 .ensures) ∙ not-true _ (c .if3 .taken))))
+    (λ c κs. search needs) (λ c. search needs) (λ c κs. search needs)
+    (λ c. sym (lengths-contracts _ _ (c .before .before .u16-at3 .ensures)
+    (sym (c .before .numbered3 .ensures) ∙ not-true _ (c .if4 .taken)))) (λ c κs. search needs) (λ c. search needs) (λ c κs. search needs)
+    (λ c. sym (lengths-instruments _ _ (c .before .before .u16-at4 .ensures)
+    (sym (c .before .numbered4 .ensures) ∙ not-true _ (c .if5 .taken)))) (λ c κs. search needs) (λ c. search needs) (λ c. search needs)
+    (λ c κs. search needs) (λ c. search needs) (λ c. search needs) (λ c. search needs) returns-6)

@@ -4,22 +4,6 @@ use Rattle.memory_opening.proofs.Tests.{lengths-out, lengths-long, name
 use Rattle.memory_opening.proofs.questions.names_fit.Statement.{statement}
 use Rattle.memory_opening.proofs.questions.names_fit.Tie as tie
 
-bytes-within-requires : tie.Need-bytes-within-requires
-bytes-within-requires c κs =
-    let sizes = lengths-out _ (c .before .before .before .pre) in
-    omega arith
-
-returns : tie.Need-returns
-returns c =
-    let read = c .before .before in
-    names-first _ _ _ _ (read .before .u16-at .ensures) (read .u16-at2 .ensures) (c .before .bytes-within .ensures)
-    (not-true _ (c .if1 .taken))
-
-bytes-within-requires-2 : tie.Need-bytes-within-requires-2
-bytes-within-requires-2 c κs =
-    let sizes = lengths-out _ (c .before .before .before .before .before .before .pre) in
-    omega arith
-
 returns-2 : tie.Need-returns-2
 returns-2 c =
     let first = c .before .before in
@@ -31,6 +15,9 @@ returns-2 c =
 pub names-fit-spec : {M : Type 1} → statement M
 names-fit-spec =
     tie.close (tie.spec (λ c κs. omega (arith, lengths-long _ (c .before .pre))) (λ c. search needs)
-    (λ c κs. omega (arith, lengths-long _ (c .before .before .pre))) (λ c. search needs) bytes-within-requires returns (λ c. search needs)
-    (λ c κs. omega (arith, lengths-long _ (c .before .before .before .before .before .pre))) (λ c. search needs) bytes-within-requires-2
-    returns-2)
+    (λ c κs. omega (arith, lengths-long _ (c .before .before .pre))) (λ c. search needs)
+    (λ c κs. let sizes = lengths-out _ (c .before .before .before .pre) in omega arith)
+    (λ c. let read = c .before .before in names-first _ _ _ _ (read .before .u16-at .ensures) (read .u16-at2 .ensures)
+    (c .before .bytes-within .ensures) (not-true _ (c .if1 .taken))) (λ c. search needs)
+    (λ c κs. omega (arith, lengths-long _ (c .before .before .before .before .before .pre))) (λ c. search needs)
+    (λ c κs. let sizes = lengths-out _ (c .before .before .before .before .before .before .pre) in omega arith) returns-2)

@@ -4,17 +4,8 @@ use Rattle.memory_opening.proofs.Tests.{weight-low, weight-high}
 use Rattle.memory_opening.proofs.questions.weighs.Statement.{statement}
 use Rattle.memory_opening.proofs.questions.weighs.Tie as tie
 
-returns : tie.Need-returns
-returns c =
-    let w = c .before .args .w in
-    let e = toZ-ofZ w32 w (c .before .fits .w) in
-    sym (weight-low w (omega (signed, e)))
-
-returns-2 : tie.Need-returns-2
-returns-2 c =
-    let w = c .before .args .w in
-    let e = toZ-ofZ w32 w (c .before .fits .w) in
-    simp e (weight-high w (omega (signed, e)))
-
 pub weighs-spec : {M : Type 1} → statement M
-weighs-spec = tie.close (tie.spec returns returns-2)
+weighs-spec =
+    tie.close (tie.spec
+    (λ c. let w = c .before .args .w in let e = toZ-ofZ w32 w (c .before .fits .w) in sym (weight-low w (omega (signed, e))))
+    (λ c. let w = c .before .args .w in let e = toZ-ofZ w32 w (c .before .fits .w) in simp e (weight-high w (omega (signed, e)))))

@@ -23,13 +23,8 @@ loop-again c =
           ∙ cleared-more _ (at .loop .k),
     )
 
-returns : tie.Need-returns Inv-loop μ-loop
-returns c =
-    let at = c .before in
-    let e : at .loop .k ≡ 8192 = omega arith in
-    rw e at (at .loop .inv .2)
-
 pub clear-spec : {M : Type 1} → statement M
 clear-spec =
     tie.close (tie.spec Inv-loop μ-loop (λ c. (omega arith, refl, sym (cleared-none _))) (λ c κs. omega arith) (λ c. omega arith)
-    (λ c. omega arith) loop-again (λ c. search needs) returns)
+    (λ c. omega arith) loop-again (λ c. search needs)
+    (λ c. let at = c .before in let e : at .loop .k ≡ 8192 = omega arith in rw e at (at .loop .inv .2)))

@@ -12,14 +12,10 @@ Inv-loop m₀ k s a n i₀ m i = WrittenTo (λ l j. putWord l (k + j) (u8At s (a
 abbrev μ-loop : tie.MeasureT-loop
 μ-loop m₀ k s a n i₀ m i = n - i
 
-loop-again : tie.Need-loop-again Inv-loop μ-loop
-loop-again c =
-    let stored = c .before .before in
-    written-turn _ (stored .before .before .before .before .loop .inv) (omega arith)
-    (stored .set-word .ensures ∙ ap (putWord _ _) (stored .before .u8-at .ensures)) (stored .set-word .kept .0)
-
 pub put-bytes-spec : {M : Type 1} → statement M
 put-bytes-spec =
     tie.close (tie.spec Inv-loop μ-loop (λ c. written-start _ _ _) (λ c. omega arith) (λ c. omega arith) (λ c. omega arith)
-    (λ c κs. omega arith) (λ c. search needs) (λ c κs. omega arith) (λ c. omega arith) loop-again (λ c. search needs)
+    (λ c κs. omega arith) (λ c. search needs) (λ c κs. omega arith) (λ c. omega arith)
+    (λ c. let stored = c .before .before in written-turn _ (stored .before .before .before .before .loop .inv) (omega arith)
+    (stored .set-word .ensures ∙ ap (putWord _ _) (stored .before .u8-at .ensures)) (stored .set-word .kept .0)) (λ c. search needs)
     (λ c. written-end _ (c .before .loop .inv) (omega arith)))

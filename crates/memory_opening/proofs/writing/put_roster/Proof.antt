@@ -6,29 +6,6 @@ use Rattle.memory_opening.proofs.Answers.{roster-written}
 use Rattle.memory_opening.proofs.writing.put_roster.Statement.{statement}
 use Rattle.memory_opening.proofs.writing.put_roster.Tie as tie
 
-put-sizes-requires : tie.Need-put-sizes-requires
-put-sizes-requires c κs = omega (arith, lengths-long _ (c .before .before .before .before .before .pre .1))
-
-put-bytes-requires : tie.Need-put-bytes-requires
-put-bytes-requires c κs =
-    let start = c .before .before .before .before .before .before .before .before .before in
-    let sizes = lengths-out _ (start .pre .1) in
-    omega (arith, start .pre .0)
-
-put-bytes-requires-2 : tie.Need-put-bytes-requires-2
-put-bytes-requires-2 c κs =
-    let start = c .before .before .before .before .before .before .before .before .before .before .before .before .before in
-    let sizes = lengths-out _ (start .pre .1) in
-    omega (arith, start .pre .0)
-
-put-weights-requires : tie.Need-put-weights-requires
-put-weights-requires c κs =
-    let start =
-    c .before .before .before .before .before .before .before .before .before .before .before .before .before .before .before .before
-    .before in
-    let sizes = lengths-out _ (start .pre .1) in
-    omega (arith, start .pre .0)
-
 returns : tie.Need-returns
 returns c =
     let weighed = c .before .before in
@@ -42,5 +19,12 @@ returns c =
 pub put-roster-spec : {M : Type 1} → statement M
 put-roster-spec =
     tie.close (tie.spec (λ c κs. omega (arith, lengths-long _ (c .before .before .pre .1))) (λ c. search needs)
-    (λ c κs. omega (arith, lengths-long _ (c .before .before .before .pre .1))) (λ c. search needs) put-sizes-requires put-bytes-requires
-    (λ c. search needs) put-bytes-requires-2 (λ c. search needs) (λ c. search needs) put-weights-requires (λ c. search needs) returns)
+    (λ c κs. omega (arith, lengths-long _ (c .before .before .before .pre .1))) (λ c. search needs)
+    (λ c κs. omega (arith, lengths-long _ (c .before .before .before .before .before .pre .1)))
+    (λ c κs. let start = c .before .before .before .before .before .before .before .before .before in
+    let sizes = lengths-out _ (start .pre .1) in omega (arith, start .pre .0)) (λ c. search needs)
+    (λ c κs. let start = c .before .before .before .before .before .before .before .before .before .before .before .before .before in
+    let sizes = lengths-out _ (start .pre .1) in omega (arith, start .pre .0)) (λ c. search needs) (λ c. search needs)
+    (λ c κs. let grouped = c .before .before .before .before .before .before .before .before in
+    let start = grouped .before .before .before .before .before .before .before .before .before in
+    let sizes = lengths-out _ (start .pre .1) in omega (arith, start .pre .0)) (λ c. search needs) returns)

@@ -7,12 +7,9 @@ use Rattle.memory_opening.specs.Opening.{withSizes}
 use Rattle.memory_opening.proofs.writing.put_sizes.Statement.{statement}
 use Rattle.memory_opening.proofs.writing.put_sizes.Tie as tie
 
-returns : tie.Need-returns
-unfolding withSizes putWords rosterFrom listed
-returns c = cc
-
 pub put-sizes-spec : {M : Type 1} → statement M
+unfolding withSizes putWords rosterFrom listed
 put-sizes-spec =
     tie.close (tie.spec (λ c κs. search needs) (λ c. search needs) (λ c κs. search needs) (λ c κs. search needs) (λ c. search needs)
     (λ c κs. search needs) (λ c κs. search needs) (λ c. search needs) (λ c κs. search needs) (λ c κs. search needs) (λ c. search needs)
-    (λ c κs. search needs) (λ c. search needs) returns)
+    (λ c κs. search needs) (λ c. search needs) (λ c. cc))

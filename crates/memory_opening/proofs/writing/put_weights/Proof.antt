@@ -21,13 +21,10 @@ loop-again c =
     written-turn _ (stored .before .before .before .before .loop .inv) (omega arith)
     (stored .set-signed-word .ensures ∙ ap (putSigned _ _) kept) (stored .set-signed-word .kept .0)
 
-cast-set-signed-word : tie.Need-cast-set-signed-word Inv-loop μ-loop
-cast-set-signed-word c =
-    let fits : SFits w32 (c .i32-at .result) = record { sfits = c .i32-at .ok } in
-    rw (toZ-ofZ w32 (c .i32-at .result) fits) (wider (c .i32-at .result) fits)
-
 pub put-weights-spec : {M : Type 1} → statement M
 put-weights-spec =
     tie.close (tie.spec Inv-loop μ-loop (λ c. written-start _ _ _) (λ c. omega arith) (λ c. omega arith) (λ c. omega arith)
-    (λ c. omega arith) (λ c κs. omega arith) cast-set-signed-word (λ c κs. omega arith) (λ c. omega arith) loop-again (λ c. search needs)
-    (λ c. written-end _ (c .before .loop .inv) (omega arith)))
+    (λ c. omega arith) (λ c κs. omega arith)
+    (λ c. let fits : SFits w32 (c .i32-at .result) = record { sfits = c .i32-at .ok } in
+    rw (toZ-ofZ w32 (c .i32-at .result) fits) (wider (c .i32-at .result) fits)) (λ c κs. omega arith) (λ c. omega arith) loop-again
+    (λ c. search needs) (λ c. written-end _ (c .before .loop .inv) (omega arith)))
