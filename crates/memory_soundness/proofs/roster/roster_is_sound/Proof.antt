@@ -23,19 +23,6 @@ long c =
     let n = sizes-numbered (s .args .m .now) (sized (c .before)) in
     (ap length (c .roster .ensures) ∙ roster-long (s .args .m .now) (s .pre), n .2 .1, n .3 .1)
 
-groups-named-requires : tie.Need-groups-named-requires
-groups-named-requires c κs = omega (arith, long (c .before .before .before), c .before .contracts .ensures)
-
-contracts-named-requires : tie.Need-contracts-named-requires
-contracts-named-requires c κs =
-    let at = c .before .before in
-    omega (arith, long (at .before .before .before), at .instruments .ensures)
-
-weights-fit-requires : tie.Need-weights-fit-requires
-weights-fit-requires c κs =
-    let at = c .before .before .before .before in
-    omega (arith, long (at .before .before .before), at .instruments .ensures)
-
 -- what each call says of the roster
 named-groups : (c : tie.After-groups-named) → let m =
     c .before .before .before .before .before .before .before .before .args .m .now in
@@ -99,4 +86,7 @@ returns-4 c =
 pub roster-is-sound-spec : {M : Type 1} → statement M
 roster-is-sound-spec =
     tie.close (tie.spec (λ c κs. search needs) returns (λ c κs. search needs) (λ c κs. search needs) (λ c κs. search needs)
-    (λ c κs. search needs) groups-named-requires returns-2 contracts-named-requires returns-3 weights-fit-requires returns-4)
+    (λ c κs. search needs) (λ c κs. omega (arith, long (c .before .before .before), c .before .contracts .ensures)) returns-2
+    (λ c κs. let at = c .before .before in omega (arith, long (at .before .before .before), at .instruments .ensures)) returns-3
+    (λ c κs. let at = c .before .before .before .before in omega (arith, long (at .before .before .before), at .instruments .ensures))
+    returns-4)
