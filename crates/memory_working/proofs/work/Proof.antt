@@ -45,11 +45,8 @@ returns-3 c =
     setting-done (λ i. known .slice-known .given i .fits) (block (c .before .before .before .before)) (known .before .pre .0) tt
     (c .before .before .work-block .ensures) (known .before .pre .1)
 
-returns-6 : tie.Need-returns-6
-unfolding worked
-returns-6 c = (rw (c .enum-told .given .1), c .before .before .before .before .pre .1)
-
 pub work-spec : {M : Type 1} → statement M
+unfolding worked
 work-spec =
     tie.close (tie.spec (λ c. search needs)
     (λ c κs. accepted-as (c .before .before .e .given .1) (c .before .before .before .before .before .before .pre .0)) (λ c. search needs)
@@ -67,4 +64,4 @@ work-spec =
     (λ c. search needs) (λ c. search needs)
     (λ c. let done = c .before .before .before .before in
     (rw (done .before .before .before .before .e5 .given .1) (done .change-order .ensures .0), done .change-order .ensures .1))
-    returns-6)
+    (λ c. (rw (c .enum-told .given .1), c .before .before .before .before .pre .1)))

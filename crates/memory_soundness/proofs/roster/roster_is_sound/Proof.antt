@@ -46,16 +46,6 @@ weighed c =
     let at = c .before .before .before .before .before in
     c .weights-fit .ensures ∙ rw (at .instruments .ensures, at .before .before .before .roster .ensures)
 
-returns : tie.Need-returns
-unfolding rosterSound
-returns c = rw (answered-no _ _ (c .before .sizes-fit .ensures) (c .if1 .taken))
-
-returns-2 : tie.Need-returns-2
-unfolding rosterSound
-returns-2 c =
-    let one = c .before .before .before .before .before .before in
-    rw (sized one, names-tests, answered-no _ _ (named-groups (c .before)) (c .if2 .taken))
-
 returns-3 : tie.Need-returns-3
 unfolding rosterSound
 returns-3 c =
@@ -84,9 +74,13 @@ returns-4 c =
     )
 
 pub roster-is-sound-spec : {M : Type 1} → statement M
+unfolding rosterSound
 roster-is-sound-spec =
-    tie.close (tie.spec (λ c κs. search needs) returns (λ c κs. search needs) (λ c κs. search needs) (λ c κs. search needs)
-    (λ c κs. search needs) (λ c κs. omega (arith, long (c .before .before .before), c .before .contracts .ensures)) returns-2
+    tie.close (tie.spec (λ c κs. search needs) (λ c. rw (answered-no _ _ (c .before .sizes-fit .ensures) (c .if1 .taken)))
+    (λ c κs. search needs) (λ c κs. search needs) (λ c κs. search needs) (λ c κs. search needs)
+    (λ c κs. omega (arith, long (c .before .before .before), c .before .contracts .ensures))
+    (λ c. let one = c .before .before .before .before .before .before in
+    rw (sized one, names-tests, answered-no _ _ (named-groups (c .before)) (c .if2 .taken)))
     (λ c κs. let at = c .before .before in omega (arith, long (at .before .before .before), at .instruments .ensures)) returns-3
     (λ c κs. let at = c .before .before .before .before in omega (arith, long (at .before .before .before), at .instruments .ensures))
     returns-4)
