@@ -1,5 +1,5 @@
 -- A sound desk's records are held and its orders sound, so that its sums may be gathered.
-use Rattle.integers.specs.Basics.{_∙_, sym, true, false≢true, needs, not-true, not-false}
+use Rattle.integers.specs.Basics.{sym, false≢true, needs}
 use Rattle.memory_soundness.proofs.Asked.{answered-no, answered-yes}
 use Rattle.memory_soundness.proofs.Questions.{each-out}
 use Rattle.memory_soundness.proofs.is_sound_with_sums.Statement.{statement}
