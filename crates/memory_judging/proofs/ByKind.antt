@@ -2,6 +2,7 @@
 use Rattle.integers.specs.Basics.{ℕ, _≡_, refl, _∙_, Bool, true, false, not, cond, List, none, some, ℤ, pos, negℤ, natAbs, ltb}
 use Rattle.ledger.specs.declared.order.Order.{Order}
 use Rattle.ledger.specs.declared.order.Side.{Side}
+use Rattle.ledger.proofs.Ways.{by-test}
 use Rattle.limits.specs.Questions.{firstNo}
 use Rattle.limits.specs.Numbers.{sizeQuestions}
 use Rattle.book.specs.declared.LimitLine.{LimitLine}
@@ -97,10 +98,7 @@ module _ (m : List ℕ) where
   unfolding judged answer questionsBefore limitQuestions isEvent accountKnown itemKnown figuresFit notYetTrading idOpen
       quantityFits entered idFree placeFree firstNo bookOf bookAfter changed changedBalances changeFrom12 replaceFrom12 raisedFrom14
       admission withinLimits sizeQuestions
-  change-found id (Replace n) o d e = by (ltb (o .total) (natAbs n)) refl
-    where
-      by : (t : Bool) → ltb (o .total) (natAbs n) ≡ t → judged m (Change id (Replace n)) ≡ firstNo (replaceFrom12 m o (natAbs n))
-      by true h = rw (d, e, h, ← standing id (openOrders m) o e .named)
-      by false h = rw (d, e, h)
+  change-found id (Replace n) o d e =
+      by-test (ltb (o .total) (natAbs n)) (λ h. rw (d, e, h, ← standing id (openOrders m) o e .named)) (λ h. rw (d, e, h))
   change-found id Cancel o d e = rw e
   change-found id (Fill n) o d e = rw (d, e)

@@ -3,13 +3,10 @@ use Rattle.integers.specs.Basics.{ℕ, _+_, _*_, _≤_, _<_, _≡_, _∙_, ap, 
 use lib.ListN.{length-take, length-drop}
 use lib.Seq.{getD-take, getD-drop}
 use Rattle.ledger.specs.declared.order.Order.{Order}
-use Rattle.ledger.specs.declared.order.Side.{Side}
 use Rattle.ledger.specs.Roster.{Numbered}
-use Rattle.ledger.specs.Positions.{openOn}
-use Rattle.ledger.specs.Derivatives.{one}
 use Rattle.positions.specs.Gathered.{cell, Gathered}
 use Rattle.positions.proofs.Gathering.{cell-inside}
-use Rattle.memory_soundness.specs.Cells.{row, AllSums}
+use Rattle.memory_soundness.specs.Cells.{AllSums}
 use Rattle.memory_judging.specs.OrderFields.{cellsOf}
 
 module _ (cells : List ℕ) (a : ℕ) where
@@ -23,11 +20,11 @@ module _ (cells : List ℕ) (a : ℕ) where
 
   pub gathered-of : (orders : List Order) → AllSums cells orders → Numbered 16 a → (length (cellsOf cells a) ≡ 65)
       × Gathered (cellsOf cells a) 0 orders a
-  gathered-of orders g on =
-      (size-of (g .size) (on .1), record { sums = λ s i h. by s i h (g .accounts a on .sums s i h) })
-    where
-      by : (s : Side) (i : ℕ) → Numbered 32 i → pos (getD cells (row a + cell s i) 0) ≡ openOn one orders s a i →
-          pos (getD (cellsOf cells a) (0 + cell s i) 0) ≡ openOn one orders s a i
-      by s i h sum =
-          let first : 0 + cell s i ≡ cell s i = omega arith in
-          ap (λ (j : ℕ). pos (getD (cellsOf cells a) j 0)) first ∙ ap pos (at (cell s i) (cell-inside s i (h .1))) ∙ sum
+  gathered-of orders g on = (
+    size-of (g .size) (on .1),
+    record {
+      sums = λ s i h. let first : 0 + cell s i ≡ cell s i = omega arith in
+          ap (λ (j : ℕ). pos (getD (cellsOf cells a) j 0)) first ∙ ap pos (at (cell s i) (cell-inside s i (h .1)))
+          ∙ g .accounts a on .sums s i h;
+    },
+  )

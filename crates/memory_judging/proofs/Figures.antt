@@ -1,5 +1,5 @@
 -- Tests of a signed figure by its size, as the code makes them.
-use Rattle.integers.specs.Basics.{ℕ, _≡_, refl, _∙_, sym, ap, Bool, true, false, _&&_, ℤ, pos, negsuc, negℤ, natAbs, _-ℤ_, leZ, ltZ, mag}
+use Rattle.integers.specs.Basics.{ℕ, _≡_, refl, _∙_, ap, Bool, true, false, _&&_, ℤ, pos, negsuc, negℤ, natAbs, _-ℤ_, leZ, ltZ, mag}
 use Rattle.integers.specs.Basics.{leb, ltb, le-leb, lt-leb, lt-ltb, le-ltb, signed, magnitude-parts, negation-parts, difference-parts}
 use Rattle.book.specs.Table.{betweenℤ, isLimit}
 use Rattle.memory_soundness.proofs.Asked.{same-test}

@@ -1,6 +1,6 @@
 -- The order that an id names: where the search finds it in the memory, and how the book finds it.
-use Rattle.integers.specs.Basics.{ℕ, _+_, _-_, _≤_, _<_, _≡_, refl, Bool, true, false, cond, List, [], _∷_, none, some, eqb, ℕ-discrete}
-use Rattle.integers.specs.Basics.{arith, eq-eqb, ne-eqb}
+use Rattle.integers.specs.Basics.{ℕ, _+_, _-_, _≤_, _<_, _≡_, refl, by-cases, Bool, true, false, cond, List, [], _∷_, none, some, eqb}
+use Rattle.integers.specs.Basics.{ℕ-discrete, arith, eq-eqb, ne-eqb}
 use Rattle.ledger.specs.declared.order.Order.{Order}
 use Rattle.ledger.specs.declared.find.Found.the-variants.{At, Nothing}
 use Rattle.ledger.specs.Orders.{placeFrom}
@@ -50,13 +50,10 @@ module _ (m : List ℕ) (id : ℕ) where
 module _ (m : List ℕ) (held : SoundMemory m) (id p : ℕ) (is : p ≡ rank id (openOrders m)) where
   -- the id x just before it says whether an order is open
   pub open-before : (x : ℕ) → x ≡ orderIn m (p - 1) .id → 1 ≤ p → eqb x id ≡ isSet (find id (openOrders m))
-  open-before x read h = by (ℕ-discrete x id)
-    where
-      by : Dec (x ≡ id) → eqb x id ≡ isSet (find id (openOrders m))
-      by (yes same) =
-          rw (eq-eqb x id same, found-order m id (p - 1) (found-before m id (sound-ids m held) p x is read h same))
-      by (no other) =
-          rw (ne-eqb x id other, no-order m id (found-none m id (sound-ids m held) p x is read (λ k. other)))
+  open-before x read h =
+      by-cases (ℕ-discrete x id)
+      (λ same. rw (eq-eqb x id same, found-order m id (p - 1) (found-before m id (sound-ids m held) p x is read h same)))
+      (λ other. rw (ne-eqb x id other, no-order m id (found-none m id (sound-ids m held) p x is read (λ k. other))))
 
   -- and where nothing is before it, none is
   pub none-before : p ≡ 0 → isSet (find id (openOrders m)) ≡ false

@@ -1,7 +1,6 @@
 -- The cells in which B and V of all accounts are gathered, order by order.
 use Rattle.integers.specs.Basics.{ℕ, _+_, _*_, _^_, _≤_, _<_, _≡_, _∙_, sym, List, length, getD, replicate, arith}
 use lib.ListN.{length-replicate}
-use Rattle.ledger.specs.declared.order.Order.{Order}
 use Rattle.ledger.specs.declared.order.Side.{Side}
 use Rattle.ledger.specs.Orders.{remaining}
 use Rattle.ledger.specs.Roster.{Numbered}

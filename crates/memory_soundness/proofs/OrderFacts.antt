@@ -1,6 +1,6 @@
 -- The orders' conditions as facts of the list of open orders, and back.
-use Rattle.integers.specs.Basics.{ℕ, zero, suc, _+_, _≤_, _<_, _≡_, refl, ⊎-elim, Bool, true, List, [], _∷_, List·Memᴰ, List·Memᴰ·head}
-use Rattle.integers.specs.Basics.{List·Memᴰ·tail, List·Memᴰ·not-nil, ltb, ℕ-discrete, arith, ltb-true, lt-ltb}
+use Rattle.integers.specs.Basics.{ℕ, zero, suc, _+_, _≤_, _<_, _≡_, refl, by-cases, ⊎-elim, Bool, true, List, [], _∷_, List·Memᴰ}
+use Rattle.integers.specs.Basics.{List·Memᴰ·head, List·Memᴰ·tail, List·Memᴰ·not-nil, ltb, ℕ-discrete, arith, ltb-true, lt-ltb}
 use mathlib.Core.List.{List·Memᴰ·cases-cons}
 use Rattle.ledger.specs.declared.order.Order.{Order}
 use Rattle.ledger.specs.Roster.{Roster}
@@ -28,12 +28,9 @@ module _ (s : List ℕ) where
   pub order-member : (p n q : ℕ) → p ≤ q → q < p + n → List·Memᴰ (orderAt s q) (ordersFrom s p n)
   unfolding ordersFrom
   order-member p zero q h l = absurd (omega arith)
-  order-member p (suc n) q h l = by (ℕ-discrete q p) (λ k. order-member (p + 1) n q k (omega arith))
-    where
-      by : Dec (q ≡ p) → (p + 1 ≤ q → List·Memᴰ (orderAt s q) (ordersFrom s (p + 1) n))
-          → List·Memᴰ (orderAt s q) (orderAt s p ∷ ordersFrom s (p + 1) n)
-      by (yes same) later = let e : orderAt s q ≡ orderAt s p = rw same in List·Memᴰ·head e
-      by (no apart) later = List·Memᴰ·tail (later (omega (arith, apart)))
+  order-member p (suc n) q h l =
+      by-cases (ℕ-discrete q p) (λ same. let e : orderAt s q ≡ orderAt s p = rw same in List·Memᴰ·head e)
+      (λ apart. List·Memᴰ·tail (order-member (p + 1) n q (omega (arith, apart)) (omega arith)))
 
   pub each-member : (P : Order → Type 0) (p n : ℕ) → ((q : ℕ) → p ≤ q → q < p + n → P (orderAt s q)) → (o : Order)
       → List·Memᴰ o (ordersFrom s p n) → P o
@@ -50,11 +47,8 @@ module _ (s : List ℕ) where
     records-out p zero e q h l = absurd (omega arith)
     records-out p (suc n) e q h l =
         let both = both-true (orderSound r trading (orderAt s p)) (recordsSound r trading s (p + 1) n) e in
-        by (ℕ-discrete q p) (order-out r trading (orderAt s p) (both .0)) (λ k. records-out (p + 1) n (both .1) q k (omega arith))
-      where
-        by : Dec (q ≡ p) → Fit r trading (orderAt s p) → (p + 1 ≤ q → Fit r trading (orderAt s q)) → Fit r trading (orderAt s q)
-        by (yes same) here later = rw same here
-        by (no apart) here later = later (omega (arith, apart))
+        by-cases (ℕ-discrete q p) (λ same. rw same (order-out r trading (orderAt s p) (both .0)))
+        (λ apart. records-out (p + 1) n (both .1) q (omega (arith, apart)) (omega arith))
 
     pub records-in : (p n : ℕ) → ((q : ℕ) → p ≤ q → q < p + n → Fit r trading (orderAt s q)) → recordsSound r trading s p n ≡ true
     unfolding recordsSound

@@ -1,8 +1,9 @@
 -- The positions' condition as facts of every account and instrument, on the roster or not, and back.
-use Rattle.integers.specs.Basics.{ℕ, _≡_, refl, _∙_, sym, Bool, true, false, _&&_, true≢false, List, List·Memᴰ, ℤ, pos, _≤ℤ_, signed}
+use Rattle.integers.specs.Basics.{ℕ, _≡_, _∙_, sym, true, false, _&&_, true≢false, List, List·Memᴰ, ℤ, pos, _≤ℤ_, signed}
 use Rattle.ledger.specs.declared.order.Order.{Order}
 use Rattle.ledger.specs.Roster.{Numbered}
-use Rattle.ledger.specs.Positions.{Way, long, short, toward, sideTo, ofInstrument}
+use Rattle.ledger.specs.Positions.{Way, long, short, sideTo, ofInstrument}
+use Rattle.ledger.proofs.Ways.{by-test, zero-toward}
 use Rattle.ledger.proofs.Sums.{open-nowhere}
 use Rattle.limits.proofs.Answers.{both-true, and-true}
 use Rattle.book.specs.Decoding.{between}
@@ -16,10 +17,6 @@ use Rattle.memory_layout.proofs.Every.{every-out, every-in}
 -- the position of account a and instrument i on a side
 abbrev pub positionOf : List ℕ → ℕ → ℕ → Way → ℤ
 positionOf m a i w = ofInstrument (marketOf m .unit) (openOrders m) a (balancesOf m a) i w
-
-toward-zero : (w : Way) → toward w (pos 0) ≡ pos 0
-toward-zero long = refl
-toward-zero short = refl
 
 module _ (m : List ℕ) where
   on-roster : positionsSound m ≡ true → (a i : ℕ) → Numbered (rosterOf m .accounts) a → Numbered (rosterOf m .instruments) i → (w : Way)
@@ -42,7 +39,7 @@ module _ (m : List ℕ) where
   off-roster fits a i e w =
       rw (
         e,
-        toward-zero w,
+        zero-toward w,
         open-nowhere (marketOf m .unit) (sideTo w) a i (openOrders m)
             (λ o k s. true≢false (sym (rw (s .1, s .2) at (here o (fits o k))) ∙ e)),
       )
@@ -57,14 +54,10 @@ module _ (m : List ℕ) where
   pub positions-out : positionsSound m ≡ true → ((o : Order) → List·Memᴰ o (openOrders m) → OrderFits (rosterOf m) o) → (a i : ℕ) (w : Way)
       → positionOf m a i w ≤ℤ pos (marketOf m .largest)
   positions-out e fits a i w =
-      by (between 1 (rosterOf m .accounts) a && between 1 (rosterOf m .instruments) i) refl
-    where
-      by : (t : Bool) → (between 1 (rosterOf m .accounts) a && between 1 (rosterOf m .instruments) i) ≡ t
-          → positionOf m a i w ≤ℤ pos (marketOf m .largest)
-      by true d =
-          let both = both-true (between 1 (rosterOf m .accounts) a) (between 1 (rosterOf m .instruments) i) d in
-          on-roster e a i (between-numbered (rosterOf m .accounts) a (both .0)) (between-numbered (rosterOf m .instruments) i (both .1)) w
-      by false d = rw (off-roster fits a i d w) (omega signed)
+      by-test (between 1 (rosterOf m .accounts) a && between 1 (rosterOf m .instruments) i)
+      (λ d. let both = both-true (between 1 (rosterOf m .accounts) a) (between 1 (rosterOf m .instruments) i) d in
+      on-roster e a i (between-numbered (rosterOf m .accounts) a (both .0)) (between-numbered (rosterOf m .instruments) i (both .1)) w)
+      (λ d. rw (off-roster fits a i d w) (omega signed))
 
   pub positions-in : ((a i : ℕ) (w : Way) → positionOf m a i w ≤ℤ pos (marketOf m .largest)) → positionsSound m ≡ true
   unfolding positionsSound accountSound instrumentSound positionSound

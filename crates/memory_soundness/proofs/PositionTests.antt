@@ -1,5 +1,5 @@
 -- S + B and −S + V of an account and instrument by the gathered cells, as the code asks them of a balance that may be any word.
-use Rattle.integers.specs.Basics.{ℕ, _+_, _≤_, _<_, _≡_, ap, true, _&&_, List, ℤ, pos, negℤ, natAbs, _+ℤ_, _-ℤ_, leZ, getD, arith, signed}
+use Rattle.integers.specs.Basics.{ℕ, _+_, _≤_, _≡_, ap, true, _&&_, List, ℤ, pos, negℤ, natAbs, _+ℤ_, _-ℤ_, leZ, getD, arith, signed}
 use Rattle.integers.specs.Basics.{magnitude-parts, negation-parts, sum-parts, difference-parts}
 use Rattle.ledger.specs.declared.order.Side.{Side}
 use Rattle.ledger.specs.declared.order.Side.the-variants.{Buy, Sell}

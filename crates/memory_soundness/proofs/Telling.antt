@@ -1,6 +1,6 @@
 -- Answers that tell exactly whether something holds, and what holds of each open order.
-use Rattle.integers.specs.Basics.{ℕ, _+_, _≤_, _<_, _≡_, refl, _∙_, sym, ap, Bool, true, false, not, false≢true, List, length, ℕ-discrete}
-use Rattle.integers.specs.Basics.{arith, not-true, not-false}
+use Rattle.integers.specs.Basics.{ℕ, _+_, _≤_, _<_, _≡_, refl, _∙_, sym, ap, by-cases, Bool, true, false, not, false≢true, List, length}
+use Rattle.integers.specs.Basics.{ℕ-discrete, arith, not-true, not-false}
 use Rattle.words.specs.Words.{wordAt}
 use Rattle.ledger.specs.declared.order.Order.{Order}
 use Rattle.ledger.specs.Records.{orderAt}
@@ -32,11 +32,8 @@ same-told false false a b = refl
 
 -- ---- each record below p + 1
 pub below : (P : ℕ → Type 0) (p : ℕ) → ((q : ℕ) → q < p → P q) → P p → (q : ℕ) → q < p + 1 → P q
-below P p before here q h = by (ℕ-discrete q p)
-  where
-    by : Dec (q ≡ p) → P q
-    by (yes same) = rw same here
-    by (no other) = before q (omega (arith, other))
+below P p before here q h =
+    by-cases (ℕ-discrete q p) (λ same. rw same here) (λ other. before q (omega (arith, other)))
 
 -- ---- a memory: s is its part with the records, n its count
 module _ (m s : List ℕ) (n : ℕ) (count : n ≡ wordAt m countWord) (records : s ≡ recordsOf m) where

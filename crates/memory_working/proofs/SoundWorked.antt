@@ -1,6 +1,6 @@
 -- A memory that holds a sound desk holds one after an accepted event: the book's is sound, and the figures of every line stay in
 -- range.
-use Rattle.integers.specs.Basics.{ℕ, _+_, _*_, _^_, _≤_, _<_, _≡_, _∙_, sym, List, length, ℕ-discrete, arith}
+use Rattle.integers.specs.Basics.{ℕ, _+_, _*_, _^_, _≤_, _<_, _≡_, _∙_, sym, by-cases, List, length, ℕ-discrete, arith}
 use Rattle.words.specs.Bytes.{Bytes}
 use Rattle.words.specs.Words.{wordAt, putWord}
 use Rattle.words.proofs.Memory.{length-put, word-put-same, word-put-other}
@@ -23,13 +23,10 @@ use Rattle.memory_working.proofs.ViewWorked.{view-worked}
 -- a store keeps what holds of word j, where it holds of what is stored there
 put-keeps : (Q : ℕ → Type 0) (l : List ℕ) (k v j : ℕ) → 65536 ≤ length l → k < 8192 → (k ≡ j → (v < 2 ^ 64) × Q v) → Q (wordAt l j)
     → Q (wordAt (putWord l k v) j)
-put-keeps Q l k v j long inside stored was = by (ℕ-discrete j k)
-  where
-    by : Dec (j ≡ k) → Q (wordAt (putWord l k v) j)
-    by (yes same) =
-        let fits = stored (sym same) in
-        rw (same, word-put-same l k v (omega arith) (fits .0)) (fits .1)
-    by (no other) = rw (word-put-other l k v j other) was
+put-keeps Q l k v j long inside stored was =
+    by-cases (ℕ-discrete j k)
+    (λ same. let fits = stored (sym same) in rw (same, word-put-same l k v (omega arith) (fits .0)) (fits .1))
+    (λ other. rw (word-put-other l k v j other) was)
 
 module _ (m : List ℕ) (held : SoundMemory m) (e : Event) (passes : judged m e ≡ 0) where
   word-keeps : (Q : ℕ → Type 0) (j : ℕ) → ((k v : ℕ) → Stores m e k v → k ≡ j → (v < 2 ^ 64) × Q v) → Q (wordAt m j)

@@ -6,11 +6,6 @@ use Rattle.memory_judging.proofs.ByKind.{junk-answer}
 use Rattle.memory_judging.proofs.judge.Statement.{statement}
 use Rattle.memory_judging.proofs.judge.Tie as tie
 
-returns : tie.Need-returns
-returns c =
-    let e = c .before .before .before .e .given in
-    says-plain _ _ _ (e .1) _ _ (c .plain .ensures) (c .before .judge-limit .ensures) (λ p o. tt)
-
 returns-2 : tie.Need-returns-2
 returns-2 c =
     let e = c .before .before .before .e2 .given in
@@ -29,11 +24,6 @@ returns-4 c =
     let again = toZ-ofZ w64 (e .0 .1 .1 .1 .1 .0) (record { sfits = c .before .known-told4 .given .1 .1 .1 .1 .0 .1 }) in
     says-same _ _ _ (e .1) _ (rw again at (c .judge-new .ensures))
 
-returns-5 : tie.Need-returns-5
-returns-5 c =
-    let e = c .before .before .e5 .given in
-    says-same _ _ _ (e .1) _ (c .judge-change .ensures)
-
 returns-6 : tie.Need-returns-6
 unfolding numberOf
 returns-6 c = says-plain _ _ _ (c .before .enum-told .given .1) _ _ (c .plain4 .ensures) (sym (junk-answer _)) (λ p o. tt)
@@ -42,5 +32,8 @@ pub judge-spec : {M : Type 1} → statement M
 judge-spec =
     tie.close (tie.spec (λ c. search needs) (λ c κs. search needs) (λ c κs. search needs) (λ c. search needs) (λ c κs. search needs)
     (λ c κs. search needs) (λ c. search needs) (λ c κs. search needs) (λ c κs. search needs) (λ c. search needs) (λ c κs. search needs)
-    (λ c. search needs) (λ c κs. search needs) (λ c. search needs) (λ c κs. search needs) returns returns-2 returns-3 returns-4 returns-5
+    (λ c. search needs) (λ c κs. search needs) (λ c. search needs) (λ c κs. search needs)
+    (λ c. let e = c .before .before .before .e .given in
+    says-plain _ _ _ (e .1) _ _ (c .plain .ensures) (c .before .judge-limit .ensures) (λ p o. tt))
+    returns-2 returns-3 returns-4 (λ c. let e = c .before .before .e5 .given in says-same _ _ _ (e .1) _ (c .judge-change .ensures))
     returns-6)

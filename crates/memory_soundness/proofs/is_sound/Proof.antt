@@ -51,23 +51,11 @@ held c =
     let three = four .before .before in
     record { long = there (three .before .before .before .before); count = few three; first = near four }
 
-returns : tie.Need-returns
-returns c = too-short _ (answered-no _ _ (c .before .is-long-enough .ensures) (c .if1 .taken))
-
-returns-2 : tie.Need-returns-2
-returns-2 c = other-kind _ (long (c .before .before)) (λ e. c .if2 .taken (c .before .kind .ensures ∙ e))
-
 returns-3 : tie.Need-returns-3
 returns-3 c =
     let two = c .before .before in
     let m = two .before .before .before .before .before .args .m .now in
     too-many m (long (two .before .before)) (kind two) (omega (arith, c .before .count .ensures, length-open m))
-
-returns-4 : tie.Need-returns-4
-returns-4 c =
-    let three = c .before .before in
-    let two = three .before .before in
-    too-far _ (long (two .before .before)) (kind two) (few three) (omega (arith, c .before .first-of .ensures))
 
 returns-5 : tie.Need-returns-5
 returns-5 c =
@@ -117,7 +105,11 @@ returns-8 c =
 
 pub is-sound-spec : {M : Type 1} → statement M
 is-sound-spec =
-    tie.close (tie.spec (λ c κs. search needs) returns (λ c κs. there c) returns-2 (λ c κs. there (c .before .before)) returns-3
-    (λ c κs. there (c .before .before .before .before)) returns-4 (λ c κs. there (c .before .before .before .before .before .before))
-    returns-5 (λ c κs. may-read c .long) (λ c κs. (may-read (c .before), c .market .ensures)) returns-6
+    tie.close (tie.spec (λ c κs. search needs) (λ c. too-short _ (answered-no _ _ (c .before .is-long-enough .ensures) (c .if1 .taken)))
+    (λ c κs. there c) (λ c. other-kind _ (long (c .before .before)) (λ e. c .if2 .taken (c .before .kind .ensures ∙ e)))
+    (λ c κs. there (c .before .before)) returns-3 (λ c κs. there (c .before .before .before .before))
+    (λ c. let three = c .before .before in let two = three .before .before in
+    too-far _ (long (two .before .before)) (kind two) (few three) (omega (arith, c .before .first-of .ensures)))
+    (λ c κs. there (c .before .before .before .before .before .before)) returns-5 (λ c κs. may-read c .long)
+    (λ c κs. (may-read (c .before), c .market .ensures)) returns-6
     (λ c κs. (may-read (c .before .before .before), held (c .before .before .before))) returns-7 positions-are-sound-requires returns-8)

@@ -27,18 +27,6 @@ entering c =
     let is = c .before .e4 .given .1 in
     is ∙ new-is (ready-as is (c .before .before .before .before .before .pre .0))
 
-enter-requires : tie.Need-enter-requires
-enter-requires c κs =
-    let told = c .before .before in
-    let pre = told .before .before .before .before .before .pre in
-    (ready-as (entering told) (pre .0), pre .1)
-
-change-order-requires : tie.Need-change-order-requires
-change-order-requires c κs =
-    let told = c .before .before in
-    let pre = told .before .before .before .before .before .pre in
-    (ready-as (told .before .e5 .given .1) (pre .0), pre .1)
-
 returns : tie.Need-returns
 returns c =
     let known = c .before .before .before .before .before .before .before .before in
@@ -57,26 +45,23 @@ returns-3 c =
     setting-done (λ i. known .slice-known .given i .fits) (block (c .before .before .before .before)) (known .before .pre .0) tt
     (c .before .before .work-block .ensures) (known .before .pre .1)
 
-returns-4 : tie.Need-returns-4
-returns-4 c =
-    let done = c .before .before .before .before in
-    (rw (entering (done .before .before .before)) (done .enter .ensures .0), done .enter .ensures .1)
-
-returns-5 : tie.Need-returns-5
-returns-5 c =
-    let done = c .before .before .before .before in
-    (rw (done .before .before .before .before .e5 .given .1) (done .change-order .ensures .0), done .change-order .ensures .1)
-
-returns-6 : tie.Need-returns-6
-unfolding worked
-returns-6 c = (rw (c .enum-told .given .1), c .before .before .before .before .pre .1)
-
 pub work-spec : {M : Type 1} → statement M
+unfolding worked
 work-spec =
-    tie.close (tie.spec (λ c. search needs) (λ c κs. accepted-as (c .before .before .e .given .1)
-    (c .before .before .before .before .before .before .pre .0)) (λ c. search needs)
+    tie.close (tie.spec (λ c. search needs)
+    (λ c κs. accepted-as (c .before .before .e .given .1) (c .before .before .before .before .before .before .pre .0)) (λ c. search needs)
     (λ c κs. accepted-as (balance (c .before)) (c .before .before .before .before .before .before .pre .0)) (λ c. search needs)
     (λ c κs. accepted-as (block (c .before)) (c .before .before .before .before .before .before .pre .0)) (λ c. search needs)
-    enter-requires (λ c. search needs)
-    change-order-requires (λ c. search needs) (λ c. search needs) returns (λ c. search needs) returns-2 (λ c. search needs) returns-3
-    (λ c. search needs) (λ c. search needs) returns-4 (λ c. search needs) (λ c. search needs) returns-5 returns-6)
+    (λ c κs. let told = c .before .before in let pre = told .before .before .before .before .before .pre in
+    (ready-as (entering told) (pre .0), pre .1))
+    (λ c. search needs)
+    (λ c κs. let told = c .before .before in let pre = told .before .before .before .before .before .pre in
+    (ready-as (told .before .e5 .given .1) (pre .0), pre .1))
+    (λ c. search needs) (λ c. search needs) returns (λ c. search needs) returns-2 (λ c. search needs) returns-3 (λ c. search needs)
+    (λ c. search needs)
+    (λ c. let done = c .before .before .before .before in
+    (rw (entering (done .before .before .before)) (done .enter .ensures .0), done .enter .ensures .1))
+    (λ c. search needs) (λ c. search needs)
+    (λ c. let done = c .before .before .before .before in
+    (rw (done .before .before .before .before .e5 .given .1) (done .change-order .ensures .0), done .change-order .ensures .1))
+    (λ c. (rw (c .enum-told .given .1), c .before .before .before .before .pre .1)))

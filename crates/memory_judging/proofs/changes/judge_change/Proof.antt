@@ -31,11 +31,6 @@ returns c =
     refused FigureOutOfRange (c .plain .ensures) (change-figure _ _ _
     (answered-no _ _ (c .before .before .change-in-range .ensures) (c .before .if1 .taken))) (omega arith)
 
-detail-at-requires : tie.Need-detail-at-requires
-detail-at-requires c κs =
-    let s = c .before .before .before .before .before .before .before .before in
-    (sound-records _ (s .pre .0), place-small _ _ (s .pre .0) _ (found (c .before)))
-
 loaded : (c : tie.After-detail-at)
     → let p = c .before .before in
     let a = p .before .before .before .before .before .before .before .args in
@@ -69,5 +64,7 @@ returns-3 c =
 pub judge-change-spec : {M : Type 1} → statement M
 judge-change-spec =
     tie.close (tie.spec (λ c κs. search needs) (λ c κs. search needs) returns
-    (λ c κs. sound-ranked _ (c .before .before .before .before .pre .0)) (λ c. search needs) detail-at-requires
+    (λ c κs. sound-ranked _ (c .before .before .before .before .pre .0)) (λ c. search needs)
+    (λ c κs. let s = c .before .before .before .before .before .before .before .before in
+    (sound-records _ (s .pre .0), place-small _ _ (s .pre .0) _ (found (c .before))))
     change-answer-requires (λ c. search needs) (λ c κs. search needs) returns-2 returns-3)

@@ -42,11 +42,9 @@ returns c =
     (rw (at .before .before .replaced-total .ensures) at (c .within-limits .ensures)) _ (replaced-raises _ _ _ (s .pre .0) (s .pre .1))
     ∙ sym (then-second _ _ _ (asked at) (c .before .enum-told .given .1) _)
 
-returns-2 : tie.Need-returns-2
-unfolding raisedFrom14
-returns-2 c = first-refuses _ _ _ (asked (c .before)) (c .match .keys2) _
-
 pub raised-spec : {M : Type 1} → statement M
+unfolding raisedFrom14
 raised-spec =
     tie.close (tie.spec (λ c κs. search needs) (λ c κs. after-on c) (λ c κs. (after-on (c .before), c .underlying-of .ensures))
-    (λ c. search needs) (λ c. search needs) within-limits-requires returns returns-2)
+    (λ c. search needs) (λ c. search needs) within-limits-requires returns
+    (λ c. first-refuses _ _ _ (asked (c .before)) (c .match .keys2) _))

@@ -6,12 +6,6 @@ use Rattle.memory_judging.specs.QuestionsLeft.{replaceFrom12}
 use Rattle.memory_judging.proofs.changes.replaced.Statement.{statement}
 use Rattle.memory_judging.proofs.changes.replaced.Tie as tie
 
-returns : tie.Need-returns
-unfolding replaceFrom12 firstNo numberOf
-returns c =
-    let a = c .before .before .before .before .args in
-    rw (le-ltb (a .o .filled) (a .total) (omega arith))
-
 returns-2 : tie.Need-returns-2
 unfolding replaceFrom12 firstNo numberOf
 returns-2 c =
@@ -25,4 +19,7 @@ returns-3 c =
     c .raised .ensures ∙ rw (lt-ltb (a .o .filled) (a .total) (omega arith), lt-ltb (a .o .total) (a .total) (omega arith))
 
 pub replaced-spec : {M : Type 1} → statement M
-replaced-spec = tie.close (tie.spec returns returns-2 (λ c κs. search needs) returns-3)
+unfolding replaceFrom12 firstNo numberOf
+replaced-spec =
+    tie.close (tie.spec (λ c. let a = c .before .before .before .before .args in rw (le-ltb (a .o .filled) (a .total) (omega arith)))
+    returns-2 (λ c κs. search needs) returns-3)

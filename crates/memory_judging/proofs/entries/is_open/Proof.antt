@@ -5,21 +5,11 @@ use Rattle.memory_judging.proofs.Places.{rank-small, open-before, none-
 use Rattle.memory_judging.proofs.entries.is_open.Statement.{statement}
 use Rattle.memory_judging.proofs.entries.is_open.Tie as tie
 
-id-at-requires : tie.Need-id-at-requires
-id-at-requires c κs =
-    let pre = c .before .before .pre in
-    (sound-records _ (pre .0), omega (arith, rank-small _ (pre .0) _ _ (pre .1)))
-
-returns : tie.Need-returns
-returns c =
-    let pre = c .before .before .before .pre in
-    open-before _ (pre .0) _ _ (pre .1) _ (c .id-at .ensures) (omega arith)
-
-returns-2 : tie.Need-returns-2
-returns-2 c =
-    let start = c .before .before in
-    le-ltb 0 (start .args .p) (omega arith)
-    ∙ sym (none-before _ (start .pre .0) (start .args .id) (start .args .p) (start .pre .1) (omega arith))
-
 pub is-open-spec : {M : Type 1} → statement M
-is-open-spec = tie.close (tie.spec (λ c. search needs) id-at-requires returns returns-2)
+is-open-spec =
+    tie.close (tie.spec (λ c. search needs)
+    (λ c κs. let pre = c .before .before .pre in (sound-records _ (pre .0), omega (arith, rank-small _ (pre .0) _ _ (pre .1))))
+    (λ c. let pre = c .before .before .before .pre in open-before _ (pre .0) _ _ (pre .1) _ (c .id-at .ensures) (omega arith))
+    (λ c. let start = c .before .before in
+    le-ltb 0 (start .args .p) (omega arith)
+    ∙ sym (none-before _ (start .pre .0) (start .args .id) (start .args .p) (start .pre .1) (omega arith))))

@@ -53,12 +53,6 @@ returns-3 c =
     (answered-no _ _ (test-handed-on isQuantity (s .fits .quantity) (asked .before .is-quantity .ensures)) (asked .if3 .taken)))
     (omega arith)
 
-cast-t15 : tie.Need-cast-t15
-cast-t15 c = quantity-cast _ (c .before .before .before .before .before .before .before .before .fits .quantity) (whole c)
-
-place-requires : tie.Need-place-requires
-place-requires c κs = sound-ranked _ (c .before .before .before .before .before .before .before .before .pre .0)
-
 new-order-requires : tie.Need-new-order-requires
 new-order-requires c κs =
     let three = c .before in
@@ -95,5 +89,7 @@ returns-4 c =
 pub judge-new-spec : {M : Type 1} → statement M
 judge-new-spec =
     tie.close (tie.spec (λ c κs. search needs) (λ c κs. search needs) returns (λ c κs. search needs) (λ c κs. search needs) returns-2
-    (λ c κs. search needs) (λ c κs. search needs) returns-3 cast-t15 place-requires new-order-requires
+    (λ c κs. search needs) (λ c κs. search needs) returns-3
+    (λ c. quantity-cast _ (c .before .before .before .before .before .before .before .before .fits .quantity) (whole c))
+    (λ c κs. sound-ranked _ (c .before .before .before .before .before .before .before .before .pre .0)) new-order-requires
     (λ c κs. fresh-storable _ _ (new-order-requires (c .before) (c .new-order .lifetimes) .0)) returns-4)

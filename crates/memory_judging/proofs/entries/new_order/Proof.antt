@@ -31,10 +31,6 @@ new-within-requires c κs =
       under .underlying-of .ensures,
     )
 
-returns : tie.Need-returns
-unfolding newFrom13 firstNo numberOf
-returns c = rw (sym (c .before .is-open .ensures) ∙ c .if1 .taken)
-
 returns-2 : tie.Need-returns-2
 unfolding newFrom13 firstNo
 returns-2 c =
@@ -50,7 +46,8 @@ returns-3 c =
     rw (free (asked .before .before)) (first-refuses (a .m .now) (a .o) _ (asked .admitted .ensures) (c .match .keys2) _)
 
 pub new-order-spec : {M : Type 1} → statement M
+unfolding newFrom13 firstNo numberOf
 new-order-spec =
-    tie.close
-    (tie.spec (λ c κs. let pre = c .before .before .pre in (pre .0 .on .held, pre .2)) returns
-    (λ c κs. search needs) (λ c κs. search needs) (λ c. search needs) new-within-requires returns-2 returns-3)
+    tie.close (tie.spec (λ c κs. let pre = c .before .before .pre in (pre .0 .on .held, pre .2))
+    (λ c. rw (sym (c .before .is-open .ensures) ∙ c .if1 .taken)) (λ c κs. search needs) (λ c κs. search needs) (λ c. search needs)
+    new-within-requires returns-2 returns-3)

@@ -3,13 +3,7 @@ use Rattle.integers.specs.Basics.{needs}
 use Rattle.memory_judging.proofs.known.blocked_account_known.Statement.{statement}
 use Rattle.memory_judging.proofs.known.blocked_account_known.Tie as tie
 
-returns : tie.Need-returns
-returns c = cc
-
-returns-3 : tie.Need-returns-3
-returns-3 c = cc
-
 pub blocked-account-known-spec : {M : Type 1} → statement M
 blocked-account-known-spec =
-    tie.close (tie.spec (λ c. search needs) (λ c κs. search needs) (λ c. search needs) (λ c. search needs) (λ c κs. search needs) returns
-    (λ c. search needs) returns-3)
+    tie.close (tie.spec (λ c. search needs) (λ c κs. search needs) (λ c. search needs) (λ c. search needs) (λ c κs. search needs) (λ c. cc)
+    (λ c. search needs) (λ c. cc))

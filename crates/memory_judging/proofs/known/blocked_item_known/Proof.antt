@@ -3,13 +3,7 @@ use Rattle.integers.specs.Basics.{needs}
 use Rattle.memory_judging.proofs.known.blocked_item_known.Statement.{statement}
 use Rattle.memory_judging.proofs.known.blocked_item_known.Tie as tie
 
-returns-2 : tie.Need-returns-2
-returns-2 c = cc
-
-returns-3 : tie.Need-returns-3
-returns-3 c = cc
-
 pub blocked-item-known-spec : {M : Type 1} → statement M
 blocked-item-known-spec =
     tie.close (tie.spec (λ c. search needs) (λ c. search needs) (λ c κs. search needs) (λ c. search needs) (λ c κs. search needs)
-    (λ c. search needs) returns-2 returns-3)
+    (λ c. search needs) (λ c. cc) (λ c. cc))

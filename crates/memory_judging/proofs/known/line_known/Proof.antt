@@ -3,16 +3,7 @@ use Rattle.integers.specs.Basics.{needs}
 use Rattle.memory_judging.proofs.known.line_known.Statement.{statement}
 use Rattle.memory_judging.proofs.known.line_known.Tie as tie
 
-returns : tie.Need-returns
-returns c = cc
-
-returns-2 : tie.Need-returns-2
-returns-2 c = cc
-
-returns-3 : tie.Need-returns-3
-returns-3 c = cc
-
 pub line-known-spec : {M : Type 1} → statement M
 line-known-spec =
     tie.close (tie.spec (λ c. search needs) (λ c κs. search needs) (λ c. search needs) (λ c κs. search needs) (λ c. search needs)
-    (λ c κs. search needs) returns returns-2 returns-3)
+    (λ c κs. search needs) (λ c. cc) (λ c. cc) (λ c. cc))

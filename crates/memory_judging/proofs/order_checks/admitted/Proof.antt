@@ -21,20 +21,6 @@ group : (c : tie.After-group-is-blocked) → let a = c .before .before .before .
     c .group-is-blocked .result ≡ blocksOf (a .m .now) .group (a .o .account) (groupOfInstrument (rosterOf (a .m .now)) (a .o .instrument))
 group c = rw (c .before .before .before .before .before .before .pre .1 .group) at (c .group-is-blocked .ensures)
 
-returns : tie.Need-returns
-unfolding numberOf firstNo admission
-returns c = rw (sym (c .before .account-is-blocked .ensures) ∙ c .if1 .taken)
-
-returns-2 : tie.Need-returns-2
-unfolding numberOf firstNo admission
-returns-2 c = rw (account (c .before .before), sym (c .before .instrument-is-blocked .ensures) ∙ c .if2 .taken)
-
-returns-3 : tie.Need-returns-3
-unfolding numberOf firstNo admission
-returns-3 c =
-    let two = c .before .before in
-    rw (account (two .before .before), instrument two, sym (group (c .before)) ∙ c .if3 .taken)
-
 returns-4 : tie.Need-returns-4
 unfolding firstNo admission existenceQuestions
 returns-4 c =
@@ -43,6 +29,10 @@ returns-4 c =
     c .configured .ensures ∙ rw (account (two .before .before), instrument two, sym (group (three .before)) ∙ three .if3 .left)
 
 pub admitted-spec : {M : Type 1} → statement M
+unfolding numberOf firstNo admission
 admitted-spec =
-    tie.close (tie.spec (λ c κs. search needs) returns (λ c κs. search needs) returns-2 (λ c κs. search needs) returns-3 (λ c κs. search
-    needs) returns-4)
+    tie.close (tie.spec (λ c κs. search needs) (λ c. rw (sym (c .before .account-is-blocked .ensures) ∙ c .if1 .taken))
+    (λ c κs. search needs) (λ c. rw (account (c .before .before), sym (c .before .instrument-is-blocked .ensures) ∙ c .if2 .taken))
+    (λ c κs. search needs)
+    (λ c. let two = c .before .before in rw (account (two .before .before), instrument two, sym (group (c .before)) ∙ c .if3 .taken))
+    (λ c κs. search needs) returns-4)

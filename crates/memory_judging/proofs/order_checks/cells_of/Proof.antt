@@ -4,14 +4,8 @@ use Rattle.memory_judging.specs.OrderFields.{cellsOf}
 use Rattle.memory_judging.proofs.order_checks.cells_of.Statement.{statement}
 use Rattle.memory_judging.proofs.order_checks.cells_of.Tie as tie
 
-returns : tie.Need-returns
-unfolding cellsOf
-returns c =
-    let a = c .before .args .account in
-    let count : a * 64 + 65 - a * 64 ≡ 65 = omega arith in
-    simp count
-
 pub cells-of-spec : {M : Type 1} → statement M
+unfolding cellsOf
 cells-of-spec =
     tie.close (tie.spec (λ c. search needs) (λ c. search needs) (λ c. search needs) (λ c. search needs) (λ c. search needs)
-    (λ c. search needs) returns)
+    (λ c. search needs) (λ c. let a = c .before .args .account in let count : a * 64 + 65 - a * 64 ≡ 65 = omega arith in simp count))

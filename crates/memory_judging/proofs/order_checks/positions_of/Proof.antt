@@ -40,11 +40,6 @@ positions-by-requires c κs =
 kept : (c : tie.Else1) → let s = c .before .before .before .before in AllSums (s .args .cells .now) (openOrders (s .args .m .now))
 kept c = ⊎-elim (λ none. absurd (c .if1 .left none)) (λ sums. sums) (c .before .before .before .before .pre .2)
 
-cells-of-requires : tie.Need-cells-of-requires
-cells-of-requires c κs =
-    let s = c .before .before .before .before in
-    (kept c .size, order-account _ _ (s .pre .0 .on) .1)
-
 positions-by-requires-2 : tie.Need-positions-by-requires-2
 positions-by-requires-2 c κs =
     let asked = c .before in
@@ -55,5 +50,6 @@ positions-by-requires-2 c κs =
 pub positions-of-spec : {M : Type 1} → statement M
 positions-of-spec =
     tie.close (tie.spec (λ c κs. sound-records _ (c .before .before .before .before .pre .0 .on .held)) (λ c κs. search needs)
-    gather-requires (λ c. search needs) positions-by-requires (λ c. search needs) cells-of-requires positions-by-requires-2
+    gather-requires (λ c. search needs) positions-by-requires (λ c. search needs)
+    (λ c κs. let s = c .before .before .before .before in (kept c .size, order-account _ _ (s .pre .0 .on) .1)) positions-by-requires-2
     (λ c. search needs))

@@ -5,11 +5,6 @@ use Rattle.memory_soundness.proofs.Bounded.{sound-readable}
 use Rattle.memory_judging.proofs.order_checks.underlying_of.Statement.{statement}
 use Rattle.memory_judging.proofs.order_checks.underlying_of.Tie as tie
 
-group-of-requires : tie.Need-group-of-requires
-group-of-requires c κs =
-    let s = c .before .before in
-    rw (c .contract-of .ensures) (sound-readable _ (s .pre .held), s .pre .held .book .roster .contractOf _ (s .pre .instrument))
-
 returns : tie.Need-returns
 unfolding groupOfInstrument
 returns c =
@@ -25,4 +20,8 @@ returns c =
     }
 
 pub underlying-of-spec : {M : Type 1} → statement M
-underlying-of-spec = tie.close (tie.spec (λ c κs. search needs) group-of-requires returns)
+underlying-of-spec =
+    tie.close (tie.spec (λ c κs. search needs)
+    (λ c κs. let s = c .before .before in
+    rw (c .contract-of .ensures) (sound-readable _ (s .pre .held), s .pre .held .book .roster .contractOf _ (s .pre .instrument)))
+    returns)

@@ -19,12 +19,6 @@ size c =
     let s = read .before .before .before in
     c .order-size .ensures _ _ _ (read .line-in-force .ensures .line (both-set _ _ (s .pre .0 .set) .0)) refl (sym (c .before .of .ensures))
 
-positions-of-requires : tie.Need-positions-of-requires
-positions-of-requires c κs =
-    let read = c .before .before .before .before .before in
-    let s = read .before .before .before in
-    rw (c .of2 .ensures) (s .pre .0, refl, s .pre .1, s .pre .2, read .line-in-force .ensures)
-
 returns : tie.Need-returns
 unfolding numberOf
 returns c after raised =
@@ -32,13 +26,12 @@ returns c after raised =
     (rw (c .before .of2 .ensures) at (c .positions-of .ensures)) after raised
     ∙ sym (size-fits _ after _ (sym (size (told .before .before)) ∙ ap numberOf (told .enum-told .given .1)))
 
-returns-2 : tie.Need-returns-2
-returns-2 c after raised =
-    let sized = size (c .before) in
-    sized ∙ sym (size-refuses _ after _ (λ z. not-zero _ (c .match .keys2) (sized ∙ z)))
-
 pub within-limits-spec : {M : Type 1} → statement M
 within-limits-spec =
     tie.close (tie.spec (λ c κs. search needs) (λ c κs. omega (arith, c .before .before .before .pre .0 .total)) (λ c κs. search needs)
     (λ c. search needs) (λ c κs. omega (arith, c .before .before .before .before .before .before .before .pre .0 .small))
-    positions-of-requires returns returns-2)
+    (λ c κs. let read = c .before .before .before .before .before in let s = read .before .before .before in
+    rw (c .of2 .ensures) (s .pre .0, refl, s .pre .1, s .pre .2, read .line-in-force .ensures))
+    returns
+    (λ c after raised. let sized = size (c .before) in
+    sized ∙ sym (size-refuses _ after _ (λ z. not-zero _ (c .match .keys2) (sized ∙ z)))))

@@ -6,10 +6,6 @@ use Rattle.memory_judging.proofs.HandedOn.{test-handed-on}
 use Rattle.memory_judging.proofs.ranges.both_limits.Statement.{statement}
 use Rattle.memory_judging.proofs.ranges.both_limits.Tie as tie
 
-returns : tie.Need-returns
-returns c =
-    rw (answered-no _ _ (test-handed-on (isLimit _) (c .before .before .fits .x) (c .before .is-limit .ensures)) (c .if1 .taken))
-
 returns-2 : tie.Need-returns-2
 returns-2 c =
     let one = c .before in
@@ -18,4 +14,7 @@ returns-2 c =
     ∙ rw (answered-yes _ _ (test-handed-on (isLimit _) (f .x) (one .before .is-limit .ensures)) (one .if1 .left))
 
 pub both-limits-spec : {M : Type 1} → statement M
-both-limits-spec = tie.close (tie.spec (λ c κs. search needs) returns (λ c κs. search needs) returns-2)
+both-limits-spec =
+    tie.close (tie.spec (λ c κs. search needs)
+    (λ c. rw (answered-no _ _ (test-handed-on (isLimit _) (c .before .before .fits .x) (c .before .is-limit .ensures)) (c .if1 .taken)))
+    (λ c κs. search needs) returns-2)

@@ -11,9 +11,6 @@ returns c =
     (record { sfits = c .before .known-told .given .0 .1 }) (c .is-quantity .ensures)
     ∙ sym (ap changeInRange (c .before .before .change .given .1))
 
-returns-2 : tie.Need-returns-2
-returns-2 c = sym (ap changeInRange (c .enum-told .given .1))
-
 returns-3 : tie.Need-returns-3
 returns-3 c =
     test-handed-on isQuantity {z = c .before .before .change2 .given .0 .0}
@@ -23,4 +20,4 @@ returns-3 c =
 pub change-in-range-spec : {M : Type 1} → statement M
 change-in-range-spec =
     tie.close (tie.spec (λ c. search needs) (λ c κs. search needs) (λ c. search needs) (λ c. search needs) (λ c κs. search needs) returns
-    returns-2 returns-3)
+    (λ c. sym (ap changeInRange (c .enum-told .given .1))) returns-3)

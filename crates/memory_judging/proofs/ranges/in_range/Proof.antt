@@ -11,11 +11,8 @@ returns c =
     let z = toZ-ofZ w64 (a .z) (f .z) in
     simp (toZ-ofZ w64 (a .high) (f .high), z, simp (low, z) at (c .if1 .taken))
 
-returns-2 : tie.Need-returns-2
-returns-2 c =
-    let a = c .before .args in
-    let f = c .before .fits in
-    simp (simp (toZ-ofZ w64 (a .low) (f .low), toZ-ofZ w64 (a .z) (f .z)) at (c .if1 .left))
-
 pub in-range-spec : {M : Type 1} → statement M
-in-range-spec = tie.close (tie.spec returns returns-2)
+in-range-spec =
+    tie.close (tie.spec returns
+    (λ c. let a = c .before .args in let f = c .before .fits in
+    simp (simp (toZ-ofZ w64 (a .low) (f .low), toZ-ofZ w64 (a .z) (f .z)) at (c .if1 .left))))

@@ -14,32 +14,15 @@ less c =
 less-fits : (c : tie.Then1) → SFits w64 (pos (mag (c .before .args .z)))
 less-fits c = record { sfits = c .before .fits .z .sfits }
 
-sub-result : tie.Need-sub-result
-sub-result c = rw (less c) (less-fits c)
-
-cast-result : tie.Need-cast-result
-cast-result c =
-    rw (less c, toZ-ofZ w64 (pos (mag (c .before .args .z))) (less-fits c)) (tt, record { fits = omega (arith, c .before .fits .z .sfits) })
-
-returns : tie.Need-returns
-returns c =
-    let s = c .before in
-    let z = s .args .z in
-    rw (less c, toZ-ofZ w64 (pos (mag z)) (less-fits c))
-    (sym (balance-below (s .args .largest) z (rw (toZ-ofZ w64 z (s .fits .z)) at (c .if1 .taken))))
-
-cast-result-2 : tie.Need-cast-result-2
-cast-result-2 c =
-    let s = c .before in
-    let same = toZ-ofZ w64 (s .args .z) (s .fits .z) in
-    let above = rw same at (c .if1 .left) in
-    rw same (omega signed, omega (signed, magnitude-parts (s .args .z)))
-
-returns-2 : tie.Need-returns-2
-returns-2 c =
-    let s = c .before in
-    let same = toZ-ofZ w64 (s .args .z) (s .fits .z) in
-    rw same (sym (balance-by-size (s .args .largest) (s .args .z) (rw same at (c .if1 .left))))
-
 pub is-balance-spec : {M : Type 1} → statement M
-is-balance-spec = tie.close (tie.spec sub-result cast-result returns cast-result-2 returns-2)
+is-balance-spec =
+    tie.close (tie.spec (λ c. rw (less c) (less-fits c))
+    (λ c. let s = c .before in
+    rw (less c, toZ-ofZ w64 (pos (mag (s .args .z))) (less-fits c)) (tt, record { fits = omega (arith, s .fits .z .sfits) }))
+    (λ c. let s = c .before in let z = s .args .z in
+    rw (less c, toZ-ofZ w64 (pos (mag z)) (less-fits c))
+    (sym (balance-below (s .args .largest) z (rw (toZ-ofZ w64 z (s .fits .z)) at (c .if1 .taken)))))
+    (λ c. let s = c .before in let same = toZ-ofZ w64 (s .args .z) (s .fits .z) in let above = rw same at (c .if1 .left) in
+    rw same (omega signed, omega (signed, magnitude-parts (s .args .z))))
+    (λ c. let s = c .before in let same = toZ-ofZ w64 (s .args .z) (s .fits .z) in
+    rw same (sym (balance-by-size (s .args .largest) (s .args .z) (rw same at (c .if1 .left))))))

@@ -5,8 +5,5 @@ use Rattle.memory_judging.proofs.HandedOn.{test-handed-on}
 use Rattle.memory_judging.proofs.ranges.is_quantity.Statement.{statement}
 use Rattle.memory_judging.proofs.ranges.is_quantity.Tie as tie
 
-returns : tie.Need-returns
-returns c = test-handed-on isQuantity (c .before .fits .n) (c .in-range .ensures)
-
 pub is-quantity-spec : {M : Type 1} → statement M
-is-quantity-spec = tie.close (tie.spec (λ c κs. search needs) returns)
+is-quantity-spec = tie.close (tie.spec (λ c κs. search needs) (λ c. test-handed-on isQuantity (c .before .fits .n) (c .in-range .ensures)))

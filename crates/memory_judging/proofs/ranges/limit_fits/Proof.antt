@@ -7,12 +7,6 @@ use Rattle.memory_judging.proofs.HandedOn.{tests-handed-on}
 use Rattle.memory_judging.proofs.ranges.limit_fits.Statement.{statement}
 use Rattle.memory_judging.proofs.ranges.limit_fits.Tie as tie
 
-returns : tie.Need-returns
-returns c = cc
-
-returns-2 : tie.Need-returns-2
-returns-2 c = cc
-
 returns-3 : tie.Need-returns-3
 returns-3 c =
     let line = c .before .before .line3 .given in
@@ -26,4 +20,4 @@ returns-3 c =
 pub limit-fits-spec : {M : Type 1} → statement M
 limit-fits-spec =
     tie.close (tie.spec (λ c. search needs) (λ c κs. search needs) (λ c. search needs) (λ c κs. search needs) (λ c. search needs)
-    (λ c κs. search needs) returns returns-2 returns-3)
+    (λ c κs. search needs) (λ c. cc) (λ c. cc) returns-3)

@@ -6,9 +6,6 @@ use Rattle.memory_judging.proofs.HandedOn.{tests-handed-on}
 use Rattle.memory_judging.proofs.ranges.line_fits.Statement.{statement}
 use Rattle.memory_judging.proofs.ranges.line_fits.Tie as tie
 
-returns : tie.Need-returns
-returns c = rw (sym (c .before .unsets .ensures) ∙ c .if1 .taken)
-
 returns-2 : tie.Need-returns-2
 returns-2 c =
     let one = c .before .before .before .before in
@@ -40,4 +37,5 @@ returns-3 c =
 
 pub line-fits-spec : {M : Type 1} → statement M
 line-fits-spec =
-    tie.close (tie.spec (λ c κs. search needs) returns (λ c κs. search needs) returns-2 (λ c κs. search needs) returns-3)
+    tie.close (tie.spec (λ c κs. search needs) (λ c. rw (sym (c .before .unsets .ensures) ∙ c .if1 .taken)) (λ c κs. search needs) returns-2
+    (λ c κs. search needs) returns-3)

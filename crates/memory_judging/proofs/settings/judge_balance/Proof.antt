@@ -28,10 +28,6 @@ ranged : (c : tie.After-is-balance) (z : Bool) → let a = c .before .before .be
     → betweenℤ (negℤ (pos (marketOf (a .m .now) .largest))) (pos (marketOf (a .m .now) .largest)) (a .balance) ≡ z
 ranged c z e = rw (c .before .market .ensures) at e
 
-returns : tie.Need-returns
-unfolding numberOf
-returns c = sym (balance-answer _ _ _ _ false _ _ _ (answered-no _ _ (c .before .account-known .ensures) (c .if1 .taken)) refl refl refl)
-
 returns-2 : tie.Need-returns-2
 unfolding numberOf
 returns-2 c =
@@ -70,16 +66,11 @@ answered c t e =
     balance-answer _ _ _ _ true true true t (known (two .before .before)) (listed two)
     (ranged (three .before) true (answered-yes _ _ (said (three .before)) (three .if3 .left))) e
 
-returns-4 : tie.Need-returns-4
-unfolding numberOf
-returns-4 c = sym (answered (c .before) true (sym (c .before .is-trading .ensures) ∙ c .if4 .taken))
-
-returns-5 : tie.Need-returns-5
-unfolding numberOf
-returns-5 c = sym (answered (c .before) false (sym (c .before .is-trading .ensures) ∙ c .if4 .left))
-
 pub judge-balance-spec : {M : Type 1} → statement M
+unfolding numberOf
 judge-balance-spec =
-    tie.close (tie.spec (λ c κs. search needs) returns (λ c κs. search needs) returns-2 (λ c κs. search needs)
-    (λ c κs. search needs) returns-3 is-trading-requires
-    returns-4 returns-5)
+    tie.close (tie.spec (λ c κs. search needs)
+    (λ c. sym (balance-answer _ _ _ _ false _ _ _ (answered-no _ _ (c .before .account-known .ensures) (c .if1 .taken)) refl refl refl))
+    (λ c κs. search needs) returns-2 (λ c κs. search needs) (λ c κs. search needs) returns-3 is-trading-requires
+    (λ c. sym (answered (c .before) true (sym (c .before .is-trading .ensures) ∙ c .if4 .taken)))
+    (λ c. sym (answered (c .before) false (sym (c .before .is-trading .ensures) ∙ c .if4 .left))))

@@ -22,10 +22,6 @@ listed : (c : tie.Else2) → let a = c .before .before .before .before .before .
     whereSome (isListed (rosterOf (a .m .now))) (blockedItem (a .what)) ≡ true
 listed c = answered-yes _ _ (c .before .blocked-item-known .ensures) (c .if2 .left)
 
-returns : tie.Need-returns
-unfolding numberOf
-returns c = sym (block-answer _ _ _ false _ _ (answered-no _ _ (c .before .blocked-account-known .ensures) (c .if1 .taken)) refl refl)
-
 returns-2 : tie.Need-returns-2
 unfolding numberOf
 returns-2 c =
@@ -41,14 +37,11 @@ fits : (c : tie.After-in-range) → let a = c .before .before .before .before .b
     c .in-range .result ≡ betweenℤ (pos 0) (pos 1) (a .on)
 fits c = test-handed-on (betweenℤ (pos 0) (pos 1)) (c .before .before .before .before .before .before .fits .on) (c .in-range .ensures)
 
-returns-3 : tie.Need-returns-3
-unfolding numberOf
-returns-3 c = sym (answered (c .before) false (answered-no _ _ (fits (c .before)) (c .if3 .taken)))
-
-returns-4 : tie.Need-returns-4
-unfolding numberOf
-returns-4 c = sym (answered (c .before) true (answered-yes _ _ (fits (c .before)) (c .if3 .left)))
-
 pub judge-block-spec : {M : Type 1} → statement M
+unfolding numberOf
 judge-block-spec =
-    tie.close (tie.spec (λ c κs. search needs) returns (λ c κs. search needs) returns-2 (λ c κs. search needs) returns-3 returns-4)
+    tie.close (tie.spec (λ c κs. search needs)
+    (λ c. sym (block-answer _ _ _ false _ _ (answered-no _ _ (c .before .blocked-account-known .ensures) (c .if1 .taken)) refl refl))
+    (λ c κs. search needs) returns-2 (λ c κs. search needs)
+    (λ c. sym (answered (c .before) false (answered-no _ _ (fits (c .before)) (c .if3 .taken))))
+    (λ c. sym (answered (c .before) true (answered-yes _ _ (fits (c .before)) (c .if3 .left)))))

@@ -19,16 +19,6 @@ listed : (c : tie.Else2) → let a = c .before .before .before .before .before .
     isListed (rosterOf (a .m .now)) (limitedItem (a .line)) ≡ true
 listed c = answered-yes _ _ (c .before .line-known .ensures) (c .if2 .left)
 
-returns : tie.Need-returns
-unfolding numberOf
-returns c = sym (limit-answer _ _ _ false _ _ (answered-no _ _ (c .before .account-known .ensures) (c .if1 .taken)) refl refl)
-
-returns-2 : tie.Need-returns-2
-unfolding numberOf
-returns-2 c =
-    sym (limit-answer _ _ _ true false _ (known (c .before .before)) (answered-no _ _ (c .before .line-known .ensures) (c .if2 .taken))
-    refl)
-
 -- the two questions before the figures are passed, and z says whether those fit
 answered : (c : tie.After-limit-fits) (z : Bool) → let a = c .before .before .before .before .before .before .before .args in
     lineFits (c .before .market .result .largest) (a .line) ≡ z → judged (a .m .now) (Limit (a .account) (a .line)) ≡ cond z 0 9
@@ -36,15 +26,14 @@ answered c z e =
     let two = c .before .before in
     limit-answer _ _ _ true true z (known (two .before .before)) (listed two) (rw (c .before .market .ensures) at e)
 
-returns-3 : tie.Need-returns-3
-unfolding numberOf
-returns-3 c = sym (answered (c .before) false (answered-no _ _ (c .before .limit-fits .ensures) (c .if3 .taken)))
-
-returns-4 : tie.Need-returns-4
-unfolding numberOf
-returns-4 c = sym (answered (c .before) true (answered-yes _ _ (c .before .limit-fits .ensures) (c .if3 .left)))
-
 pub judge-limit-spec : {M : Type 1} → statement M
+unfolding numberOf
 judge-limit-spec =
-    tie.close (tie.spec (λ c κs. search needs) returns (λ c κs. search needs) returns-2 (λ c κs. search needs)
-    (λ c κs. search needs) returns-3 returns-4)
+    tie.close (tie.spec (λ c κs. search needs)
+    (λ c. sym (limit-answer _ _ _ false _ _ (answered-no _ _ (c .before .account-known .ensures) (c .if1 .taken)) refl refl))
+    (λ c κs. search needs)
+    (λ c. sym
+    (limit-answer _ _ _ true false _ (known (c .before .before)) (answered-no _ _ (c .before .line-known .ensures) (c .if2 .taken)) refl))
+    (λ c κs. search needs) (λ c κs. search needs)
+    (λ c. sym (answered (c .before) false (answered-no _ _ (c .before .limit-fits .ensures) (c .if3 .taken))))
+    (λ c. sym (answered (c .before) true (answered-yes _ _ (c .before .limit-fits .ensures) (c .if3 .left)))))

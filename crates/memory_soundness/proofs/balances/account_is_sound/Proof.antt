@@ -15,11 +15,6 @@ Inv-loop m market cells a n j₀ j = (n ≡ rosterOf m .instruments) × (j ≤ n
 abbrev μ-loop : tie.MeasureT-loop
 μ-loop m market cells a n j₀ j = n - j
 
-instrument-is-sound-requires : tie.Need-instrument-is-sound-requires Inv-loop μ-loop
-instrument-is-sound-requires c κs =
-    let s = c .before .before .before .before .before .before in
-    (s .pre .0, s .pre .1, s .pre .2, (omega arith, omega arith), s .pre .3)
-
 returns : tie.Need-returns Inv-loop μ-loop
 unfolding accountSound
 returns c =
@@ -27,23 +22,16 @@ returns c =
     let few = cells-few _ _ _ (s .pre .1) (s .pre .2 .0, omega (arith, s .pre .2, s .pre .0 .accounts)) in
     sym (row-small _ _ (s .pre .0) few (s .pre .2) (rw (s .pre .3) at (c .before .balances-are-small .ensures (c .if1 .taken))))
 
-returns-2 : tie.Need-returns-2 Inv-loop μ-loop
-unfolding accountSound
-returns-2 c =
-    let at = c .before .before .before in
-    every-no _ _ (at .loop .j) _ (omega arith) (c .before .instrument-is-sound .ensures) (c .if2 .taken)
-
-loop-again : tie.Need-loop-again Inv-loop μ-loop
-loop-again c =
-    let at = c .before .before .before in
-    (at .loop .inv .0, omega arith, every-on _ (at .loop .j) _ (at .loop .inv .2) (c .before .instrument-is-sound .ensures) (c .if2 .left))
-
-returns-3 : tie.Need-returns-3 Inv-loop μ-loop
-unfolding accountSound
-returns-3 c = every-all _ _ (c .before .loop .j) (omega arith) (omega arith) (c .before .loop .inv .2)
-
 pub account-is-sound-spec : {M : Type 1} → statement M
+unfolding accountSound
 account-is-sound-spec =
-    tie.close (tie.spec Inv-loop μ-loop (λ c κs. search needs) returns (λ c κs. search needs) (λ c.
-    (c .instruments .ensures, omega arith, every-none _))
-    (λ c. omega arith) instrument-is-sound-requires returns-2 (λ c. omega arith) (λ c. omega arith) loop-again returns-3)
+    tie.close (tie.spec Inv-loop μ-loop (λ c κs. search needs) returns (λ c κs. search needs)
+    (λ c. (c .instruments .ensures, omega arith, every-none _)) (λ c. omega arith)
+    (λ c κs. let s = c .before .before .before .before .before .before in
+    (s .pre .0, s .pre .1, s .pre .2, (omega arith, omega arith), s .pre .3))
+    (λ c. let at = c .before .before .before in
+    every-no _ _ (at .loop .j) _ (omega arith) (c .before .instrument-is-sound .ensures) (c .if2 .taken))
+    (λ c. omega arith) (λ c. omega arith)
+    (λ c. let at = c .before .before .before in
+    (at .loop .inv .0, omega arith, every-on _ (at .loop .j) _ (at .loop .inv .2) (c .before .instrument-is-sound .ensures) (c .if2 .left)))
+    (λ c. every-all _ _ (c .before .loop .j) (omega arith) (omega arith) (c .before .loop .inv .2)))

@@ -22,14 +22,10 @@ loop-again c =
           (c .before .balances-are-small .ensures (not-false _ (c .if1 .left))),
     )
 
-returns-2 : tie.Need-returns-2 Inv-loop μ-loop
-returns-2 c e a on =
-    let at = c .before in
-    let same : a - 1 + 1 ≡ a = omega (arith, on .0) in
-    rw same at (at .loop .inv .2 (a - 1) (omega (arith, on, at .loop .inv .0)))
-
 pub all-balances-are-small-spec : {M : Type 1} → statement M
 all-balances-are-small-spec =
     tie.close (tie.spec Inv-loop μ-loop (λ c κs. search needs) (λ c. (c .accounts .ensures, omega arith, λ b h. absurd (omega arith)))
     (λ c. omega arith) (λ c κs. (c .before .before .before .before .pre, (omega arith, omega arith))) (λ c e. absurd (false≢true e))
-    (λ c. omega arith) (λ c. omega arith) loop-again returns-2)
+    (λ c. omega arith) (λ c. omega arith) loop-again
+    (λ c e a on. let at = c .before in let same : a - 1 + 1 ≡ a = omega (arith, on .0) in
+    rw same at (at .loop .inv .2 (a - 1) (omega (arith, on, at .loop .inv .0)))))

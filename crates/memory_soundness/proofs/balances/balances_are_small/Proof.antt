@@ -4,23 +4,11 @@ use Rattle.memory_layout.proofs.FieldsRead.{balances-long}
 use Rattle.memory_soundness.proofs.balances.balances_are_small.Statement.{statement}
 use Rattle.memory_soundness.proofs.balances.balances_are_small.Tie as tie
 
-returns : tie.Need-returns
-returns c e = absurd (false≢true e)
-
-balances-requires : tie.Need-balances-requires
-balances-requires c κs =
-    let s = c .before .before .before in
-    (s .pre .0 .long, omega (arith, s .pre .1, s .pre .0 .accounts))
-
-all-small-requires : tie.Need-all-small-requires
-all-small-requires c κs =
-    let s = c .before .before .before .before in
-    rw (c .balances .ensures) (omega (arith, balances-long _ _ (s .pre .1) (s .pre .0)))
-
-returns-2 : tie.Need-returns-2
-returns-2 c e =
-    let row = c .before in
-    record { wide = row .before .if1 .left; small = rw (row .balances .ensures) at (c .all-small .ensures e) }
-
 pub balances-are-small-spec : {M : Type 1} → statement M
-balances-are-small-spec = tie.close (tie.spec returns balances-requires all-small-requires returns-2)
+balances-are-small-spec =
+    tie.close (tie.spec (λ c e. absurd (false≢true e))
+    (λ c κs. let s = c .before .before .before in (s .pre .0 .long, omega (arith, s .pre .1, s .pre .0 .accounts)))
+    (λ c κs. let s = c .before .before .before .before in
+    rw (c .balances .ensures) (omega (arith, balances-long _ _ (s .pre .1) (s .pre .0))))
+    (λ c e. let row = c .before in
+    record { wide = row .before .if1 .left; small = rw (row .balances .ensures) at (c .all-small .ensures e) }))

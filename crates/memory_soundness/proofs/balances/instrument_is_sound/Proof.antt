@@ -10,21 +10,6 @@ use Rattle.memory_soundness.proofs.PositionTests.{cell-small, instrumen
 use Rattle.memory_soundness.proofs.balances.instrument_is_sound.Statement.{statement}
 use Rattle.memory_soundness.proofs.balances.instrument_is_sound.Tie as tie
 
-of-requires : tie.Need-of-requires
-of-requires c κs =
-    let s = c .before .before .before in
-    omega (arith, cell-small _ _ _ _ (s .pre .0) (s .pre .1) (s .pre .2) (s .pre .3) Buy)
-
-of-requires-2 : tie.Need-of-requires-2
-of-requires-2 c κs =
-    let s = c .before .before .before .before .before in
-    omega (arith, cell-small _ _ _ _ (s .pre .0) (s .pre .1) (s .pre .2) (s .pre .3) Sell)
-
-of-requires-3 : tie.Need-of-requires-3
-of-requires-3 c κs =
-    let s = c .before .before .before .before .before .before in
-    omega (arith, s .pre .4, market-most (s .args .m .now))
-
 -- the largest figure as the code has it is the market's
 most : (c : tie.After-of3) → let s = c .before .before .before .before .before .before .before in
     c .of3 .result .0 ≡ pos (marketOf (s .args .m .now) .largest)
@@ -75,18 +60,16 @@ tests c z e =
     (instrument-tested _ _ _ _ (s .pre .0) (s .pre .1) (s .pre .2) (s .pre .3) _ _ _ (w .balance .ensures) (b .of .ensures)
     (v .of2 .ensures))
 
-returns : tie.Need-returns
-returns c = rw (not-true (c .before .at-most .result) (c .if1 .taken)) at (tests (c .before) _ refl)
-
-returns-2 : tie.Need-returns-2
-returns-2 c =
-    let at = c .before .before in
-    c .at-most2 .ensures ∙ rw (not-false (at .before .at-most .result) (at .if1 .left)) at (tests (at .before) _
-    (c .before .less2 .ensures))
-
 pub instrument-is-sound-spec : {M : Type 1} → statement M
 instrument-is-sound-spec =
-    tie.close (tie.spec (λ c κs. search needs) (λ c. search needs)
-    (λ c. search needs) (λ c. search needs) (λ c. search needs) of-requires (λ c. search needs) (λ c. search needs) (λ c. search needs)
-    (λ c. search needs) (λ c. search needs) of-requires-2 of-requires-3 less-requires (λ c κs. search needs) returns less-requires-2
-    (λ c κs. search needs) returns-2)
+    tie.close (tie.spec (λ c κs. search needs) (λ c. search needs) (λ c. search needs) (λ c. search needs) (λ c. search needs)
+    (λ c κs. let s = c .before .before .before in omega (arith, cell-small _ _ _ _ (s .pre .0) (s .pre .1) (s .pre .2) (s .pre .3) Buy))
+    (λ c. search needs) (λ c. search needs) (λ c. search needs) (λ c. search needs) (λ c. search needs)
+    (λ c κs. let s = c .before .before .before .before .before in
+    omega (arith, cell-small _ _ _ _ (s .pre .0) (s .pre .1) (s .pre .2) (s .pre .3) Sell))
+    (λ c κs. let s = c .before .before .before .before .before .before in omega (arith, s .pre .4, market-most (s .args .m .now)))
+    less-requires (λ c κs. search needs) (λ c. rw (not-true (c .before .at-most .result) (c .if1 .taken)) at (tests (c .before) _ refl))
+    less-requires-2 (λ c κs. search needs)
+    (λ c. let at = c .before .before in
+    c .at-most2 .ensures
+    ∙ rw (not-false (at .before .at-most .result) (at .if1 .left)) at (tests (at .before) _ (c .before .less2 .ensures))))

@@ -1,5 +1,5 @@
 -- Where all balances are small, each position is in range whatever the orders (`row-small`), B and V being small.
-use Rattle.integers.specs.Basics.{_≡_, sym, arith, needs}
+use Rattle.integers.specs.Basics.{sym, needs}
 use Rattle.memory_layout.proofs.Every.{every-in}
 use Rattle.memory_soundness.specs.Soundness.{accountSound, positionsSound}
 use Rattle.memory_soundness.proofs.OrdersTested.{orders-few}

@@ -14,31 +14,16 @@ Inv-loop m market cells n j₀ j = (n ≡ rosterOf m .accounts) × (j ≤ n) × 
 abbrev μ-loop : tie.MeasureT-loop
 μ-loop m market cells n j₀ j = n - j
 
-gather-sums-requires : tie.Need-gather-sums-requires Inv-loop μ-loop
-gather-sums-requires c κs = let s = c .before .before in (s .pre .1, s .pre .2, empty-cells 1089 refl)
-
-account-is-sound-requires : tie.Need-account-is-sound-requires Inv-loop μ-loop
-account-is-sound-requires c κs =
-    let gathered = c .before .before .before .before in
-    let s = gathered .before .before .before in
-    (s .pre .0, gathered .gather-sums .ensures, (omega arith, omega arith), s .pre .3)
-
-returns : tie.Need-returns Inv-loop μ-loop
-unfolding positionsSound
-returns c =
-    let at = c .before .before .before .before in
-    every-no _ _ (at .loop .j) _ (omega arith) (c .before .account-is-sound .ensures) (c .if1 .taken)
-
-loop-again : tie.Need-loop-again Inv-loop μ-loop
-loop-again c =
-    let at = c .before .before .before .before in
-    (at .loop .inv .0, omega arith, every-on _ (at .loop .j) _ (at .loop .inv .2) (c .before .account-is-sound .ensures) (c .if1 .left))
-
-returns-2 : tie.Need-returns-2 Inv-loop μ-loop
-unfolding positionsSound
-returns-2 c = every-all _ _ (c .before .loop .j) (omega arith) (omega arith) (c .before .loop .inv .2)
-
 pub positions-by-sums-spec : {M : Type 1} → statement M
+unfolding positionsSound
 positions-by-sums-spec =
-    tie.close (tie.spec Inv-loop μ-loop gather-sums-requires (λ c κs. search needs) (λ c. (c .accounts .ensures, omega arith, every-none _))
-    (λ c. omega arith) account-is-sound-requires returns (λ c. omega arith) (λ c. omega arith) loop-again returns-2)
+    tie.close (tie.spec Inv-loop μ-loop (λ c κs. let s = c .before .before in (s .pre .1, s .pre .2, empty-cells 1089 refl))
+    (λ c κs. search needs) (λ c. (c .accounts .ensures, omega arith, every-none _)) (λ c. omega arith)
+    (λ c κs. let gathered = c .before .before .before .before in let s = gathered .before .before .before in
+    (s .pre .0, gathered .gather-sums .ensures, (omega arith, omega arith), s .pre .3))
+    (λ c. let at = c .before .before .before .before in
+    every-no _ _ (at .loop .j) _ (omega arith) (c .before .account-is-sound .ensures) (c .if1 .taken))
+    (λ c. omega arith) (λ c. omega arith)
+    (λ c. let at = c .before .before .before .before in
+    (at .loop .inv .0, omega arith, every-on _ (at .loop .j) _ (at .loop .inv .2) (c .before .account-is-sound .ensures) (c .if1 .left)))
+    (λ c. every-all _ _ (c .before .loop .j) (omega arith) (omega arith) (c .before .loop .inv .2)))

@@ -10,17 +10,6 @@ use Rattle.memory_soundness.proofs.LineFacts.{row-within}
 use Rattle.memory_soundness.proofs.lines.account_lines_are_sound.Statement.{statement}
 use Rattle.memory_soundness.proofs.lines.account_lines_are_sound.Tie as tie
 
-all-in-range-requires : tie.Need-all-in-range-requires
-all-in-range-requires c κs =
-    let s = c .before .before in
-    rw (c .lines-row .ensures) (omega (arith, row-long _ (s .pre .0) _ (s .pre .1)))
-
-row-in-range-requires : tie.Need-row-in-range-requires
-row-in-range-requires c κs =
-    let s = c .before .before .before .before .before .before in
-    rw (c .before .own-lines .ensures)
-    (omega (arith, own-long _ (s .pre .0) _ (s .pre .1), c .instruments .ensures, s .pre .0 .instruments))
-
 row-in-range-requires-2 : tie.Need-row-in-range-requires-2
 row-in-range-requires-2 c κs =
     let s = c .before .before .before .before .before .before .before .before .before .before in
@@ -69,10 +58,6 @@ returns c =
     sym (row-within _ (s .pre .0) _ (s .pre .1)
     (rw (row .lines-row .ensures, s .pre .2) at (c .before .all-in-range .ensures (c .if1 .taken))))
 
-returns-2 : tie.Need-returns-2
-unfolding accountLinesSound
-returns-2 c = rw (answered-no _ _ (own (c .before)) (c .if2 .taken))
-
 returns-3 : tie.Need-returns-3
 unfolding accountLinesSound
 returns-3 c =
@@ -88,7 +73,13 @@ returns-4 c =
     ∙ rw (answered-yes _ _ (own (one .before)) (one .if2 .left), answered-yes _ _ (default (two .before)) (two .if3 .left))
 
 pub account-lines-are-sound-spec : {M : Type 1} → statement M
+unfolding accountLinesSound
 account-lines-are-sound-spec =
-    tie.close (tie.spec (λ c κs. search needs) all-in-range-requires returns (λ c κs. search needs) (λ c κs. search needs)
-    row-in-range-requires returns-2 (λ c κs. search needs) (λ c κs. search needs) row-in-range-requires-2 returns-3 (λ c κs. search needs)
-    (λ c κs. search needs) group-row-in-range-requires returns-4)
+    tie.close (tie.spec (λ c κs. search needs)
+    (λ c κs. let s = c .before .before in rw (c .lines-row .ensures) (omega (arith, row-long _ (s .pre .0) _ (s .pre .1)))) returns
+    (λ c κs. search needs) (λ c κs. search needs)
+    (λ c κs. let s = c .before .before .before .before .before .before in
+    rw (c .before .own-lines .ensures)
+    (omega (arith, own-long _ (s .pre .0) _ (s .pre .1), c .instruments .ensures, s .pre .0 .instruments)))
+    (λ c. rw (answered-no _ _ (own (c .before)) (c .if2 .taken))) (λ c κs. search needs) (λ c κs. search needs) row-in-range-requires-2
+    returns-3 (λ c κs. search needs) (λ c κs. search needs) group-row-in-range-requires returns-4)

@@ -6,16 +6,9 @@ use Rattle.memory_soundness.proofs.Asked.{answered-no, answered-yes}
 use Rattle.memory_soundness.proofs.lines.line_in_range.Statement.{statement}
 use Rattle.memory_soundness.proofs.lines.line_in_range.Tie as tie
 
-returns : tie.Need-returns
-unfolding lineInRange groupLineInRange lineAt groupLineAt
-returns c = rw (answered-no _ _ (c .before .word-in-range .ensures) (c .if1 .taken))
-
-returns-2 : tie.Need-returns-2
-unfolding lineInRange groupLineInRange lineAt groupLineAt
-returns-2 c =
-    let one = c .before in
-    rw (answered-yes _ _ (one .before .word-in-range .ensures) (one .if1 .left)) (c .word-in-range2 .ensures)
-
 pub line-in-range-spec : {M : Type 1} → statement M
+unfolding lineInRange groupLineInRange lineAt groupLineAt
 line-in-range-spec =
-    tie.close (tie.spec (λ c κs. search needs) returns (λ c. search needs) (λ c κs. search needs) returns-2)
+    tie.close (tie.spec (λ c κs. search needs) (λ c. rw (answered-no _ _ (c .before .word-in-range .ensures) (c .if1 .taken)))
+    (λ c. search needs) (λ c κs. search needs)
+    (λ c. let one = c .before in rw (answered-yes _ _ (one .before .word-in-range .ensures) (one .if1 .left)) (c .word-in-range2 .ensures)))

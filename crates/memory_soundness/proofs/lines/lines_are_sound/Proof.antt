@@ -12,19 +12,13 @@ Inv-loop m market n j₀ j = (n ≡ rosterOf m .accounts) × SoFar (accountLines
 abbrev μ-loop : tie.MeasureT-loop
 μ-loop m market n j₀ j = n - j
 
-account-lines-are-sound-requires : tie.Need-account-lines-are-sound-requires Inv-loop μ-loop
-account-lines-are-sound-requires c κs =
-    let s = c .before .before .before .before in
-    (s .pre .0, (omega arith, omega arith), s .pre .1)
-
-loop-again : tie.Need-loop-again Inv-loop μ-loop
-loop-again c =
-    let inv = c .before .before .before .loop .inv in
-    (inv .0, so-far-on _ _ (inv .1) (omega arith) (c .before .account-lines-are-sound .ensures) (c .if1 .left))
-
 pub lines-are-sound-spec : {M : Type 1} → statement M
 unfolding linesSound
 lines-are-sound-spec =
     tie.close (tie.spec Inv-loop μ-loop (λ c κs. search needs) (λ c. (c .accounts .ensures, so-far-none _ _)) (λ c. omega arith)
-    account-lines-are-sound-requires (λ c. every-no _ _ _ _ (omega arith) (c .before .account-lines-are-sound .ensures) (c .if1 .taken))
-    (λ c. omega arith) (λ c. omega arith) loop-again (λ c. so-far-all _ (c .before .loop .inv .1) (omega arith)))
+    (λ c κs. let s = c .before .before .before .before in (s .pre .0, (omega arith, omega arith), s .pre .1))
+    (λ c. every-no _ _ _ _ (omega arith) (c .before .account-lines-are-sound .ensures) (c .if1 .taken)) (λ c. omega arith)
+    (λ c. omega arith)
+    (λ c. let inv = c .before .before .before .loop .inv in
+    (inv .0, so-far-on _ _ (inv .1) (omega arith) (c .before .account-lines-are-sound .ensures) (c .if1 .left)))
+    (λ c. so-far-all _ (c .before .loop .inv .1) (omega arith)))

@@ -7,13 +7,8 @@ use Rattle.memory_soundness.proofs.Asked.{over, within}
 use Rattle.memory_soundness.proofs.lines.word_in_range.Statement.{statement}
 use Rattle.memory_soundness.proofs.lines.word_in_range.Tie as tie
 
-returns : tie.Need-returns
-unfolding groupLineInRange groupLineAt
-returns c = rw (over _ _ _ (ap lower (c .before .word .ensures)) (c .if1 .taken))
-
-returns-2 : tie.Need-returns-2
-unfolding groupLineInRange groupLineAt
-returns-2 c = rw (within _ _ _ (ap lower (c .before .word .ensures)) (c .if1 .left), c .before .word .ensures)
-
 pub word-in-range-spec : {M : Type 1} → statement M
-word-in-range-spec = tie.close (tie.spec (λ c κs. search needs) returns returns-2)
+unfolding groupLineInRange groupLineAt
+word-in-range-spec =
+    tie.close (tie.spec (λ c κs. search needs) (λ c. rw (over _ _ _ (ap lower (c .before .word .ensures)) (c .if1 .taken)))
+    (λ c. rw (within _ _ _ (ap lower (c .before .word .ensures)) (c .if1 .left), c .before .word .ensures)))

@@ -14,11 +14,6 @@ Inv-loop m details n orders p₀ p = AskedTo (Marked m) m orders n p
 abbrev μ-loop : tie.MeasureT-loop
 μ-loop m details n orders p₀ p = n - p
 
-returns : tie.Need-returns Inv-loop μ-loop
-returns c =
-    let s = c .before .before .before in
-    tells-yes (λ p l. c .before .all-trade .ensures (c .if1 .taken) _ (record-packable _ p) (s .pre .2 p l))
-
 -- the records are there
 long : (c : tie.In-loop Inv-loop μ-loop) → let at = c .before in (length (at .before .records .result .now) ≡ 4096) × (at .loop .p < 256)
 long c =
@@ -33,17 +28,15 @@ returns-2 c =
     asked-refused _ _ _ _ _ (at .loop .inv) _ (omega arith) (load .load .ensures)
     (told-no _ (c .before .is-marked .ensures) (c .if2 .taken))
 
-loop-again : tie.Need-loop-again Inv-loop μ-loop
-loop-again c =
-    let load = c .before .before in
-    let at = load .before .before in
-    asked-more _ _ _ _ _ (at .loop .inv) _ (omega arith) (load .load .ensures) (told-yes _ (c .before .is-marked .ensures) (c .if2 .left))
-
 pub all-marked-spec : {M : Type 1} → statement M
 all-marked-spec =
-    tie.close (tie.spec Inv-loop μ-loop (λ c κs. c .before .pre .0) returns (λ c κs. omega (arith, c .before .before .before .pre .0 .long))
-    (λ c κs. c .before .before .before .before .pre .1)
-    (λ c. asked-none _ _ _ _ (c .before .count .ensures ∙ length-open _) (c .records .ensures))
-    (λ c κs. omega (arith, long c)) (λ c κs. c .before .before .before .before .before .before .before .before .pre .0) returns-2
-    (λ c. omega (arith, long (c .before .before .before))) (λ c. omega arith) loop-again
+    tie.close (tie.spec Inv-loop μ-loop (λ c κs. c .before .pre .0)
+    (λ c. let s = c .before .before .before in
+    tells-yes (λ p l. c .before .all-trade .ensures (c .if1 .taken) _ (record-packable _ p) (s .pre .2 p l)))
+    (λ c κs. omega (arith, c .before .before .before .pre .0 .long)) (λ c κs. c .before .before .before .before .pre .1)
+    (λ c. asked-none _ _ _ _ (c .before .count .ensures ∙ length-open _) (c .records .ensures)) (λ c κs. omega (arith, long c))
+    (λ c κs. c .before .before .before .before .before .before .before .before .pre .0) returns-2
+    (λ c. omega (arith, long (c .before .before .before))) (λ c. omega arith)
+    (λ c. let load = c .before .before in let at = load .before .before in
+    asked-more _ _ _ _ _ (at .loop .inv) _ (omega arith) (load .load .ensures) (told-yes _ (c .before .is-marked .ensures) (c .if2 .left)))
     (λ c. asked-all _ _ _ _ _ (c .before .loop .inv) (omega arith)))

@@ -23,12 +23,6 @@ on-roster : (c : tie.Else1 Inv-loop μ-loop) → let a =
     c .before .before .before .before .args in packedAccount (a .details) ≤ rosterOf (a .m .now) .accounts
 on-roster c = omega (arith, c .before .before .account-of .ensures, c .before .accounts .ensures, c .if1 .left)
 
-is-trading-requires : tie.Need-is-trading-requires Inv-loop μ-loop
-is-trading-requires c κs =
-    let at = c .before in
-    let one = at .before .before .before .before in
-    (one .before .before .before .before .pre, (omega arith, omega (arith, at .loop .inv .0, on-roster one)))
-
 loop-again : tie.Need-loop-again Inv-loop μ-loop
 loop-again c =
     let at = c .before .before .before in (
@@ -65,4 +59,6 @@ all-trade-spec =
     tie.close (tie.spec Inv-loop μ-loop (λ c κs. tt) (λ c κs. c .before .before .pre .long) (λ c. λ e. absurd (false≢true e))
     (λ c κs. c .before .before .before .before .pre .long) (λ c κs. tt) (λ c. λ e. absurd (false≢true e))
     (λ c. (c .before .before .before .before .before .account-of .ensures, omega arith, λ b h. absurd (omega arith))) (λ c. omega arith)
-    is-trading-requires (λ c. λ e. absurd (false≢true e)) (λ c. omega arith) (λ c. omega arith) loop-again returns-4)
+    (λ c κs. let at = c .before in let one = at .before .before .before .before in
+    (one .before .before .before .before .pre, (omega arith, omega (arith, at .loop .inv .0, on-roster one))))
+    (λ c. λ e. absurd (false≢true e)) (λ c. omega arith) (λ c. omega arith) loop-again returns-4)

@@ -12,16 +12,6 @@ use Rattle.memory_soundness.proofs.orders.is_marked.Tie as tie
 account : (c : tie.Else1) → let a = c .before .before .before .args in Numbered (rosterOf (a .m .now) .accounts) (a .o .account)
 account c = between-numbered _ _ (answered-yes _ _ (c .before .account-known .ensures) (c .if1 .left))
 
-returns : tie.Need-returns
-returns c =
-    tells-no (λ k. true≢false (sym (numbered-between _ _ (k .account)) ∙ answered-no _ _ (c .before .account-known .ensures)
-    (c .if1 .taken)))
-
-returns-2 : tie.Need-returns-2
-returns-2 c =
-    tells-no (λ k. true≢false (sym (numbered-between _ _ (k .instrument)) ∙ answered-no _ _ (c .before .instrument-known .ensures)
-    (c .if2 .taken)))
-
 returns-3 : tie.Need-returns-3
 returns-3 c =
     let two = c .before in
@@ -37,5 +27,10 @@ returns-3 c =
 
 pub is-marked-spec : {M : Type 1} → statement M
 is-marked-spec =
-    tie.close (tie.spec (λ c κs. search needs) returns (λ c κs. search needs) returns-2 (λ c κs.
-    (c .before .before .before .before .before .pre, account (c .before .before))) returns-3)
+    tie.close (tie.spec (λ c κs. search needs)
+    (λ c. tells-no
+    (λ k. true≢false (sym (numbered-between _ _ (k .account)) ∙ answered-no _ _ (c .before .account-known .ensures) (c .if1 .taken))))
+    (λ c κs. search needs)
+    (λ c. tells-no
+    (λ k. true≢false (sym (numbered-between _ _ (k .instrument)) ∙ answered-no _ _ (c .before .instrument-known .ensures) (c .if2 .taken))))
+    (λ c κs. (c .before .before .before .before .before .pre, account (c .before .before))) returns-3)

@@ -7,16 +7,10 @@ use Rattle.memory_soundness.proofs.OrdersTested.{refused-order, refused
 use Rattle.memory_soundness.proofs.orders.orders_are_sound.Statement.{statement}
 use Rattle.memory_soundness.proofs.orders.orders_are_sound.Tie as tie
 
-returns : tie.Need-returns
-returns c = refused-order _ (told-no _ (c .before .before .pass-over .ensures .0) (c .if1 .taken))
-
 -- what the pass tells of the details
 within : (c : tie.Else1) → let passed =
     c .before .before in Each (passed .before .before .args .m .now) (Within (passed .pass-over .result .details))
 within c = c .before .before .pass-over .ensures .1 (not-false _ (c .if1 .left))
-
-totals-fit-requires : tie.Need-totals-fit-requires
-totals-fit-requires c κs = let s = c .before .before .before .before in (s .pre .0, s .pre .1, within c)
 
 returns-2 : tie.Need-returns-2
 returns-2 c =
@@ -24,12 +18,6 @@ returns-2 c =
     let passed = one .before .before in
     refused-total _ (told-yes _ (passed .pass-over .ensures .0) (one .if1 .left)) (told-no _ (c .before .totals-fit .ensures)
     (c .if2 .taken))
-
-all-marked-requires : tie.Need-all-marked-requires
-all-marked-requires c κs =
-    let one = c .before .before in
-    let s = one .before .before .before .before in
-    (s .pre .0, s .pre .1, within one)
 
 returns-3 : tie.Need-returns-3
 returns-3 c =
@@ -41,4 +29,6 @@ returns-3 c =
 
 pub orders-are-sound-spec : {M : Type 1} → statement M
 orders-are-sound-spec =
-    tie.close (tie.spec (λ c κs. search needs) returns totals-fit-requires returns-2 all-marked-requires returns-3)
+    tie.close (tie.spec (λ c κs. search needs) (λ c. refused-order _ (told-no _ (c .before .before .pass-over .ensures .0) (c .if1 .taken)))
+    (λ c κs. let s = c .before .before .before .before in (s .pre .0, s .pre .1, within c)) returns-2
+    (λ c κs. let one = c .before .before in let s = one .before .before .before .before in (s .pre .0, s .pre .1, within one)) returns-3)

@@ -29,20 +29,12 @@ long c =
     let s = c .before .before .before .before in
     (records-long _ _ _ (c .loop .inv .0) (c .loop .inv .1) (s .pre .1), omega (arith, c .loop .inv .0, s .pre .1 .count))
 
-with-record-requires : tie.Need-with-record-requires Inv-loop μ-loop
-with-record-requires c κs = (omega (arith, long (c .before)), c .before .loop .inv .5)
-
 returns : tie.Need-returns Inv-loop μ-loop
 returns c =
     let first = c .before .before in
     let at = first .before .before in
     ended _ _ _ (at .loop .inv .0) (at .loop .inv .1) (at .loop .t * 2 + 1) (omega arith) _ _ _
     (first .with-record .ensures .0) (λ e. absurd (false≢true (sym (not-true _ (c .if1 .taken)) ∙ e))) (first .with-record .ensures .1)
-
-with-record-requires-2 : tie.Need-with-record-requires-2 Inv-loop μ-loop
-with-record-requires-2 c κs =
-    let first = c .before .before in
-    (omega (arith, long (first .before .before)), first .with-record .ensures .0 (not-false _ (c .if1 .left)))
 
 returns-2 : tie.Need-returns-2 Inv-loop μ-loop
 returns-2 c =
@@ -70,11 +62,6 @@ loop-again c =
 last : (c : tie.Then3 Inv-loop μ-loop) → let at = c .before .before in at .loop .t * 2 ≡ at .before .before .count .result - 1
 last c = omega arith
 
-with-record-requires-3 : tie.Need-with-record-requires-3 Inv-loop μ-loop
-with-record-requires-3 c κs =
-    let at = c .before .before in
-    (omega (arith, long at), rw (last c) at (at .loop .inv .5))
-
 returns-3 : tie.Need-returns-3 Inv-loop μ-loop
 returns-3 c =
     let odd = c .before in
@@ -92,7 +79,10 @@ pub pass-over-spec : {M : Type 1} → statement M
 pass-over-spec =
     tie.close (tie.spec Inv-loop μ-loop (λ c κs. omega (arith, c .before .pre .0 .long)) (λ c κs. c .before .before .pre .1)
     (λ c. (c .before .count .ensures ∙ length-open _, c .records .ensures, refl, omega arith, refl, passed-none _))
-    (λ c. omega (arith, long (c .before))) with-record-requires returns (λ c. omega (arith, long (c .before .before .before .before)))
-    (λ c. omega (arith, long (c .before .before .before .before))) with-record-requires-2 returns-2
-    (λ c. omega (arith, long (c .before .before .before .before .before .before .before)))
-    (λ c. omega arith) loop-again (λ c. omega arith) with-record-requires-3 returns-3 returns-4)
+    (λ c. omega (arith, long (c .before))) (λ c κs. (omega (arith, long (c .before)), c .before .loop .inv .5)) returns
+    (λ c. omega (arith, long (c .before .before .before .before))) (λ c. omega (arith, long (c .before .before .before .before)))
+    (λ c κs. let first = c .before .before in
+    (omega (arith, long (first .before .before)), first .with-record .ensures .0 (not-false _ (c .if1 .left))))
+    returns-2 (λ c. omega (arith, long (c .before .before .before .before .before .before .before))) (λ c. omega arith) loop-again
+    (λ c. omega arith) (λ c κs. let at = c .before .before in (omega (arith, long at), rw (last c) at (at .loop .inv .5))) returns-3
+    returns-4)

@@ -32,23 +32,15 @@ long c =
     let s = at .before .before .before .before .before .before .before in
     asked-long _ _ _ _ _ (at .loop .inv) (s .pre .1) (omega arith)
 
-returns-2 : tie.Need-returns-2 Inv-loop μ-loop
-returns-2 c =
-    let load = c .before .before in
-    let at = load .before .before in
-    asked-refused _ _ _ _ _ (at .loop .inv) _ (omega arith) (load .load .ensures) (λ fits. absurd (omega (arith, fits, c .if2 .taken)))
-
-loop-again : tie.Need-loop-again Inv-loop μ-loop
-loop-again c =
-    let load = c .before .before in
-    let at = load .before .before in
-    asked-more _ _ _ _ _ (at .loop .inv) _ (omega arith) (load .load .ensures) (omega (arith, c .if2 .left))
-
 pub totals-fit-spec : {M : Type 1} → statement M
 totals-fit-spec =
     tie.close (tie.spec Inv-loop μ-loop (λ c κs. tt) (λ c κs. tt)
     (λ c. omega (arith, c .remaining-of .ensures, c .before .filled-of .ensures, c .before .before .before .fits .details)) returns
     (λ c κs. omega (arith, c .before .before .before .before .pre .0 .long)) (λ c κs. c .before .before .before .before .before .pre .1)
-    (λ c. asked-none _ _ _ _ (c .before .count .ensures ∙ length-open _) (c .records .ensures)) (λ c κs. omega (arith, long c)) returns-2
-    (λ c. omega (arith, long (c .before .before .before))) (λ c. omega arith) loop-again
+    (λ c. asked-none _ _ _ _ (c .before .count .ensures ∙ length-open _) (c .records .ensures)) (λ c κs. omega (arith, long c))
+    (λ c. let load = c .before .before in let at = load .before .before in
+    asked-refused _ _ _ _ _ (at .loop .inv) _ (omega arith) (load .load .ensures) (λ fits. absurd (omega (arith, fits, c .if2 .taken))))
+    (λ c. omega (arith, long (c .before .before .before))) (λ c. omega arith)
+    (λ c. let load = c .before .before in let at = load .before .before in
+    asked-more _ _ _ _ _ (at .loop .inv) _ (omega arith) (load .load .ensures) (omega (arith, c .if2 .left)))
     (λ c. asked-all _ _ _ _ _ (c .before .loop .inv) (omega arith)))

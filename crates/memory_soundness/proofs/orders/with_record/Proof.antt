@@ -1,5 +1,5 @@
 -- A record whose id is not above the last, or of which nothing remains, refuses all that follow; another one joins those passed.
-use Rattle.integers.specs.Basics.{_≡_, refl, _∙_, sym, true≢false, false≢true, needs}
+use Rattle.integers.specs.Basics.{_∙_, sym, true≢false, false≢true, needs}
 use Rattle.memory_soundness.proofs.Passing.{refused-id, refused-rest, passed-more}
 use Rattle.memory_soundness.proofs.orders.with_record.Statement.{statement}
 use Rattle.memory_soundness.proofs.orders.with_record.Tie as tie

@@ -4,15 +4,10 @@ use Rattle.memory_soundness.proofs.Asked.{weight-low, weight-high}
 use Rattle.memory_soundness.proofs.ranges.is_weight.Statement.{statement}
 use Rattle.memory_soundness.proofs.ranges.is_weight.Tie as tie
 
-returns : tie.Need-returns
-returns c =
-    let again = toZ-ofZ w64 (c .before .args .z) (c .before .fits .z) in
-    weight-low (c .before .args .z) (simp again at (c .if1 .taken))
-
-returns-2 : tie.Need-returns-2
-returns-2 c =
-    let again = toZ-ofZ w64 (c .before .args .z) (c .before .fits .z) in
-    simp again (weight-high (c .before .args .z) (simp again at (c .if1 .left)))
-
 pub is-weight-spec : {M : Type 1} → statement M
-is-weight-spec = tie.close (tie.spec returns returns-2)
+is-weight-spec =
+    tie.close (tie.spec
+    (λ c. let again = toZ-ofZ w64 (c .before .args .z) (c .before .fits .z) in
+    weight-low (c .before .args .z) (simp again at (c .if1 .taken)))
+    (λ c. let again = toZ-ofZ w64 (c .before .args .z) (c .before .fits .z) in
+    simp again (weight-high (c .before .args .z) (simp again at (c .if1 .left)))))

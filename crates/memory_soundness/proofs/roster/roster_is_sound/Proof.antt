@@ -23,19 +23,6 @@ long c =
     let n = sizes-numbered (s .args .m .now) (sized (c .before)) in
     (ap length (c .roster .ensures) ∙ roster-long (s .args .m .now) (s .pre), n .2 .1, n .3 .1)
 
-groups-named-requires : tie.Need-groups-named-requires
-groups-named-requires c κs = omega (arith, long (c .before .before .before), c .before .contracts .ensures)
-
-contracts-named-requires : tie.Need-contracts-named-requires
-contracts-named-requires c κs =
-    let at = c .before .before in
-    omega (arith, long (at .before .before .before), at .instruments .ensures)
-
-weights-fit-requires : tie.Need-weights-fit-requires
-weights-fit-requires c κs =
-    let at = c .before .before .before .before in
-    omega (arith, long (at .before .before .before), at .instruments .ensures)
-
 -- what each call says of the roster
 named-groups : (c : tie.After-groups-named) → let m =
     c .before .before .before .before .before .before .before .before .args .m .now in
@@ -58,16 +45,6 @@ weighed : (c : tie.After-weights-fit) → let m =
 weighed c =
     let at = c .before .before .before .before .before in
     c .weights-fit .ensures ∙ rw (at .instruments .ensures, at .before .before .before .roster .ensures)
-
-returns : tie.Need-returns
-unfolding rosterSound
-returns c = rw (answered-no _ _ (c .before .sizes-fit .ensures) (c .if1 .taken))
-
-returns-2 : tie.Need-returns-2
-unfolding rosterSound
-returns-2 c =
-    let one = c .before .before .before .before .before .before in
-    rw (sized one, names-tests, answered-no _ _ (named-groups (c .before)) (c .if2 .taken))
 
 returns-3 : tie.Need-returns-3
 unfolding rosterSound
@@ -97,6 +74,13 @@ returns-4 c =
     )
 
 pub roster-is-sound-spec : {M : Type 1} → statement M
+unfolding rosterSound
 roster-is-sound-spec =
-    tie.close (tie.spec (λ c κs. search needs) returns (λ c κs. search needs) (λ c κs. search needs) (λ c κs. search needs)
-    (λ c κs. search needs) groups-named-requires returns-2 contracts-named-requires returns-3 weights-fit-requires returns-4)
+    tie.close (tie.spec (λ c κs. search needs) (λ c. rw (answered-no _ _ (c .before .sizes-fit .ensures) (c .if1 .taken)))
+    (λ c κs. search needs) (λ c κs. search needs) (λ c κs. search needs) (λ c κs. search needs)
+    (λ c κs. omega (arith, long (c .before .before .before), c .before .contracts .ensures))
+    (λ c. let one = c .before .before .before .before .before .before in
+    rw (sized one, names-tests, answered-no _ _ (named-groups (c .before)) (c .if2 .taken)))
+    (λ c κs. let at = c .before .before in omega (arith, long (at .before .before .before), at .instruments .ensures)) returns-3
+    (λ c κs. let at = c .before .before .before .before in omega (arith, long (at .before .before .before), at .instruments .ensures))
+    returns-4)

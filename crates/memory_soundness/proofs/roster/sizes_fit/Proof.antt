@@ -24,10 +24,6 @@ fourth : (c : tie.After-between4) → c .between4 .result ≡ between 1 32
     (c .before .before .before .before .before .before .before .before .before .before .before .before .args .m .now) .instruments)
 fourth c = c .between4 .ensures ∙ ap (λ (n : ℕ). between 1 32 n) (c .before .instruments .ensures)
 
-returns : tie.Need-returns
-unfolding sizesFit
-returns c = rw (answered-no _ _ (first (c .before)) (c .if1 .taken))
-
 returns-2 : tie.Need-returns-2
 unfolding sizesFit
 returns-2 c =
@@ -59,6 +55,8 @@ returns-4 c =
     )
 
 pub sizes-fit-spec : {M : Type 1} → statement M
+unfolding sizesFit
 sizes-fit-spec =
-    tie.close (tie.spec (λ c κs. search needs) (λ c κs. search needs) returns (λ c κs. search needs) (λ c κs. search needs) returns-2
-    (λ c κs. search needs) (λ c κs. search needs) returns-3 (λ c κs. search needs) (λ c κs. search needs) returns-4)
+    tie.close (tie.spec (λ c κs. search needs) (λ c κs. search needs) (λ c. rw (answered-no _ _ (first (c .before)) (c .if1 .taken)))
+    (λ c κs. search needs) (λ c κs. search needs) returns-2 (λ c κs. search needs) (λ c κs. search needs) returns-3 (λ c κs. search needs)
+    (λ c κs. search needs) returns-4)

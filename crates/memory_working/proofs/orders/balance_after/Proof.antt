@@ -3,12 +3,7 @@ use Rattle.integers.specs.Basics.{_∙_, needs}
 use Rattle.memory_working.proofs.orders.balance_after.Statement.{statement}
 use Rattle.memory_working.proofs.orders.balance_after.Tie as tie
 
-returns : tie.Need-returns
-returns c = c .plus .ensures ∙ rw (c .before .enum-told .given .1)
-
-returns-2 : tie.Need-returns-2
-returns-2 c = c .less .ensures ∙ rw (c .before .enum-told2 .given .1)
-
 pub balance-after-spec : {M : Type 1} → statement M
 balance-after-spec =
-    tie.close (tie.spec (λ c. search needs) (λ c κs. search needs) (λ c. search needs) (λ c κs. search needs) returns returns-2)
+    tie.close (tie.spec (λ c. search needs) (λ c κs. search needs) (λ c. search needs) (λ c κs. search needs)
+    (λ c. c .plus .ensures ∙ rw (c .before .enum-told .given .1)) (λ c. c .less .ensures ∙ rw (c .before .enum-told2 .given .1)))

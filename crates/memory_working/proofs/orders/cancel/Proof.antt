@@ -15,9 +15,6 @@ recount-requires c κs =
     rw (c .remaining .ensures id) (recountable id _ (start .pre .0 .held) (start .pre .1)
     (change-sums (λ i. known .before .slice-known .given i .fits) (start .pre .0)))
 
-remove-order-requires : tie.Need-remove-order-requires
-remove-order-requires c κs = inside (c .before .before .before .before .before .before .before .before .pre .0)
-
 returns : tie.Need-returns
 returns c =
     let counted = c .before .before .before .before .before .before in
@@ -33,4 +30,6 @@ returns c =
 
 pub cancel-spec : {M : Type 1} → statement M
 cancel-spec =
-    tie.close (tie.spec (λ c κs. search needs) recount-requires remove-order-requires (λ c. search needs) (λ c. search needs) returns)
+    tie.close (tie.spec (λ c κs. search needs) recount-requires
+    (λ c κs. inside (c .before .before .before .before .before .before .before .before .pre .0)) (λ c. search needs) (λ c. search needs)
+    returns)

@@ -22,35 +22,21 @@ filling c =
     whole Fill is (record { sfits = told .known-told2 .given .0 .1 })
     (change-facts (change-as is (told .before .before .before .before .before .pre .0)) .1 .0 .0)
 
-replace-requires : tie.Need-replace-requires
-replace-requires c κs =
-    let pre = c .before .before .before .before .before .before .before .pre in (change-as (replacing c .1) (pre .0), pre .1)
-
-cancel-requires : tie.Need-cancel-requires
-cancel-requires c κs =
-    let pre = c .before .before .before .before .before .before .pre in
-    (change-as (c .before .before .enum-told .given .1) (pre .0), pre .1)
-
-fill-requires : tie.Need-fill-requires
-fill-requires c κs = let pre = c .before .before .before .before .before .before .before .pre in (change-as (filling c .1) (pre .0), pre .1)
-
-returns : tie.Need-returns
-returns c =
-    let done = c .before .before .before .before in
-    (rw (replacing (done .before) .1) (done .replace .ensures .0), done .replace .ensures .1)
-
-returns-2 : tie.Need-returns-2
-returns-2 c =
-    let done = c .before .before .before .before in
-    (rw (done .before .before .before .enum-told .given .1) (done .cancel .ensures .0), done .cancel .ensures .1)
-
-returns-3 : tie.Need-returns-3
-returns-3 c =
-    let done = c .before .before .before .before in
-    (rw (filling (done .before) .1) (done .fill .ensures .0), done .fill .ensures .1)
-
 pub change-order-spec : {M : Type 1} → statement M
 change-order-spec =
-    tie.close (tie.spec (λ c. search needs) (λ c. replacing c .0) replace-requires (λ c. search needs) cancel-requires (λ c. search needs)
-    (λ c. filling c .0) fill-requires (λ c. search needs) (λ c. search needs) returns (λ c. search needs) (λ c. search needs) returns-2
-    (λ c. search needs) (λ c. search needs) returns-3)
+    tie.close (tie.spec (λ c. search needs) (λ c. replacing c .0)
+    (λ c κs. let pre = c .before .before .before .before .before .before .before .pre in (change-as (replacing c .1) (pre .0), pre .1))
+    (λ c. search needs)
+    (λ c κs. let pre = c .before .before .before .before .before .before .pre in
+    (change-as (c .before .before .enum-told .given .1) (pre .0), pre .1))
+    (λ c. search needs) (λ c. filling c .0)
+    (λ c κs. let pre = c .before .before .before .before .before .before .before .pre in (change-as (filling c .1) (pre .0), pre .1))
+    (λ c. search needs) (λ c. search needs)
+    (λ c. let done = c .before .before .before .before in
+    (rw (replacing (done .before) .1) (done .replace .ensures .0), done .replace .ensures .1))
+    (λ c. search needs) (λ c. search needs)
+    (λ c. let done = c .before .before .before .before in
+    (rw (done .before .before .before .enum-told .given .1) (done .cancel .ensures .0), done .cancel .ensures .1))
+    (λ c. search needs) (λ c. search needs)
+    (λ c. let done = c .before .before .before .before in
+    (rw (filling (done .before) .1) (done .fill .ensures .0), done .fill .ensures .1)))

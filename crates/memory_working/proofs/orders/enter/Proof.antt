@@ -15,17 +15,6 @@ recount-requires c κs =
     rw (c .remaining .ensures id) (recountable id _ (start .pre .0 .held) (start .pre .1)
     (new-sums (λ i. known .slice-known .given i .fits) (start .fits .id .fits) (start .pre .0)))
 
-insert-order-requires : tie.Need-insert-order-requires
-insert-order-requires c κs = new-room (c .before .before .before .before .before .before .before .before .pre .0)
-
-set-mark-requires : tie.Need-set-mark-requires
-set-mark-requires c κs =
-    omega (
-      arith,
-      c .account-of .ensures,
-      c .before .before .before .before .before .before .before .before .before .before .before .before .before .pre .0 .held .long,
-    )
-
 returns : tie.Need-returns
 returns c =
     let marked = c .before .before in
@@ -44,5 +33,8 @@ returns c =
 
 pub enter-spec : {M : Type 1} → statement M
 enter-spec =
-    tie.close (tie.spec (λ c κs. search needs) recount-requires insert-order-requires (λ c κs. search needs) set-mark-requires
+    tie.close (tie.spec (λ c κs. search needs) recount-requires
+    (λ c κs. new-room (c .before .before .before .before .before .before .before .before .pre .0)) (λ c κs. search needs)
+    (λ c κs. let counted = c .before .before .before .before .before .before in
+    omega (arith, c .account-of .ensures, counted .before .before .before .before .before .before .before .pre .0 .held .long))
     (λ c. search needs) (λ c. search needs) returns)

@@ -8,24 +8,12 @@ use Rattle.memory_working.proofs.Keeping.{recountable}
 use Rattle.memory_working.proofs.orders.fill.Statement.{statement}
 use Rattle.memory_working.proofs.orders.fill.Tie as tie
 
-sub-recount : tie.Need-sub-recount
-sub-recount c =
-    let start = c .before .before .before .before in
-    omega (arith, c .before .remaining .ensures (start .args .id), fill-most (start .pre .0))
-
 recount-requires : tie.Need-recount-requires
 recount-requires c κs =
     let start = c .before .before .before .before in
     let id = start .args .id in
     rw (c .before .remaining .ensures id) (recountable id _ (start .pre .0 .held) (start .pre .1)
     (change-sums (λ i. c .before .before .before .slice-known .given i .fits) (start .pre .0)))
-
-balance-requires : tie.Need-balance-requires
-balance-requires c κs =
-    rw (c .before .order .ensures) (fill-readable (c .before .before .before .before .before .before .before .before .before .pre .0))
-
-fill-record-requires : tie.Need-fill-record-requires
-fill-record-requires c κs = fill-stands (c .before .before .before .before .before .before .before .before .before .before .before .pre .0)
 
 of-requires : tie.Need-of-requires
 of-requires c κs =
@@ -71,5 +59,11 @@ returns c =
 
 pub fill-spec : {M : Type 1} → statement M
 fill-spec =
-    tie.close (tie.spec (λ c κs. search needs) sub-recount recount-requires (λ c κs. search needs) balance-requires fill-record-requires
-    of-requires balance-after-requires set-balance-requires (λ c. search needs) (λ c. search needs) returns)
+    tie.close (tie.spec (λ c κs. search needs)
+    (λ c. let start = c .before .before .before .before in
+    omega (arith, c .before .remaining .ensures (start .args .id), fill-most (start .pre .0)))
+    recount-requires (λ c κs. search needs)
+    (λ c κs.
+    rw (c .before .order .ensures) (fill-readable (c .before .before .before .before .before .before .before .before .before .pre .0)))
+    (λ c κs. fill-stands (c .before .before .before .before .before .before .before .before .before .before .before .pre .0)) of-requires
+    balance-after-requires set-balance-requires (λ c. search needs) (λ c. search needs) returns)

@@ -6,9 +6,6 @@ use Rattle.memory_working.proofs.Rooms.{room}
 use Rattle.memory_working.proofs.settings.work_balance.Statement.{statement}
 use Rattle.memory_working.proofs.settings.work_balance.Tie as tie
 
-set-balance-requires : tie.Need-set-balance-requires
-set-balance-requires c κs = room (c .before .before .pre)
-
 returns : tie.Need-returns
 unfolding worked
 returns c =
@@ -16,4 +13,4 @@ returns c =
     c .before .before .set-balance .ensures ∙ ap (storeBalance _ _ _) (toZ-ofZ w64 (start .args .balance) (start .fits .balance))
 
 pub work-balance-spec : {M : Type 1} → statement M
-work-balance-spec = tie.close (tie.spec set-balance-requires (λ c. search needs) returns)
+work-balance-spec = tie.close (tie.spec (λ c κs. room (c .before .before .pre)) (λ c. search needs) returns)

@@ -7,20 +7,10 @@ use Rattle.memory_working.proofs.LineFigures.{storable-figures, ready-l
 use Rattle.memory_working.proofs.settings.work_limit.Statement.{statement}
 use Rattle.memory_working.proofs.settings.work_limit.Tie as tie
 
-own-line-requires : tie.Need-own-line-requires
-own-line-requires c κs =
-    let r = room (ready-line (c .before .before .line .given .1) (c .before .before .before .before .before .pre)) in
-    (r .1, r .2)
-
 work-line-requires : tie.Need-work-line-requires
 work-line-requires c κs =
     let ready = ready-line (c .before .before .before .line .given .1) (c .before .before .before .before .before .before .pre) in
     (omega (arith, room ready), omega (arith, room ready), storable-figures _ _ (accepted-facts _ (ready .held) _ (ready .accepted) .2))
-
-default-line-requires : tie.Need-default-line-requires
-default-line-requires c κs =
-    let r = room (ready-line (c .before .before .line2 .given .1) (c .before .before .before .before .before .pre)) in
-    (r .1, r .2)
 
 work-line-requires-2 : tie.Need-work-line-requires-2
 work-line-requires-2 c κs =
@@ -55,6 +45,10 @@ returns-3 c =
 
 pub work-limit-spec : {M : Type 1} → statement M
 work-limit-spec =
-    tie.close (tie.spec (λ c. search needs) own-line-requires work-line-requires (λ c. search needs) default-line-requires
+    tie.close (tie.spec (λ c. search needs)
+    (λ c κs. let r = room (ready-line (c .before .before .line .given .1) (c .before .before .before .before .before .pre)) in (r .1, r .2))
+    work-line-requires (λ c. search needs)
+    (λ c κs. let r = room (ready-line (c .before .before .line2 .given .1) (c .before .before .before .before .before .pre)) in
+    (r .1, r .2))
     work-line-requires-2 (λ c. search needs) work-of-group-requires (λ c. search needs) returns (λ c. search needs) returns-2
     (λ c. search needs) returns-3)

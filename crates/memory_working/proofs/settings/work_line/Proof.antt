@@ -5,20 +5,13 @@ use Rattle.memory_working.proofs.LineFigures.{line-unset}
 use Rattle.memory_working.proofs.settings.work_line.Statement.{statement}
 use Rattle.memory_working.proofs.settings.work_line.Tie as tie
 
-limits-of-requires : tie.Need-limits-of-requires
-limits-of-requires c κs = (c .before .before .before .pre .2, sym (c .before .unsets .ensures) ∙ c .if1 .left)
-
-returns : tie.Need-returns
-returns c =
-    let tested = c .before .before .before .before in
-    c .before .before .unset-line .ensures ∙ ap (storeLine _ _ _)
-    (sym (line-unset _ _ (tested .before .unsets .ensures) (tested .if1 .taken)))
-
-returns-2 : tie.Need-returns-2
-returns-2 c =
-    c .before .before .set-line .ensures ∙ ap (storeLine _ _ _) (sym (c .before .before .before .before .limits-of .ensures))
-
 pub work-line-spec : {M : Type 1} → statement M
 work-line-spec =
-    tie.close (tie.spec (λ c κs. search needs) (λ c κs. search needs) limits-of-requires (λ c κs. search needs) (λ c. search needs) returns
-    (λ c. search needs) returns-2)
+    tie.close (tie.spec (λ c κs. search needs) (λ c κs. search needs)
+    (λ c κs. (c .before .before .before .pre .2, sym (c .before .unsets .ensures) ∙ c .if1 .left)) (λ c κs. search needs)
+    (λ c. search needs)
+    (λ c. let tested = c .before .before .before .before in
+    c .before .before .unset-line .ensures
+    ∙ ap (storeLine _ _ _) (sym (line-unset _ _ (tested .before .unsets .ensures) (tested .if1 .taken))))
+    (λ c. search needs)
+    (λ c. c .before .before .set-line .ensures ∙ ap (storeLine _ _ _) (sym (c .before .before .before .before .limits-of .ensures))))

@@ -6,22 +6,6 @@ use Rattle.memory_working.proofs.LineFigures.{group-unset, group-casts,
 use Rattle.memory_working.proofs.settings.work_of_group.Statement.{statement}
 use Rattle.memory_working.proofs.settings.work_of_group.Tie as tie
 
-unset-of-group-requires : tie.Need-unset-of-group-requires
-unset-of-group-requires c κs = room (c .before .before .before .before .pre)
-
-cast-set-of-group : tie.Need-cast-set-of-group
-cast-set-of-group c =
-    let start = c .before .before .before .before in
-    group-casts (start .pre) (start .fits .lcc) (c .before .before .is-minus-one .ensures) (c .before .if1 .left) (start .fits .lvc) .0
-
-cast-set-of-group-2 : tie.Need-cast-set-of-group-2
-cast-set-of-group-2 c =
-    let start = c .before .before .before .before in
-    group-casts (start .pre) (start .fits .lcc) (c .before .before .is-minus-one .ensures) (c .before .if1 .left) (start .fits .lvc) .1
-
-set-of-group-requires : tie.Need-set-of-group-requires
-set-of-group-requires c κs = room (c .before .before .before .before .pre)
-
 returns : tie.Need-returns
 returns c =
     let tested = c .before .before .before .before in
@@ -39,5 +23,9 @@ returns-2 c =
 
 pub work-of-group-spec : {M : Type 1} → statement M
 work-of-group-spec =
-    tie.close (tie.spec (λ c κs. search needs) unset-of-group-requires cast-set-of-group cast-set-of-group-2 set-of-group-requires
-    (λ c. search needs) returns (λ c. search needs) returns-2)
+    tie.close (tie.spec (λ c κs. search needs) (λ c κs. room (c .before .before .before .before .pre))
+    (λ c. let start = c .before .before .before .before in
+    group-casts (start .pre) (start .fits .lcc) (c .before .before .is-minus-one .ensures) (c .before .if1 .left) (start .fits .lvc) .0)
+    (λ c. let start = c .before .before .before .before in
+    group-casts (start .pre) (start .fits .lcc) (c .before .before .is-minus-one .ensures) (c .before .if1 .left) (start .fits .lvc) .1)
+    (λ c κs. room (c .before .before .before .before .pre)) (λ c. search needs) returns (λ c. search needs) returns-2)

@@ -41,18 +41,6 @@ settled-at c =
     let placed = c .before .before .before .before .before .before in
     settled _ _ _ (enough placed) _ _ (raised (c .before .before)) (c .less .ensures ∙ rw (c .before .of3 .ensures))
 
-plus-requires : tie.Need-plus-requires
-plus-requires c κs = rw (c .before .of .ensures, c .of2 .ensures) (omega (arith, small (c .before .before .before)))
-
-less-requires : tie.Need-less-requires
-less-requires c κs =
-    let placed = c .before .before .before .before .before in
-    rw (raised (c .before), c .of3 .ensures) (omega (arith, small placed, enough placed))
-
-number-requires : tie.Need-number-requires
-number-requires c κs =
-    rw (settled-at c) (omega signed, omega (arith, small (c .before .before .before .before .before .before)))
-
 returns-2 : tie.Need-returns-2
 returns-2 c id orders orders′ held changes =
     let less = c .before in
@@ -66,9 +54,11 @@ recount-spec =
     (λ c. omega (arith, inside c, countable (c .before) .size)) (λ c. omega (arith, inside c, countable (c .before) .size))
     (λ c. inside (c .before)) (λ c κs. omega (arith, small (c .before)))
     (λ c κs. omega (arith, countable (c .before .before .before) .added))
-    plus-requires (λ c κs. omega (arith, small (c .before .before .before .before), enough (c .before .before .before .before)))
-    less-requires number-requires
-    (λ c.
-    let placed = c .before .before .before .before .before .before .before in
+    (λ c κs. rw (c .before .of .ensures, c .of2 .ensures) (omega (arith, small (c .before .before .before))))
+    (λ c κs. omega (arith, small (c .before .before .before .before), enough (c .before .before .before .before)))
+    (λ c κs. let placed = c .before .before .before .before .before in
+    rw (raised (c .before), c .of3 .ensures) (omega (arith, small placed, enough placed)))
+    (λ c κs. rw (settled-at c) (omega signed, omega (arith, small (c .before .before .before .before .before .before))))
+    (λ c. let placed = c .before .before .before .before .before .before .before in
     omega (arith, inside placed, countable (placed .before) .size))
     (λ c. inside (c .before .before .before .before .before .before .before)) (λ c. search needs) returns-2)
