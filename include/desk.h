@@ -7,7 +7,7 @@
  *
  * What the caller owes: no pointer is NULL, and each is valid for its length, a report for its figures; buffers passed to one
  * call do not overlap; nothing else writes them during the call; and the stack has room: desk_instrument_position takes
- * 13 KB, the others at most 10 KB, and what the linked memmove takes.
+ * 22 KB, the others at most 18 KB, and what the linked memmove takes.
  *
  * Link with libdesk.a (rt staticlib desk), for x86-64. It calls memcpy, memmove and memset, and no other function. The
  * prototypes below are compared with the proved functions by .ci/exported. */

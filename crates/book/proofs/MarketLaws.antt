@@ -1,5 +1,5 @@
 -- What is known of the markets of all kinds of desk.
-use Rattle.integers.specs.Basics.{ℕ, _≤_, _≡_, refl, ap, Bool, true, false, cond, eqb, arith}
+use Rattle.integers.specs.Basics.{_≢_, ne-eqb, ℕ, _≤_, _≡_, refl, ap, Bool, true, false, cond, eqb, arith}
 use Rattle.ledger.specs.Derivatives.{one}
 use Rattle.book.specs.Market.{derivatives, largestOf, marketOfKind}
 
@@ -25,3 +25,8 @@ market-of-one kind same = ap marketOfKind same
 pub largest-of-one : (kind : ℕ) → kind ≡ 1 → marketOfKind kind .largest ≡ 1000000000
 unfolding derivatives
 largest-of-one kind same = ap (λ k. marketOfKind k .largest) same
+
+-- of a kind that is no desk's no figure fits but 0
+pub largest-of-another : (kind : ℕ) → kind ≢ 1 → marketOfKind kind .largest ≡ 0
+unfolding marketOfKind largestOf
+largest-of-another kind other = rw (ne-eqb kind 1 other)

@@ -11,7 +11,7 @@ use limits::answer::Answer;
 use memory_judging::judge;
 use memory_working::work;
 
-// The cells hold B and V of all accounts, before the event and after it.
+// The cells hold B and V of all accounts, before the event and after it, or there are none.
 pub fn step(m: &mut [u8], cells: &mut [u64], e: Event) -> Answer
     requires { ⌜ SoundMemory (now m) × Sums (now cells) (openOrders (now m)) ⌝ }
     ensures answer { λ r. ⌜ numberOf r ≡ judged (now (m .entry)) e ⌝ }

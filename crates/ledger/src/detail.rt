@@ -1,4 +1,4 @@
-// An order but for its id, as the word that its record holds. What an event does to an order is done to the word, with nothing unpacked.
+// An order but for its id, as the word that its record holds. What an event does to an order is done to the word.
 ghost use mathlib.Core.Path.{_≡_};
 ghost use Prim.Native.Nat.{ℕ, _+_, _-_, _≤_, _<_};
 ghost use Rattle.ledger.specs.Orders.{remaining, filledBy, replacedTotal};

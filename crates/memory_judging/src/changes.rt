@@ -1,4 +1,4 @@
-// The judge of REPLACE, CANCEL and FILL. The cells hold B and V of all accounts.
+// The judge of REPLACE, CANCEL and FILL. The cells hold B and V of all accounts, or there are none.
 ghost use mathlib.Core.Path.{_≡_};
 ghost use mathlib.Core.Bool.{cond};
 ghost use Prim.Native.Nat.{ℕ, _<_};

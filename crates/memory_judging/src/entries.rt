@@ -1,4 +1,4 @@
-// The judge of NEW. The cells hold B and V of all accounts.
+// The judge of NEW. The cells hold B and V of all accounts, or there are none.
 ghost use mathlib.Core.Path.{_≡_};
 ghost use Rattle.limits.specs.Lines.{isSet};
 ghost use Rattle.limits.specs.Questions.{firstNo};

@@ -40,7 +40,7 @@ pub fn plain(answer: Answer) -> Verdict
     }
 }
 
-// The answer to an event of any kind. The cells hold B and V of all accounts.
+// The answer to an event of any kind. The cells hold B and V of all accounts, or there are none.
 pub fn judge(m: &[u8], cells: &[u64], e: Event) -> Verdict
     requires { ⌜ SoundMemory (now m) × Sums (now cells) (openOrders (now m)) ⌝ }
     ensures answer { λ r. ⌜ numberOf (r .answer) ≡ judged (now (m .entry)) e ⌝ }

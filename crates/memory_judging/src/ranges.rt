@@ -17,7 +17,7 @@ pub fn in_range(low: i64, high: i64, z: i64) -> bool
 }
 
 // From 0 to the largest figure?
-pub fn is_limit(largest: u64, z: i64) -> bool
+fn is_limit(largest: u64, z: i64) -> bool
     ensures { λ r. ⌜ r ≡ isLimit largest z ⌝ }
 {
     if z < 0 {
@@ -54,7 +54,7 @@ fn both_limits(largest: u64, x: i64, y: i64) -> bool
 }
 
 // The four figures of a line: limits, or −1 throughout?
-pub fn line_fits(largest: u64, f: Figures) -> bool
+fn line_fits(largest: u64, f: Figures) -> bool
     ensures { λ r. ⌜ r ≡ figuresOfLineFit largest f ⌝ }
 {
     if f.unsets() {

@@ -47,7 +47,8 @@ fn bits_of_all_offset(m: &[u8], k: usize, n: usize, offset: u64) -> u64
     all
 }
 
-// Is each of these signed words at most `half` either way, as far as the bits of all tell? With `half` added it is then below twice that.
+// Is each of these signed words at most `half` either way, as far as the bits of all tell? With `half` added each is then below twice that;
+// `half` itself is not, and is told one by one.
 pub fn all_small(m: &[u8], k: usize, n: usize, half: u64) -> bool
     requires { ⌜ ((k + n) * 8 ≤ length (now m)) × (half ≤ 1000000000) ⌝ }
     ensures { λ r. ⌜ (r ≡ true → (p : ℕ) → k ≤ p → p < k + n → natAbs (signedAt (now (m .entry)) p) ≤ half) ⌝ }

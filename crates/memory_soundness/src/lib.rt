@@ -19,7 +19,7 @@ use memory_layout::readers::is_long_enough;
 use memory_layout::readers::kind;
 use memory_layout::readers::market;
 
-// Does the memory hold a sound desk? One pass over each region.
+// Does the memory hold a sound desk? One pass over each region, and more where the quick tests do not tell.
 pub fn is_sound(m: &[u8]) -> bool
     ensures { λ r. ⌜ r ≡ soundDesk (now (m .entry)) ⌝ }
 {

@@ -1,4 +1,4 @@
-// Working an accepted event in a desk's memory, and in B and V of all accounts beside it. It cannot refuse: the judge has accepted the
+// Working an accepted event in a desk's memory, and in B and V of all accounts beside it, where they are kept. It cannot refuse: the judge has accepted the
 // event.
 pub mod orders;
 pub mod settings;

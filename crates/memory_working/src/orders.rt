@@ -1,5 +1,6 @@
 // Working NEW, REPLACE, CANCEL and FILL: `w` is the detail that the judge hands on, of the order of that id which joins at place `place` of
-// the open orders, or stands there. The cells hold B and V of all accounts, before the event and after it.
+// the open orders, or stands there. The cells hold B and V of all accounts, before the event and after it, or
+// there are none.
 ghost use mathlib.Core.Path.{_≡_};
 ghost use Prim.Native.Nat.{_≤_};
 ghost use lib.IntN.{pos, natAbs, _+ℤ_};
