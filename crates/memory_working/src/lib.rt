@@ -1,5 +1,5 @@
-// Working an accepted event in a desk's memory, and in B and V of all accounts beside it, where they are kept. It cannot refuse: the judge has accepted the
-// event.
+// Working an accepted event in a desk's memory, and in B and V of all accounts beside it, where they are kept. It cannot refuse: the judge
+// has accepted the event.
 pub mod orders;
 pub mod settings;
 pub mod sums;
