@@ -15,7 +15,7 @@ use Rattle.limits.specs.Asked.{limitsSet, sizeFits, movesInstrument, movesGroup
 use Rattle.book.specs.Market.{derivatives}
 use Rattle.book.specs.Decoding.{named, fieldsFit, wellFormed, eventOf, decode}
 use Rattle.book.specs.OpenOrders.{find, insert, change, kept}
-use Rattle.book.specs.Books.{emptyBook, unsets, lineOf, groupLineOf, setLine, setBlock, newOrder, changed, changedBalances, bookAfter}
+use Rattle.book.specs.Books.{emptyBook, unsets, lineOf, groupLineOf, setLine, setBlock, newOrder, orderAfter, changed, bookAfter}
 use Rattle.book.specs.States.{mark}
 use Rattle.book.specs.Table.{isEvent, accountKnown, itemKnown, figuresFit, notYetTrading, idOpen, quantityFits, entered, idFree}
 use Rattle.book.specs.Table.{placeFree, questionsBefore, limitQuestions, answer}
@@ -36,7 +36,7 @@ unfolding
     movesInstrument
     movesGroup within positionQuestions derivatives one named fieldsFit wellFormed eventOf decode find insert change kept emptyBook unsets
     lineOf
-    groupLineOf setLine setBlock newOrder changed changedBalances bookAfter mark isEvent accountKnown itemKnown
+    groupLineOf setLine setBlock newOrder orderAfter changed bookAfter mark isEvent accountKnown itemKnown
     figuresFit notYetTrading idOpen quantityFits entered
     idFree placeFree questionsBefore limitQuestions answer keep memoryAfter stateAfter lineSet lineOver asBytes bytesOf figureBytes
     eventBytes bitsOf instrumentIn groupIn rosterOfTables edgeTables starredEdges listingTables listingEvents longerTables

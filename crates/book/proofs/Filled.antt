@@ -12,7 +12,7 @@ use Rattle.ledger.proofs.Linear.{linear}
 use Rattle.book.specs.declared.OrderChange.the-variants.{Fill}
 use Rattle.book.specs.declared.Event.{Event}
 use Rattle.book.specs.OpenOrders.{find, change, kept}
-use Rattle.book.specs.Books.{changed, bookAfter}
+use Rattle.book.specs.Books.{orderAfter, changed, bookAfter}
 use Rattle.book.specs.States.{State, work}
 use Rattle.book.specs.Table.{answer}
 use Rattle.book.specs.Sound.{Sound}
@@ -141,7 +141,7 @@ pub record FilledTo (k k′ : State) : Type 0 where
 
 -- one accepted FILL is a filling of the order that it names, by its quantity
 pub fill-filling : (k : State) → Sound k → (id : ℕ) (n : ℤ) → answer k (fillOf id n) ≡ 0 → FilledTo k (work k (fillOf id n))
-unfolding bookAfter changed
+unfolding bookAfter changed orderAfter
 fill-filling k sound id n zero =
     let x = named-order k id (Fill n) (accepted k (fillOf id n) zero .passed) in
     let o = x .order in

@@ -12,7 +12,7 @@ use Rattle.book.specs.declared.OrderChange.the-variants.{Fill}
 use Rattle.book.specs.declared.Event.{Event}
 use Rattle.book.specs.declared.Event.the-variants.{Change}
 use Rattle.book.specs.OpenOrders.{find, change, kept}
-use Rattle.book.specs.Books.{changed, bookAfter}
+use Rattle.book.specs.Books.{orderAfter, changed, bookAfter}
 use Rattle.book.specs.States.{State, work}
 use Rattle.book.specs.Table.{isEvent, accountKnown, itemKnown, figuresFit, isQuantity, notYetTrading, idOpen, quantityFits, entered}
 use Rattle.book.specs.Table.{idFree, placeFree, questionsBefore, limitQuestions, answer}
@@ -68,7 +68,7 @@ pub record Worked (k : State) (front : List Order) {os : List Order} (f : Fillin
 -- the orders in front are done
 fills-behind : {os : List Order} (f : Filling os) (front : List Order) (k : State) → Sound k → k .book .orders ≡ front ++ os
     → Worked k front f
-unfolding balanceAfter leaves bookAfter changed remaining
+unfolding balanceAfter leaves bookAfter changed orderAfter remaining
 fills-behind none front k sound whole = record { state = k; fills = done; balances = λ a i. refl; orders = whole }
 fills-behind (fill {o} {orders} n most f) front k sound whole =
     by-cases (ℕ-discrete n 0)

@@ -1,17 +1,17 @@
 -- Ids of the open orders: they stay strictly ascending, so each names at most one order, and an order is found by its id
 -- wherever it stands.
 use Rattle.integers.specs.Basics.{ℕ, _≤_, _<_, _≡_, refl, ap, _⊎_, inl, inr, ⊎-elim, _↔_, _≢_, Bool, true, false, cond, List, [], _∷_, _++_}
-use Rattle.integers.specs.Basics.{List·Memᴰ, List·Memᴰ·head, List·Memᴰ·tail, List·Memᴰ·not-nil, some, natAbs, eqb, arith, eqb-true}
+use Rattle.integers.specs.Basics.{List·Memᴰ, List·Memᴰ·head, List·Memᴰ·tail, List·Memᴰ·not-nil, some, eqb, arith, eqb-true}
 use Rattle.integers.specs.Basics.{eqb-false, eq-eqb, ne-eqb}
 use mathlib.Core.List.{List·Memᴰ·cases-cons, List·Memᴰ·append-cases, Memᴰ·append-left, Memᴰ·append-right}
 use Rattle.ledger.specs.declared.order.Order.{Order}
-use Rattle.ledger.specs.Orders.{filledBy, replacedTotal, closes}
+use Rattle.ledger.specs.Orders.{closes}
 use Rattle.ledger.proofs.Ways.{by-number, by-test}
 use Rattle.book.specs.declared.OrderChange.{OrderChange}
-use Rattle.book.specs.declared.OrderChange.the-variants.{Replace, Cancel, Fill}
 use Rattle.book.specs.OpenOrders.{find, change, kept}
-use Rattle.book.specs.Books.{changed}
+use Rattle.book.specs.Books.{orderAfter, changed}
 use Rattle.book.specs.Sound.{Ascending, nothing, next}
+use Rattle.book.proofs.OrderChanges.{same-order}
 
 -- what a change makes of an order: nothing, or an order of the same id
 pub data Became (o : Order) : List Order → Type 0 where
@@ -19,10 +19,8 @@ pub data Became (o : Order) : List Order → Type 0 where
   became : {o′ : Order} → o′ .id ≡ o .id → Became o (o′ ∷ [])
 
 pub changed-became : (c : OrderChange) (o : Order) → Became o (changed c o)
-unfolding changed replacedTotal filledBy kept
-changed-became (Replace n) o = became refl
-changed-became Cancel o = gone
-changed-became (Fill n) o = by-test (closes (filledBy o (natAbs n))) (λ t. rw t gone) (λ t. rw t (became refl))
+unfolding changed kept
+changed-became c o = by-test (closes (orderAfter c o)) (λ t. rw t gone) (λ t. rw t (became (same-order c o .id)))
 
 -- ---- ascending
 pub ascending-from : {m n : ℕ} {os : List Order} → m ≤ n → Ascending n os → Ascending m os

@@ -6,6 +6,7 @@ pub mod Listing
 pub mod Puts
 pub mod SetAgainExamples
 pub mod Cuts
+pub mod OrderChanges
 pub mod Ids
 pub mod Accepted
 pub mod Tables

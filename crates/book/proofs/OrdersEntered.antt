@@ -1,20 +1,18 @@
 -- The event that N is: it enters or raises one order, of a marked account, and leaves every line as it is.
-use Rattle.integers.specs.Basics.{_<_, _≡_, refl, true, Option, none, some, ℤ, natAbs, ltb, ltb-true}
+use Rattle.integers.specs.Basics.{_≡_, refl, true, some}
 use Rattle.ledger.specs.declared.order.Order.{Order}
 use Rattle.ledger.specs.Orders.{replacedTotal}
-use Rattle.ledger.proofs.Ways.{by-test}
 use Rattle.limits.proofs.LineLaws.{none-some}
 use Rattle.book.specs.declared.Event.{Event}
-use Rattle.book.specs.declared.OrderChange.{OrderChange}
-use Rattle.book.specs.declared.OrderChange.the-variants.{Replace, Cancel, Fill}
 use Rattle.book.specs.declared.Event.the-variants.{Limit, Balance, Block, New, Change, Junk}
 use Rattle.book.specs.OpenOrders.{find}
 use Rattle.book.specs.Books.{newOrder, bookAfter}
 use Rattle.book.specs.States.{State, mark, work}
-use Rattle.book.specs.Table.{raised, entered}
+use Rattle.book.specs.Table.{entered}
 use Rattle.book.specs.Sound.{Sound}
 use Rattle.book.proofs.Cuts.{standing, standing-member}
 use Rattle.book.proofs.Tables.{at-here}
+use Rattle.book.proofs.OrderChanges.{raised-found}
 
 pub enters-lines : (k : State) (e : Event) (o : Order) → entered (k .book) e ≡ some o → work k e .book .linesOf ≡ k .book .linesOf
 unfolding entered bookAfter
@@ -24,16 +22,6 @@ enters-lines k (Block what z) o enters = refl
 enters-lines k (New s c i id n) o enters = refl
 enters-lines k (Change id c) o enters = refl
 enters-lines k Junk o enters = refl
-
--- the order raised is one that was found, at the new total, by a REPLACE
-pub raised-found : (c : OrderChange) (x : Option Order) (o : Order) → raised c x ≡ some o
-    → (n : ℤ) × (y : Order) × (c ≡ Replace n) × (x ≡ some y) × (y .total < natAbs n) × (o ≡ replacedTotal y (natAbs n))
-raised-found (Replace n) none o e = none-some o e
-raised-found (Replace n) (some y) o e =
-    by-test (ltb (y .total) (natAbs n))
-    (λ t. let same = rw t at e in (n, y, refl, refl, ltb-true (y .total) (natAbs n) t, cc)) (λ t. none-some o (rw t at e))
-raised-found Cancel x o e = none-some o e
-raised-found (Fill n) x o e = none-some o e
 
 pub enters-marked : (k : State) → Sound k → (e : Event) (o : Order) → entered (k .book) e ≡ some o
     → work k e .beside .trading (o .account) ≡ true

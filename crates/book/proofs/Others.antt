@@ -6,14 +6,14 @@ use Rattle.ledger.proofs.Amounts.{fill-apart}
 use Rattle.book.specs.declared.Event.{Event}
 use Rattle.book.specs.declared.Event.the-variants.{Limit, Balance, Block, New, Change, Junk}
 use Rattle.book.specs.OpenOrders.{find, change}
-use Rattle.book.specs.Books.{Book, at, setLine, newOrder, changed, bookAfter}
+use Rattle.book.specs.Books.{Book, at, setLine, newOrder, changed, filledIn, bookAfter}
 use Rattle.book.specs.States.{State, work}
 use Rattle.book.specs.Sound.{Ascending, Sound}
 use Rattle.book.proofs.Cuts.{insert-members}
 use Rattle.book.proofs.Ids.{find-member, change-exactly}
 use Rattle.book.proofs.Accepted.{Passed}
 use Rattle.book.proofs.Tables.{at-elsewhere}
-use Rattle.book.proofs.Shifts.{filledIn, change-balances}
+use Rattle.book.proofs.Shifts.{change-balances}
 use Rattle.book.proofs.Within.{named-order}
 use Rattle.book.proofs.SoundOrders.{changed-account}
 

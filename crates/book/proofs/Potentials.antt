@@ -1,23 +1,19 @@
--- What an accepted BALANCE, NEW, REPLACE, CANCEL or FILL does to each potential position; no other kind moves any.
+-- What an accepted BALANCE, NEW or change of an open order does to each potential position; no other kind moves any.
 use Rattle.integers.specs.Basics.{ℕ, _+_, _*_, _-_, _≤_, _≡_, refl, _∙_, ap, _≢_, List·Memᴰ, some, ℤ, pos, natAbs, _+ℤ_, _-ℤ_, _≤ℤ_, arith}
 use Rattle.ledger.specs.declared.order.Order.{Order}
 use Rattle.ledger.specs.declared.order.Side.{Side}
 use Rattle.ledger.specs.Orders.{remaining}
 use Rattle.ledger.specs.Positions.{Way, Scope, instrument, opposite, wayOf, potential, position}
 use Rattle.ledger.specs.Moves.{Moves}
-use Rattle.ledger.proofs.Changes.{shift-down, shift-unmoved, shift-of-another, shift-own, fill-lowers, fill-opposite, idle, fill-level}
-use Rattle.ledger.proofs.Changes.{shift-by}
-use Rattle.ledger.proofs.Ways.{other-side, side-back}
-use Rattle.ledger.proofs.Linear.{linear}
+use Rattle.ledger.proofs.Changes.{shift-unmoved, shift-of-another, shift-by, change-here, change-opposite, lowers, unmoved, idle}
 use Rattle.book.specs.declared.OrderChange.{OrderChange}
-use Rattle.book.specs.declared.OrderChange.the-variants.{Replace, Cancel, Fill}
 use Rattle.book.specs.declared.Event.the-variants.{Balance, New, Change}
 use Rattle.book.specs.OpenOrders.{find}
-use Rattle.book.specs.Books.{at, newOrder, changedBalances, bookAfter}
+use Rattle.book.specs.Books.{at, newOrder, orderAfter, filledIn, bookAfter}
 use Rattle.book.specs.States.{State, work}
 use Rattle.book.specs.Positions.{potentialOf}
 use Rattle.book.proofs.Tables.{at-here, at-elsewhere}
-use Rattle.book.proofs.Shifts.{remainsAfter, filledIn, new-shift, change-shift, change-balances}
+use Rattle.book.proofs.Shifts.{new-shift, change-shift, change-balances}
 
 module _ (k : State) (a : ℕ) (p : Scope) (w : Way) where
   -- BALANCE moves none of another account
@@ -50,15 +46,14 @@ module _ (k : State) (a : ℕ) (p : Scope) (w : Way) where
   module _ (id : ℕ) (o : Order) (found : find id (k .book .orders) ≡ some o) where
     -- a change that leaves no more to remain, with what it fills, than remained raises none: a REPLACE whose total does not rise, a
     -- CANCEL, a FILL
-    pub change-lowers : (c : OrderChange) → remainsAfter c o + filledIn c ≤ remaining o
+    pub change-lowers : (c : OrderChange) → remaining (orderAfter c o) + filledIn c ≤ remaining o
         → potentialOf (work k (Change id c)) a p w ≤ℤ potentialOf k a p w
-    unfolding bookAfter changedBalances
-    change-lowers (Replace n) down =
-        shift-down (change-shift k id o found (Replace n)) a (k .book .balanceOf a) (k .roster) p w (omega arith)
-    change-lowers Cancel down = shift-down (change-shift k id o found Cancel) a (k .book .balanceOf a) (k .roster) p w (omega arith)
-    change-lowers (Fill n) most =
-        fill-lowers (change-shift k id o found (Fill n)) (natAbs n) (omega arith) a (k .book .balanceOf a)
-        (work k (Change id (Fill n)) .book .balanceOf a) (change-balances k id o found (Fill n) a) (k .roster) p w
+    change-lowers c = lowers (change-shift k id o found c) (filledIn c) a _ _ (change-balances k id o found c a) (k .roster) p w
+
+    -- and none raises what the order's fills do not move
+    pub change-unmoved : (c : OrderChange) → ¬ ((o .account ≡ a) × Moves (k .roster) o p w)
+        → potentialOf (work k (Change id c)) a p w ≤ℤ potentialOf k a p w
+    change-unmoved c = unmoved (change-shift k id o found c) (filledIn c) a _ _ (change-balances k id o found c a) (k .roster) p w
 
 -- ---- by how much: the order's own instrument, on the side to which its fills move it
 module _ (k : State) where
@@ -81,32 +76,20 @@ module _ (k : State) where
     abbrev counts : ℕ → ℤ
     counts m = pos (k .market .unit o * m)
 
-    -- what remains of it before, against what remains after
-    pub replace-own : (n : ℤ) → ownAt (work k (Change id (Replace n))) (wayOf (o .side)) +ℤ counts (remaining o)
-        ≡ ownAt k (wayOf (o .side)) +ℤ counts (natAbs n - o .filled)
-    unfolding bookAfter changedBalances potential
-    replace-own n =
-        shift-own (change-shift k id o found (Replace n)) (o .account) (k .book .balanceOf (o .account)) refl (wayOf (o .side)) refl
-
-    pub cancel-own : ownAt (work k (Change id Cancel)) (wayOf (o .side)) +ℤ counts (remaining o) ≡ ownAt k (wayOf (o .side))
-    unfolding bookAfter changedBalances potential
-    cancel-own =
-        let S = k .book .balanceOf (o .account) in
-        omega (linear, shift-own (change-shift k id o found Cancel) (o .account) S refl (wayOf (o .side)) refl)
-
-    -- a FILL leaves that side as it was, and lowers the other by the quantity
-    pub fill-own : (n : ℤ) → natAbs n ≤ remaining o → ownAt (work k (Change id (Fill n))) (wayOf (o .side)) ≡ ownAt k (wayOf (o .side))
+    -- a change: on the side to which its fills move it, what remains and is filled takes the place of what remained. A REPLACE counts the
+    -- order at its new total less what is filled, a CANCEL takes what remained, a FILL leaves that side as it was
+    pub change-own : (c : OrderChange) → ownAt (work k (Change id c)) (wayOf (o .side)) +ℤ counts (remaining o)
+        ≡ ownAt k (wayOf (o .side)) +ℤ counts (remaining (orderAfter c o) + filledIn c)
     unfolding potential
-    fill-own n most =
+    change-own c =
         let a = o .account in
-        fill-level (change-shift k id o found (Fill n)) (natAbs n) (omega arith) a (k .book .balanceOf a)
-        (work k (Change id (Fill n)) .book .balanceOf a) (change-balances k id o found (Fill n) a) (o .instrument) (wayOf (o .side))
-        (λ h. other-side (wayOf (o .side)) (cc (side-back (o .side), h .0)))
+        change-here (change-shift k id o found c) (filledIn c) a _ _ (change-balances k id o found c a) (o .instrument) (wayOf (o .side))
+        refl refl refl
 
-    pub fill-other-side : (n : ℤ) → natAbs n ≤ remaining o → (v : Way) → wayOf (o .side) ≡ opposite v
-        → ownAt (work k (Change id (Fill n))) v ≡ ownAt k v -ℤ counts (natAbs n)
+    -- and the other side falls by what is filled
+    pub change-other-side : (c : OrderChange) (v : Way) → wayOf (o .side) ≡ opposite v
+        → ownAt (work k (Change id c)) v ≡ ownAt k v -ℤ counts (filledIn c)
     unfolding potential
-    fill-other-side n most v against =
+    change-other-side c v =
         let a = o .account in
-        fill-opposite (change-shift k id o found (Fill n)) (natAbs n) (omega arith) a (k .book .balanceOf a)
-        (work k (Change id (Fill n)) .book .balanceOf a) (change-balances k id o found (Fill n) a) refl v against
+        change-opposite (change-shift k id o found c) (filledIn c) a _ _ (change-balances k id o found c a) (o .instrument) v refl refl

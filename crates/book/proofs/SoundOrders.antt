@@ -1,24 +1,24 @@
 -- Open orders stay in range, at most 256, and marked: what each kind of accepted event leaves of them.
-use Rattle.integers.specs.Basics.{ℕ, _≤_, _<_, _≡_, refl, ap, ⊎-elim, _≢_, by-cases, true, List, List·Memᴰ, List·Memᴰ·not-nil, some, ℤ}
+use Rattle.integers.specs.Basics.{ℕ, _≤_, _≡_, refl, _∙_, ap, ⊎-elim, _≢_, by-cases, true, List, List·Memᴰ, List·Memᴰ·not-nil, some, ℤ}
 use Rattle.integers.specs.Basics.{natAbs, length, ℕ-discrete, arith, not-true, ltb-true}
 use mathlib.Core.List.{List·Memᴰ·eq-of-singleton}
 use Rattle.ledger.specs.declared.order.Order.{Order}
 use Rattle.ledger.specs.declared.order.Side.{Side}
-use Rattle.ledger.specs.Orders.{remaining, filledBy, replacedTotal}
+use Rattle.ledger.specs.Orders.{remaining}
 use Rattle.ledger.specs.Roster.{Roster, Numbered}
 use Rattle.limits.specs.Lines.{isSet}
 use Rattle.limits.proofs.LineLaws.{unset-none}
 use Rattle.book.specs.declared.Event.{Event}
 use Rattle.book.specs.declared.OrderChange.{OrderChange}
-use Rattle.book.specs.declared.OrderChange.the-variants.{Replace, Cancel, Fill}
 use Rattle.book.specs.declared.Event.the-variants.{Limit, Balance, Block, New, Change, Junk}
 use Rattle.book.specs.OpenOrders.{find, change, kept}
-use Rattle.book.specs.Books.{newOrder, changed, bookAfter}
+use Rattle.book.specs.Books.{newOrder, orderAfter, changed, bookAfter}
 use Rattle.book.specs.States.{State, mark, work}
 use Rattle.book.specs.Table.{accountKnown, itemKnown, figuresFit, changeInRange, fitsOrder, idFree, placeFree}
 use Rattle.book.specs.Sound.{OrderFits, Ascending, Sound}
 use Rattle.book.proofs.Cuts.{standing, insert-ascending, insert-members, insert-length, standing-member, change-members}
 use Rattle.book.proofs.Cuts.{change-length}
+use Rattle.book.proofs.OrderChanges.{same-order, after-fits}
 use Rattle.book.proofs.Ids.{Became, gone, became, changed-became, change-ascending}
 use Rattle.book.proofs.Accepted.{Passed}
 use Rattle.book.proofs.Tables.{at-each, between-numbered, quantity-numbered}
@@ -51,29 +51,27 @@ module _ (r : Roster) where
   new-fits s a i id n account item quantity =
       record { account = account; instrument = item; total = quantity; remains = omega arith }
 
-  pub replaced-fits : (o : Order) (n : ℕ) → OrderFits r o → Numbered 1000000 n → o .filled < n → OrderFits r (replacedTotal o n)
-  unfolding replacedTotal remaining
-  replaced-fits o n was quantity above =
-      record { account = was .account; instrument = was .instrument; total = quantity; remains = omega arith }
-
 -- what a change makes of an order that it fits is an order of the same account, and in range
 pub changed-account : (c : OrderChange) (o x : Order) → List·Memᴰ x (changed c o) → x .account ≡ o .account
-unfolding changed replacedTotal filledBy
-changed-account (Replace n) o x m = ap (λ y. y .account) (List·Memᴰ·eq-of-singleton m)
-changed-account Cancel o x m = absurd (List·Memᴰ·not-nil m)
-changed-account (Fill n) o x m = ap (λ y. y .account) (kept-member (filledBy o (natAbs n)) x m .0)
+unfolding changed
+changed-account c o x m =
+    ap (λ y. y .account) (kept-member (orderAfter c o) x m .0) ∙ same-order c o .account
 
 changed-fits : (r : Roster) (c : OrderChange) (o : Order) → OrderFits r o → changeInRange c ≡ true → fitsOrder c o ≡ true → (x : Order)
     → List·Memᴰ x (changed c o) → OrderFits r x
-unfolding changed filledBy
-changed-fits r (Replace n) o was figures fits x m =
-    rw (List·Memᴰ·eq-of-singleton m)
-    (replaced-fits r o (natAbs n) was (quantity-numbered n figures) (ltb-true (o .filled) (natAbs n) fits))
-changed-fits r Cancel o was figures fits x m = absurd (List·Memᴰ·not-nil m)
-changed-fits r (Fill n) o was figures fits x m =
-    let h = kept-member (filledBy o (natAbs n)) x m in
+unfolding changed remaining
+changed-fits r c o was figures fits x m =
+    let h = kept-member (orderAfter c o) x m in
     let rest = h .1 in
-    rw (h .0) (record { account = was .account; instrument = was .instrument; total = was .total; remains = omega arith })
+    let whole : o .filled ≤ o .total = omega (arith, was .remains) in
+    let after = after-fits c o whole (was .total .1) figures fits in
+    let same = same-order c o in
+    rw (h .0) (record {
+      account = rw (same .account) (was .account);
+      instrument = rw (same .instrument) (was .instrument);
+      total = omega arith;
+      remains = omega arith;
+    })
 
 -- ---- what each kind leaves
 module _ (k : State) (sound : Sound k) where

@@ -13,7 +13,7 @@ use Rattle.book.specs.OpenOrders.{find}
 use Rattle.book.specs.Books.{Book, newOrder}
 use Rattle.book.specs.States.{State, work}
 use Rattle.book.specs.Table.{entered, questionsBefore, positionsAfter, limitQuestions, questions}
-use Rattle.book.proofs.OrdersEntered.{raised-found}
+use Rattle.book.proofs.OrderChanges.{raised-found}
 
 -- 21 to 24 are asked where an order is entered or raised
 abbrev pub positionNumbers : Option Order → List ℕ

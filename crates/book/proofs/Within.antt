@@ -1,30 +1,25 @@
 -- An accepted event keeps a potential position within every bound that its limit is within. With the limit itself for the
 -- bound this is demand 3's second half; with the largest figure it is soundness.
-use Rattle.integers.specs.Basics.{ℕ, _+_, _≤_, _<_, _≡_, refl, _≢_, by-cases, true, none, some, ℤ, natAbs, _≤ℤ_, ltb, ℕ-discrete, arith}
-use Rattle.integers.specs.Basics.{leb-true, ltb-true, ltb-false, lt-ltb, le-ltb, signed}
+use Rattle.integers.specs.Basics.{ℕ, _≡_, refl, _∙_, _≢_, by-cases, true, Option, none, some, ℤ, _≤ℤ_, ℕ-discrete, signed}
 use Rattle.ledger.specs.declared.order.Order.{Order}
-use Rattle.ledger.specs.Orders.{remaining, replacedTotal}
 use Rattle.ledger.specs.Roster.{Roster}
 use Rattle.ledger.specs.Positions.{Way, Scope, instrument, group}
 use Rattle.ledger.specs.Moves.{Moves}
 use Rattle.ledger.proofs.Movement.{moves?}
-use Rattle.ledger.proofs.Ways.{by-test}
-use Rattle.ledger.proofs.Changes.{shift-unmoved, shift-of-another}
 use Rattle.limits.specs.Lines.{isSet}
 use Rattle.limits.proofs.LineLaws.{set-some}
 use Rattle.book.specs.declared.Event.{Event}
 use Rattle.book.specs.declared.OrderChange.{OrderChange}
-use Rattle.book.specs.declared.OrderChange.the-variants.{Replace, Cancel, Fill}
 use Rattle.book.specs.declared.Event.the-variants.{Limit, Balance, Block, New, Change, Junk}
 use Rattle.book.specs.OpenOrders.{find}
-use Rattle.book.specs.Books.{Book, newOrder, bookAfter, changedBalances}
+use Rattle.book.specs.Books.{Book, newOrder, bookAfter}
 use Rattle.book.specs.States.{State, work}
-use Rattle.book.specs.Table.{figuresFit, changeInRange, idOpen, fitsOrder, quantityFits, entered}
+use Rattle.book.specs.Table.{figuresFit, changeInRange, idOpen, fitsOrder, quantityFits, raised, entered}
 use Rattle.book.specs.Positions.{potentialOf}
 use Rattle.book.specs.Demand3.{limitOf}
 use Rattle.book.proofs.Accepted.{Passed, Accepted}
-use Rattle.book.proofs.Shifts.{remainsAfter, filledIn, change-shift}
-use Rattle.book.proofs.Potentials.{balance-other, new-unmoved, new-other, change-lowers}
+use Rattle.book.proofs.OrderChanges.{SameOrder, same-order, raised-after, not-raised}
+use Rattle.book.proofs.Potentials.{balance-other, new-unmoved, new-other, change-lowers, change-unmoved}
 
 -- the event sets no balance of account a
 abbrev pub SetsNoBalance : ℕ → Event → Type 0
@@ -57,23 +52,10 @@ named-order k id c ok =
       figures = ok .figures;
     }
 
--- a REPLACE whose total does not rise enters nothing, so questions 14 to 24 are not asked of it
-pub enters-nothing : (b : Book) (id : ℕ) (n : ℤ) (o : Order) → find id (b .orders) ≡ some o → natAbs n ≤ o .total
-    → entered b (Change id (Replace n)) ≡ none
-unfolding entered
-enters-nothing b id n o found down = rw (found, le-ltb (o .total) (natAbs n) down)
-
--- one whose total rises raises the order found to it
-pub enters-raised : (b : Book) (id : ℕ) (n : ℤ) (o : Order) → find id (b .orders) ≡ some o → o .total < natAbs n
-    → entered b (Change id (Replace n)) ≡ some (replacedTotal o (natAbs n))
-unfolding entered
-enters-raised b id n o found up = rw (found, lt-ltb (o .total) (natAbs n) up)
-
--- an order moves the same at another total
-pub replaced-moves : (r : Roster) (o : Order) (n : ℕ) (w : Way) (p : Scope) → Moves r o p w → Moves r (replacedTotal o n) p w
-unfolding replacedTotal
-replaced-moves r o n w (instrument i) m = m
-replaced-moves r o n w (group g) m = m
+-- the same order moves the same
+same-moves : (r : Roster) {o o′ : Order} → SameOrder o o′ → (w : Way) (p : Scope) → Moves r o p w → Moves r o′ p w
+same-moves r same w (instrument i) m = rw (same .instrument, same .side) m
+same-moves r same w (group g) m = rw (same .instrument, same .side) m
 
 module _ (k : State) (a : ℕ) (p : Scope) (w : Way) (bound : ℤ) where
   -- the order that it enters or raises: what that moves was checked
@@ -85,41 +67,29 @@ module _ (k : State) (a : ℕ) (p : Scope) (w : Way) (bound : ℤ) where
       let within : potentialOf (work k e) a p w ≤ℤ limitOf k a p w = rw (own, lines) at h in
       omega signed
 
-  -- a change that raises no total raises no position
-  lowered-within : (id : ℕ) (c : OrderChange) (o : Order) → find id (k .book .orders) ≡ some o
-      → remainsAfter c o + filledIn c ≤ remaining o → potentialOf k a p w ≤ℤ bound → potentialOf (work k (Change id c)) a p w ≤ℤ bound
-  lowered-within id c o found down h = omega (signed, change-lowers k a p w id o found c down)
-
-  -- a REPLACE that raises order o
-  raised-within : (id : ℕ) (n : ℤ) → Accepted k (Change id (Replace n)) → (o : Order) → find id (k .book .orders) ≡ some o
-      → o .total < natAbs n → limitOf k a p w ≤ℤ bound → potentialOf k a p w ≤ℤ bound
-      → potentialOf (work k (Change id (Replace n))) a p w ≤ℤ bound
-  unfolding bookAfter changedBalances replacedTotal
-  raised-within id n acc o found up le h =
-      let shift = change-shift k id o found (Replace n) in
-      by-cases (ℕ-discrete (o .account) a)
-      (λ own. by-cases (moves? (k .roster) o p w)
-      (λ m. entered-within (Change id (Replace n)) acc (replacedTotal o (natAbs n)) (enters-raised (k .book) id n o found up) refl le own
-      (replaced-moves (k .roster) o (natAbs n) w p m))
-      (λ m. rw (shift-unmoved shift a (k .book .balanceOf a) (k .roster) p w m) h))
-      (λ other. rw (shift-of-another shift a (k .book .balanceOf a) (k .roster) p w other) h)
-
+  -- a change: an order that it raises is checked as one that is entered; what it does not raise it lowers or leaves
   changed-within : (id : ℕ) (c : OrderChange) → Accepted k (Change id c) → limitOf k a p w ≤ℤ bound → potentialOf k a p w ≤ℤ bound
       → potentialOf (work k (Change id c)) a p w ≤ℤ bound
-  unfolding remaining
-  changed-within id (Replace n) acc le h =
-      let x = named-order k id (Replace n) (acc .passed) in
-      let o = x .order in
-      by-test (ltb (o .total) (natAbs n))
-      (λ up. raised-within id n acc o (x .found) (ltb-true (o .total) (natAbs n) up) le h)
-      (λ up. let down = ltb-false (o .total) (natAbs n) up in lowered-within id (Replace n) o (x .found) (omega arith) h)
-  changed-within id Cancel acc le h =
-      let x = named-order k id Cancel (acc .passed) in
-      lowered-within id Cancel (x .order) (x .found) (omega arith) h
-  changed-within id (Fill n) acc le h =
-      let x = named-order k id (Fill n) (acc .passed) in
-      let most = leb-true (natAbs n) (remaining (x .order)) (x .fits) in
-      lowered-within id (Fill n) (x .order) (x .found) (omega arith) h
+  unfolding entered bookAfter
+  changed-within id c acc le h = by (raised c (some o)) refl
+    where
+      x : Named k id c
+      x = named-order k id c (acc .passed)
+
+      o : Order
+      o = x .order
+
+      by : (y : Option Order) → raised c (some o) ≡ y → potentialOf (work k (Change id c)) a p w ≤ℤ bound
+      by none e = omega (signed, change-lowers k a p w id o (x .found) c (not-raised c o e (x .fits)))
+      by (some y) e =
+          let same : SameOrder o y = rw (raised-after c o y e) (same-order c o) in
+          let rest : ¬ ((o .account ≡ a) × Moves (k .roster) o p w) → potentialOf (work k (Change id c)) a p w ≤ℤ bound =
+          λ out. omega (signed, change-unmoved k a p w id o (x .found) c out) in
+          by-cases (ℕ-discrete (o .account) a)
+          (λ own. by-cases (moves? (k .roster) o p w)
+          (λ m. entered-within (Change id c) acc y (rw (x .found) e) refl le (same .account ∙ own) (same-moves (k .roster) same w p m))
+          (λ out. rest (λ both. out (both .1))))
+          (λ other. rest (λ both. other (both .0)))
 
   pub kept-within : (e : Event) → Accepted k e → SetsNoBalance a e → limitOf k a p w ≤ℤ bound → potentialOf k a p w ≤ℤ bound
       → potentialOf (work k e) a p w ≤ℤ bound

@@ -1,5 +1,5 @@
 -- Document 01, "The plain book", and what an accepted event does to it.
-use Rattle.integers.specs.Basics.{ℕ, Bool, false, not, _&&_, cond, List, [], _∷_, Option, none, some, ℤ, pos, negsuc, natAbs, _+ℤ_, eqb}
+use Rattle.integers.specs.Basics.{ℕ, Bool, false, not, _&&_, cond, List, [], Option, none, some, ℤ, pos, negsuc, natAbs, _+ℤ_, eqb}
 use Rattle.ledger.specs.declared.order.Order.{Order}
 use Rattle.ledger.specs.declared.order.Side.{Side}
 use Rattle.ledger.specs.Orders.{filledBy, replacedTotal}
@@ -85,30 +85,34 @@ unfoldable pub newOrder : Side → ℕ → ℕ → ℕ → ℤ → Order
 newOrder s a i id n =
     record { id = id; account = a; instrument = i; side = s; total = natAbs n; filled = 0 }
 
--- what a change makes of an order: REPLACE: it gets the new total. CANCEL: it leaves. FILL: its filled rises by the quantity; at remaining
--- 0 it leaves
-unfoldable pub changed : OrderChange → Order → List Order
-changed (Replace n) o = replacedTotal o (natAbs n) ∷ []
-changed Cancel o = []
-changed (Fill n) o = kept (filledBy o (natAbs n))
+-- what an order becomes by a change. REPLACE: it gets the new total. CANCEL: no more of it than is filled. FILL: its filled rises by the
+-- quantity
+unfoldable pub orderAfter : OrderChange → Order → Order
+orderAfter (Replace n) o = replacedTotal o (natAbs n)
+orderAfter Cancel o = replacedTotal o (o .filled)
+orderAfter (Fill n) o = filledBy o (natAbs n)
 
--- balances after a fill of the order found, by n
+-- what stays open of it: at remaining 0 it leaves
+unfoldable pub changed : OrderChange → Order → List Order
+changed c o = kept (orderAfter c o)
+
+-- how many contracts a change fills
+abbrev pub filledIn : OrderChange → ℕ
+filledIn (Replace n) = 0
+filledIn Cancel = 0
+filledIn (Fill n) = natAbs n
+
+-- balances after n contracts of the order found are filled
 abbrev pub filledBalances : (Order → ℕ) → Option Order → ℕ → (ℕ → ℕ → ℤ) → ℕ → ℕ → ℤ
 filledBalances unit none n s a i = s a i
 filledBalances unit (some o) n s a i = s a i +ℤ fillMoves unit a i o n
-
--- balances after a change of the order found: a FILL moves S, nothing else does
-unfoldable pub changedBalances : (Order → ℕ) → OrderChange → Option Order → (ℕ → ℕ → ℤ) → ℕ → ℕ → ℤ
-changedBalances unit (Replace n) x s = s
-changedBalances unit Cancel x s = s
-changedBalances unit (Fill n) x s = filledBalances unit x (natAbs n) s
 
 abbrev pub withOrders : Book → List Order → Book
 withOrders b os = record { balanceOf = b .balanceOf; linesOf = b .linesOf; blocks = b .blocks; orders = os }
 
 -- the book after an accepted event.
 -- LIMIT, BALANCE, BLOCK: the figures become that line, S or block. NEW: an order joins. REPLACE, CANCEL, FILL: the order with that id
--- becomes what the change makes of it, and S moves by a FILL
+-- becomes what the change makes of it, and S moves by what is filled
 unfoldable pub bookAfter : (Order → ℕ) → Book → Event → Book
 bookAfter unit b (Limit a l) =
     record { balanceOf = b .balanceOf; linesOf = at a (setLine l (b .linesOf a)) (b .linesOf); blocks = b .blocks; orders = b .orders }
@@ -119,7 +123,7 @@ bookAfter unit b (Block what z) =
 bookAfter unit b (New s a i id n) = withOrders b (insert (newOrder s a i id n) (b .orders))
 bookAfter unit b (Change id c) =
     record {
-      balanceOf = changedBalances unit c (find id (b .orders)) (b .balanceOf);
+      balanceOf = filledBalances unit (find id (b .orders)) (filledIn c) (b .balanceOf);
       linesOf = b .linesOf;
       blocks = b .blocks;
       orders = change id (changed c) (b .orders);

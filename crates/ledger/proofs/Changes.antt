@@ -1,21 +1,21 @@
--- What each change of the open orders, and a fill, does to every potential position. A change is a shift: what counts of
--- one order goes from m contracts to m′, and nothing else changes. Entering, cancelling, replacing and filling are shifts.
+-- What each change of the open orders does to every potential position. A change is a shift, what counts of one order goes from m
+-- contracts to m′ and nothing else changes, and it may fill some of that order, by which the balances move.
 use Rattle.integers.specs.Basics.{ℕ, _+_, _*_, _-_, _≤_, _≡_, refl, _∙_, sym, ap, _≢_, List, List·Memᴰ, ℤ, pos, natAbs, _+ℤ_, _-ℤ_, _*ℤ_}
-use Rattle.integers.specs.Basics.{_≤ℤ_, arith, negation-parts, sum-parts, difference-parts}
+use Rattle.integers.specs.Basics.{_≤ℤ_, by-cases, ℕ-discrete, sum-parts, difference-parts}
 use lib.IntN.{+ℤ-comm, +ℤ-assoc}
 use Rattle.ledger.specs.declared.order.Order.{Order}
 use Rattle.ledger.specs.declared.order.Side.{Side}
-use Rattle.ledger.specs.Orders.{remaining, filledBy, replacedTotal}
+use Rattle.ledger.specs.Orders.{remaining, replacedTotal}
 use Rattle.ledger.specs.Roster.{Roster, Numbered, groupOfInstrument}
 use Rattle.ledger.specs.Positions.{Way, Scope, opposite, toward, wayOf, sideTo, openOn, ofInstrument, potential, position, group}
 use Rattle.ledger.specs.Positions.{wayBy}
 use Rattle.ledger.specs.Fillings.{fillMoves}
 use Rattle.ledger.specs.Moves.{Moves}
-use Rattle.ledger.proofs.Ways.{side-back}
+use Rattle.ledger.proofs.Ways.{side-back, other-side}
 use Rattle.ledger.proofs.Amounts.{amount, Stands, Alike, amount-alike, amount-here, amount-apart, amount-none, amount-nonneg}
 use Rattle.ledger.proofs.Amounts.{amount-sum, amount-≤}
 use Rattle.ledger.proofs.Sums.{Joined, Changed, Permuted, open-joined, open-changed, open-nowhere, open-sum, sum-permuted, adds}
-use Rattle.ledger.proofs.Scopes.{wayTo, potential-≤, potential-same, potential-weighted, position-weighted, weighted-same}
+use Rattle.ledger.proofs.Scopes.{wayTo, Bears, potential-≤, potential-same, potential-weighted, position-weighted, weighted-same}
 use Rattle.ledger.proofs.Scopes.{weight-way, group-moved}
 use Rattle.ledger.proofs.Movement.{fill-moves, unmoved-amount}
 use Rattle.ledger.proofs.Linear.{linear}
@@ -36,9 +36,9 @@ module _ (unit : Order → ℕ) (o : Order) (orders orders′ : List Order) wher
         sums = λ s a i. omega (linear, open-joined unit s a i o orders orders′ joined, amount-none unit s a i o);
       }
 
-  pub changed : {o′ : Order} → Alike unit o o′ → Changed o o′ orders orders′
+  pub becomes : {o′ : Order} → Alike unit o o′ → Changed o o′ orders orders′
       → CountChanged unit o (remaining o) (remaining o′) orders orders′
-  changed {o′} alike change =
+  becomes {o′} alike change =
       record {
         sums = λ s a i.
             open-changed unit s a i o o′ orders orders′ change
@@ -49,15 +49,7 @@ module _ (unit : Order → ℕ) (o : Order) (orders orders′ : List Order) wher
   pub replaced : (n : ℕ) → unit (replacedTotal o n) ≡ unit o → Changed o (replacedTotal o n) orders orders′
       → CountChanged unit o (o .total - o .filled) (n - o .filled) orders orders′
   unfolding replacedTotal remaining
-  replaced n same = changed (record { same-account = refl; same-instrument = refl; same-side = refl; same-unit = same })
-
-  pub filled : (n : ℕ) → unit (filledBy o n) ≡ unit o → Changed o (filledBy o n) orders orders′
-      → CountChanged unit o (remaining o) (remaining o - n) orders orders′
-  unfolding filledBy remaining
-  filled n same change =
-      let rest : o .total - (o .filled + n) ≡ o .total - o .filled - n = omega arith in
-      rw rest at (changed {o′ = filledBy o n} (record { same-account = refl; same-instrument = refl; same-side = refl; same-unit = same })
-      change)
+  replaced n same = becomes (record { same-account = refl; same-instrument = refl; same-side = refl; same-unit = same })
 
 pub left : (unit : Order → ℕ) (o : Order) (orders orders′ : List Order) → Joined o orders′ orders
     → CountChanged unit o (remaining o) 0 orders orders′
@@ -113,11 +105,6 @@ module _ {unit : Order → ℕ} {o : Order} {m m′ : ℕ} {orders orders′ : L
         (shift-by (wayBy K w) (cc (weight-way K (wayOf (o .side)))))
 
   module _ (r : Roster) (p : Scope) (w : Way) where
-    pub shift-up : m ≤ m′ → potential unit r orders a S p w ≤ℤ potential unit r orders′ a S p w
-    shift-up l =
-        potential-≤ unit r a orders orders′ S S p w
-        (λ i _. let v = wayTo r p w i in omega (linear, shift-instrument i v, amount-≤ unit (sideTo v) a i o m m′ l))
-
     pub shift-unmoved : ¬ Moves r o p w → potential unit r orders′ a S p w ≡ potential unit r orders a S p w
     shift-unmoved out =
         potential-same unit r a orders′ orders S S p w
@@ -126,49 +113,102 @@ module _ {unit : Order → ℕ} {o : Order} {m m′ : ℕ} {orders orders′ : L
     pub shift-of-another : o .account ≢ a → potential unit r orders′ a S p w ≡ potential unit r orders a S p w
     shift-of-another other = potential-same unit r a orders′ orders S S p w (λ i _. shift-apart i (wayTo r p w i) (λ h. other (h .1)))
 
--- a shift to fewer is a shift to more, read backwards
-pub shift-down : {unit : Order → ℕ} {o : Order} {m m′ : ℕ} {orders orders′ : List Order} → CountChanged unit o m m′ orders orders′
-    → (a : ℕ) (S : ℕ → ℤ) (r : Roster) (p : Scope) (w : Way) → m′ ≤ m → potential unit r orders′ a S p w ≤ℤ potential unit r orders a S p w
-shift-down shift = shift-up (shifted-back shift)
-
--- ---- a fill by n: the order counts for n less, and the balances move
-module _ {unit : Order → ℕ} {o : Order} {m m′ : ℕ} {orders orders′ : List Order} (shift : CountChanged unit o m m′ orders orders′) (n : ℕ)
-    (by-n : m ≡ m′ + n) (a : ℕ) (S S′ : ℕ → ℤ) (moved : (i : ℕ) → S′ i ≡ S i +ℤ fillMoves unit a i o n) where
-  -- a side falls by what is filled on the other, so the side that the order moves stays as it was
-  pub fill-instrument : (i : ℕ) (v : Way) → ofInstrument unit orders′ a S′ i v ≡ ofInstrument unit orders a S i v -ℤ amount unit
-      (sideTo (opposite v)) a i o n
+-- ---- a change that fills n of the order: what counts of it goes from m contracts to m′, and the balances move
+module _ {unit : Order → ℕ} {o : Order} {m m′ : ℕ} {orders orders′ : List Order} (shift : CountChanged unit o m m′ orders orders′) (n a : ℕ)
+    (S S′ : ℕ → ℤ) (moved : (i : ℕ) → S′ i ≡ S i +ℤ fillMoves unit a i o n) where
+  -- a side falls by what is filled on the other, and goes from what counted on it to what counts and is filled
+  change-instrument : (i : ℕ) (v : Way)
+      → ofInstrument unit orders′ a S′ i v +ℤ amount unit (sideTo (opposite v)) a i o n +ℤ amount unit (sideTo v) a i o m
+      ≡ ofInstrument unit orders a S i v +ℤ amount unit (sideTo v) a i o (m′ + n)
   unfolding ofInstrument
-  fill-instrument i v =
+  change-instrument i v =
       let here = amount unit (sideTo v) a i o n in
       let there = amount unit (sideTo (opposite v)) a i o n in
+      let open′ = openOn unit orders′ (sideTo v) a i in
       omega (
         linear,
         ap (toward v) (moved i),
         fill-moves unit a S o n i v,
         shift .sums (sideTo v) a i,
-        ap (amount unit (sideTo v) a i o) by-n,
         amount-sum unit (sideTo v) a i o m′ n,
         difference-parts here there,
-        negation-parts there,
+        sum-parts (toward v (S′ i)) open′,
+        sum-parts (toward v (S′ i) +ℤ open′) there,
         sum-parts (toward v (S i)) (openOn unit orders (sideTo v) a i),
       )
 
-  pub fill-level : (i : ℕ) (v : Way) → ¬ Stands (sideTo (opposite v)) a i o
-      → ofInstrument unit orders′ a S′ i v ≡ ofInstrument unit orders a S i v
-  fill-level i v out = omega (linear, fill-instrument i v, amount-apart unit (sideTo (opposite v)) a i o n out)
+  -- read with what counted before, what counts and is filled, and what is filled on the other side
+  module _ (i : ℕ) (v : Way) where
+    abbrev of′ : ℤ
+    of′ = ofInstrument unit orders′ a S′ i v
 
-  pub fill-opposite : o .account ≡ a → (v : Way) → wayOf (o .side) ≡ opposite v
-      → ofInstrument unit orders′ a S′ (o .instrument) v ≡ ofInstrument unit orders a S (o .instrument) v -ℤ pos (unit o * n)
-  fill-opposite own v against =
-      fill-instrument (o .instrument) v
-      ∙ ap (λ x. ofInstrument unit orders a S (o .instrument) v -ℤ x)
-      (amount-here unit (sideTo (opposite v)) a (o .instrument) o n (cc (side-back (o .side)), own, refl))
+    abbrev of : ℤ
+    of = ofInstrument unit orders a S i v
+
+    abbrev there : ℤ
+    there = amount unit (sideTo (opposite v)) a i o n
+
+    -- where no more counts and is filled than counted, a side does not rise
+    instrument-lowers : amount unit (sideTo v) a i o (m′ + n) ≤ℤ amount unit (sideTo v) a i o m → of′ ≤ℤ of
+    instrument-lowers fewer =
+        omega (linear, change-instrument i v, amount-nonneg unit (sideTo (opposite v)) a i o n, sum-parts of′ there)
+
+    -- an instrument where the order does not stand stays as it was
+    pub change-apart : ¬ ((o .account ≡ a) × (o .instrument ≡ i)) → of′ ≡ of
+    change-apart out =
+        omega (
+          linear,
+          change-instrument i v,
+          amount-apart unit (sideTo v) a i o m (λ h. out (h .1, h .2)),
+          amount-apart unit (sideTo v) a i o (m′ + n) (λ h. out (h .1, h .2)),
+          amount-apart unit (sideTo (opposite v)) a i o n (λ h. out (h .1, h .2)),
+          sum-parts of′ there,
+        )
+
+    module _ (own : o .account ≡ a) (same : o .instrument ≡ i) where
+      -- there, on the side to which its fills move, what counts and is filled takes the place of what counted
+      pub change-here : wayOf (o .side) ≡ v → of′ +ℤ pos (unit o * m) ≡ of +ℤ pos (unit o * (m′ + n))
+      change-here way =
+          let stands : Stands (sideTo v) a i o = (cc (side-back (o .side)), own, same) in
+          omega (
+            linear,
+            change-instrument i v,
+            amount-here unit (sideTo v) a i o m stands,
+            amount-here unit (sideTo v) a i o (m′ + n) stands,
+            amount-apart unit (sideTo (opposite v)) a i o n (λ h. other-side v (cc (side-back (o .side), h .0))),
+            sum-parts of′ there,
+          )
+
+      -- and the opposite side falls by what is filled
+      pub change-opposite : wayOf (o .side) ≡ opposite v → of′ ≡ of -ℤ pos (unit o * n)
+      change-opposite against =
+          let apart : ¬ Stands (sideTo v) a i o = λ h. other-side v (cc (side-back (o .side), h .0)) in
+          omega (
+            linear,
+            change-instrument i v,
+            amount-apart unit (sideTo v) a i o m apart,
+            amount-apart unit (sideTo v) a i o (m′ + n) apart,
+            amount-here unit (sideTo (opposite v)) a i o n (cc (side-back (o .side)), own, same),
+            sum-parts of′ there,
+          )
 
   module _ (r : Roster) (p : Scope) (w : Way) where
-    pub fill-lowers : potential unit r orders′ a S′ p w ≤ℤ potential unit r orders a S p w
-    fill-lowers =
+    -- where no more counts and is filled than counted, no position rises
+    pub lowers : m′ + n ≤ m → potential unit r orders′ a S′ p w ≤ℤ potential unit r orders a S p w
+    lowers fewer =
         potential-≤ unit r a orders′ orders S′ S p w
-        (λ i _. let v = wayTo r p w i in omega (linear, fill-instrument i v, amount-nonneg unit (sideTo (opposite v)) a i o n))
+        (λ i _. let v = wayTo r p w i in instrument-lowers i v (amount-≤ unit (sideTo v) a i o (m′ + n) m fewer))
+
+    -- nor does one that the order's fills do not move
+    pub unmoved : ¬ ((o .account ≡ a) × Moves r o p w) → potential unit r orders′ a S′ p w ≤ℤ potential unit r orders a S p w
+    unmoved out =
+        potential-≤ unit r a orders′ orders S′ S p w
+        (λ i b. instrument-lowers i (wayTo r p w i) (omega (linear, none m i b, none (m′ + n) i b)))
+      where
+        none : (x i : ℕ) → Bears r p i → amount unit (sideTo (wayTo r p w i)) a i o x ≡ pos 0
+        none x i b =
+            by-cases (ℕ-discrete (o .account) a) (λ own. unmoved-amount r o w p unit a x i (λ h. out (own, h)) b)
+            (λ other. amount-apart unit (sideTo (wayTo r p w i)) a i o x (λ h. other (h .1)))
 
 -- ---- other changes
 module _ (unit : Order → ℕ) (r : Roster) (a : ℕ) (orders : List Order) (S : ℕ → ℤ) (p : Scope) (w : Way) where

@@ -47,6 +47,12 @@ impl Detail {
         remaining_of(self.0)
     }
 
+    pub fn filled(self) -> u64
+        ensures { λ r. ⌜ ((id : ℕ) → r ≡ orderOf id (self .0) .filled) ⌝ }
+    {
+        filled_of(self.0)
+    }
+
     // With `n` more contracts filled, of those that remain.
     pub fn filled_by(self, n: u64) -> Detail
         requires { ⌜ (n ≤ detailRemaining (self .0)) × (detailFilled (self .0) + n < 134217728) ⌝ }

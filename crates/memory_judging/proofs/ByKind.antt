@@ -1,28 +1,28 @@
 -- The table kind by kind: the first no of the questions that a kind is asked, by their tests.
-use Rattle.integers.specs.Basics.{ℕ, _≡_, refl, _∙_, Bool, true, false, not, cond, List, none, some, ℤ, pos, negℤ, natAbs, ltb}
+use Rattle.integers.specs.Basics.{ℕ, _≡_, refl, _∙_, Bool, true, false, not, cond, List, Option, none, some, ℤ, pos, negℤ}
 use Rattle.ledger.specs.declared.order.Order.{Order}
 use Rattle.ledger.specs.declared.order.Side.{Side}
-use Rattle.ledger.proofs.Ways.{by-test}
 use Rattle.limits.specs.Questions.{firstNo}
 use Rattle.limits.specs.Numbers.{sizeQuestions}
 use Rattle.book.specs.declared.LimitLine.{LimitLine}
 use Rattle.book.specs.declared.Blocked.{Blocked}
 use Rattle.book.specs.declared.Event.{Event}
 use Rattle.book.specs.declared.OrderChange.{OrderChange}
-use Rattle.book.specs.declared.OrderChange.the-variants.{Replace, Cancel, Fill}
 use Rattle.book.specs.declared.Event.the-variants.{Limit, Balance, Block, New, Change, Junk}
 use Rattle.book.specs.Decoding.{between}
 use Rattle.book.specs.OpenOrders.{find}
-use Rattle.book.specs.Books.{newOrder, changed, changedBalances, bookAfter}
+use Rattle.book.specs.Books.{newOrder, bookAfter}
 use Rattle.book.specs.Names.{limitedItem, blockedAccount, blockedItem}
 use Rattle.book.specs.Table.{isEvent, accountKnown, isListed, itemKnown, betweenℤ, lineFits, changeInRange, isQuantity, figuresFit}
-use Rattle.book.specs.Table.{notYetTrading, idOpen, quantityFits, whereSome, entered, idFree, placeFree, questionsBefore, limitQuestions}
-use Rattle.book.specs.Table.{answer}
+use Rattle.book.specs.Table.{notYetTrading, idOpen, quantityFits, whereSome, raised, entered, idFree, placeFree, questionsBefore}
+use Rattle.book.specs.Table.{limitQuestions, answer}
 use Rattle.book.proofs.Cuts.{standing}
-use Rattle.memory_layout.specs.View.{marketOf, rosterOf, openOrders, bookOf, tradingOf}
+use Rattle.book.proofs.OrderChanges.{raised-fills}
+use Rattle.book.proofs.Shifts.{none-filled}
+use Rattle.memory_layout.specs.View.{marketOf, rosterOf, balancesOf, openOrders, bookOf, tradingOf}
 use Rattle.memory_layout.specs.Judged.{judged}
 use Rattle.memory_judging.specs.OrderQuestions.{admission, withinLimits}
-use Rattle.memory_judging.specs.QuestionsLeft.{newFrom18, newFrom13, raisedFrom14, replaceFrom12, changeFrom12}
+use Rattle.memory_judging.specs.QuestionsLeft.{newFrom18, newFrom13, changeFrom12}
 
 module _ (m : List ℕ) where
   -- the first no of an event, but for a change of an open order, of which three lemmas below tell
@@ -96,9 +96,17 @@ module _ (m : List ℕ) where
   pub change-found : (id : ℕ) (c : OrderChange) (o : Order) → changeInRange c ≡ true → find id (openOrders m) ≡ some o
       → judged m (Change id c) ≡ firstNo (changeFrom12 m o c)
   unfolding judged answer questionsBefore limitQuestions isEvent accountKnown itemKnown figuresFit notYetTrading idOpen
-      quantityFits entered idFree placeFree firstNo bookOf bookAfter changed changedBalances changeFrom12 replaceFrom12 raisedFrom14
-      admission withinLimits sizeQuestions
-  change-found id (Replace n) o d e =
-      by-test (ltb (o .total) (natAbs n)) (λ h. rw (d, e, h, ← standing id (openOrders m) o e .named)) (λ h. rw (d, e, h))
-  change-found id Cancel o d e = rw e
-  change-found id (Fill n) o d e = rw (d, e)
+      quantityFits entered idFree placeFree firstNo bookOf bookAfter changeFrom12 admission withinLimits sizeQuestions
+  change-found id c o d e = by (raised c (some o)) refl
+    where
+      by : (x : Option Order) → raised c (some o) ≡ x → judged m (Change id c) ≡ firstNo (changeFrom12 m o c)
+      by none h = rw (d, e, h)
+      by (some y) h =
+          rw (
+            d,
+            e,
+            h,
+            raised-fills c o y h,
+            none-filled (marketOf m .unit) (some o) (balancesOf m) (y .account),
+            ← standing id (openOrders m) o e .named,
+          )

@@ -11,7 +11,13 @@ pub tests-handed-on : (test : ℤ → ℤ → Bool) {t : Bool} (x y : ℤ) → S
     → t ≡ test (toZ w64 (ofZ w64 x)) (toZ w64 (ofZ w64 y)) → t ≡ test x y
 tests-handed-on test x y f g e = test-handed-on (λ z. test z y) f (test-handed-on (test (toZ w64 (ofZ w64 x))) g e)
 
--- it is not negative, and fits
+-- a quantity is a whole number
+pub whole-quantity : (n : ℤ) → isQuantity n ≡ true → n ≡ pos (natAbs n)
+whole-quantity n e =
+    let h = betweenℤ-both (pos 1) (pos 1000000) n e in
+    omega (signed, magnitude-parts n)
+
+-- so that it fits
 pub quantity-cast : (n : ℤ) → SFits w64 n → isQuantity n ≡ true → T (nonNeg (toZ w64 (ofZ w64 n))) × Fits w64 (natAbs (toZ w64 (ofZ w64 n)))
 quantity-cast n f e =
     let h = betweenℤ-both (pos 1) (pos 1000000) n e in

@@ -15,12 +15,12 @@ use Rattle.limits.specs.Bounds.{EventBounds, InForce, OfGroup}
 use Rattle.limits.proofs.Agreement.{same-in-force, same-questions}
 use Rattle.limits.proofs.Answers.{both-true, zero-pass, append-passed, append-refused}
 use Rattle.book.specs.Market.{marketOfKind}
-use Rattle.memory_layout.specs.View.{rosterPart, rosterOf, balancesPart, linesOf, balancesOf, openOrders}
+use Rattle.memory_layout.specs.View.{marketOf, rosterPart, rosterOf, balancesPart, linesOf, balancesOf, openOrders}
 use Rattle.memory_layout.specs.Readable.{HoldsLine, HoldsGroupLine}
 use Rattle.memory_layout.proofs.RosterRead.{instruments-same, contract-same}
 use Rattle.memory_soundness.proofs.Bounded.{sound-readable, unfilled-small, group-bounds}
 use Rattle.memory_soundness.proofs.Agreement.{group-same, words-agree}
-use Rattle.memory_judging.specs.OrderQuestions.{withinLimits, OnRoster, Sizable}
+use Rattle.memory_judging.specs.OrderQuestions.{withinLimits, PositionsAnswered, OnRoster, Sizable}
 
 -- the line in force and the group line are set
 pub both-set : (m : List ℕ) (o : Order) → limitsSet (rosterOf m) (linesOf m (o .account)) o ≡ true
@@ -35,7 +35,7 @@ module _ (m : List ℕ) (after : List Order) (o : Order) where
   sizes = firstNo (sizeQuestions one (rosterOf m) (linesOf m (o .account)) o)
 
   abbrev positions : ℕ
-  positions = firstNo (positionQuestions one (rosterOf m) (linesOf m (o .account)) after (balancesOf m (o .account)) o)
+  positions = firstNo (positionQuestions (marketOf m .unit) (rosterOf m) (linesOf m (o .account)) after (balancesOf m (o .account)) o)
 
   pub size-fits : sizes ≡ 0 → firstNo (withinLimits m after o) ≡ positions
   unfolding withinLimits marketOfKind sizeQuestions
@@ -82,8 +82,8 @@ module _ (m : List ℕ) (row : List ℕ) (o : Order) (z : ℤ) (n : ℕ) (s : Si
       Gathered row 0 before (o .account) →
       InForce r ls o line → OfGroup r ls o groupLine → Raised k o before after →
       x ≡ firstNo (positionQuestions one r ls after (balancesIn (balancesPart m (o .account))) o)) →
-      (after : List Order) → Raised n o (openOrders m) after →
-      x ≡ firstNo (positionQuestions one (rosterOf m) (linesOf m (o .account)) after (balancesOf m (o .account)) o)
+      PositionsAnswered m o n x
+  unfolding marketOfKind
   by-parts x line groupLine holds-line holds-group answer after raised =
       let on = s .on in
       let ls = linesOf m (o .account) in

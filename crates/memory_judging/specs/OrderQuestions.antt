@@ -2,11 +2,12 @@
 use Rattle.integers.specs.Basics.{ℕ, _≤_, _≡_, true, not, List, [], _∷_, _++_}
 use Rattle.ledger.specs.declared.order.Order.{Order}
 use Rattle.ledger.specs.Roster.{Numbered, groupOfInstrument}
-use Rattle.limits.specs.Questions.{Question}
+use Rattle.limits.specs.Questions.{Question, firstNo}
+use Rattle.limits.specs.Raised.{Raised}
 use Rattle.limits.specs.Asked.{limitsSet, positionQuestions}
 use Rattle.limits.specs.Numbers.{sizeQuestions}
 use Rattle.book.specs.Table.{q}
-use Rattle.memory_layout.specs.View.{marketOf, rosterOf, linesOf, blocksOf, balancesOf}
+use Rattle.memory_layout.specs.View.{marketOf, rosterOf, linesOf, blocksOf, balancesOf, openOrders}
 use Rattle.memory_soundness.specs.SoundMemory.{SoundMemory}
 
 -- 14 to 17: account, instrument and group unblocked, limits set
@@ -23,6 +24,13 @@ unfoldable pub withinLimits : List ℕ → List Order → Order → List Questio
 withinLimits m after o =
     sizeQuestions (marketOf m .unit) (rosterOf m) (linesOf m (o .account)) o
     ++ positionQuestions (marketOf m .unit) (rosterOf m) (linesOf m (o .account)) after (balancesOf m (o .account)) o
+
+-- `answer` is that to 21 to 24 with `added` contracts more of the order open, whichever list the open orders then are
+abbrev pub PositionsAnswered : List ℕ → Order → ℕ → ℕ → Type 0
+PositionsAnswered m o added answer =
+    (after : List Order)
+    → Raised added o (openOrders m) after
+    → answer ≡ firstNo (positionQuestions (marketOf m .unit) (rosterOf m) (linesOf m (o .account)) after (balancesOf m (o .account)) o)
 
 -- an order of the roster, asked about at a sound desk
 pub record OnRoster (m : List ℕ) (o : Order) : Type 0 where

@@ -1,13 +1,12 @@
 -- The questions that are left of a NEW and of a change of an open order, once those before them are answered yes.
-use Rattle.integers.specs.Basics.{ℕ, _≤_, _≡_, true, not, cond, List, [], _∷_, _++_, some, natAbs, leb, ltb, length}
+use Rattle.integers.specs.Basics.{ℕ, _≤_, _≡_, true, not, List, [], _∷_, _++_, Option, none, some, ltb, length}
 use Rattle.ledger.specs.declared.order.Order.{Order}
-use Rattle.ledger.specs.Orders.{remaining, replacedTotal}
 use Rattle.limits.specs.Lines.{isSet}
 use Rattle.limits.specs.Questions.{Question}
 use Rattle.book.specs.declared.OrderChange.{OrderChange}
-use Rattle.book.specs.declared.OrderChange.the-variants.{Replace, Cancel, Fill}
 use Rattle.book.specs.OpenOrders.{find, insert, change}
-use Rattle.book.specs.Table.{q, changeInRange}
+use Rattle.book.specs.Books.{changed}
+use Rattle.book.specs.Table.{q, changeInRange, fitsOrder, raised}
 use Rattle.memory_layout.specs.View.{openOrders}
 use Rattle.memory_soundness.specs.SoundMemory.{SoundMemory}
 use Rattle.memory_judging.specs.OrderQuestions.{admission, withinLimits, OnRoster}
@@ -25,26 +24,13 @@ pub record Fresh (m : List ℕ) (o : Order) : Type 0 where
   pub small : o .total ≤ 1000000
   pub unfilled : o .filled ≡ 0
 
--- ---- of a REPLACE of order o to a new total: 14 to 24 where it rises, and 12 to 24
-unfoldable pub raisedFrom14 : List ℕ → Order → ℕ → List Question
-raisedFrom14 m o total =
-    admission m (replacedTotal o total)
-    ++ withinLimits m (change (o .id) (λ x. replacedTotal x total ∷ []) (openOrders m)) (replacedTotal o total)
+-- ---- of a change of order o: 14 to 24 of the order that it raises, and 12 to 24
+abbrev pub raisedFrom14 : List ℕ → ℕ → OrderChange → Option Order → List Question
+raisedFrom14 m id c none = []
+raisedFrom14 m id c (some o) = admission m o ++ withinLimits m (change id (changed c) (openOrders m)) o
 
-unfoldable pub replaceFrom12 : List ℕ → Order → ℕ → List Question
-replaceFrom12 m o total = q 12 (ltb (o .filled) total) ∷ cond (ltb (o .total) total) (raisedFrom14 m o total) []
-
--- its order is open, at a sound desk
-pub record Replaceable (m : List ℕ) (o : Order) (total : ℕ) : Type 0 where
-  pub held : SoundMemory m
-  pub found : find (o .id) (openOrders m) ≡ some o
-  pub small : total ≤ 1000000
-
--- ---- of a change of order o: 12 to 24
 unfoldable pub changeFrom12 : List ℕ → Order → OrderChange → List Question
-changeFrom12 m o (Replace n) = replaceFrom12 m o (natAbs n)
-changeFrom12 m o Cancel = []
-changeFrom12 m o (Fill n) = q 12 (leb (natAbs n) (remaining o)) ∷ []
+changeFrom12 m o c = q 12 (fitsOrder c o) ∷ raisedFrom14 m (o .id) c (raised c (some o))
 
 -- its order is open, at a sound desk, and its figure in range
 pub record Changeable (m : List ℕ) (o : Order) (c : OrderChange) : Type 0 where

@@ -1,18 +1,21 @@
 // The judge of REPLACE, CANCEL and FILL. The cells hold B and V of all accounts, or there are none.
 ghost use mathlib.Core.Path.{_≡_};
 ghost use mathlib.Core.Bool.{cond};
+ghost use mathlib.Core.Option.{some};
 ghost use Prim.Native.Nat.{ℕ, _<_};
 ghost use lib.Dec.{leb};
-ghost use Rattle.ledger.specs.Orders.{remaining};
+ghost use lib.IntN.{pos};
+ghost use Rattle.ledger.specs.Orders.{remaining, replacedTotal};
 ghost use Rattle.ledger.specs.Records.{orderOf};
 ghost use Rattle.limits.specs.Questions.{firstNo};
 ghost use Rattle.limits.specs.Answers.{numberOf};
+ghost use Rattle.book.specs.declared.OrderChange.the-variants.{Replace};
 ghost use Rattle.book.specs.declared.Event.the-variants.{Change};
 ghost use Rattle.memory_layout.specs.View.{openOrders};
 ghost use Rattle.memory_layout.specs.Judged.{judged, NamedAt};
 ghost use Rattle.memory_soundness.specs.Cells.{Sums};
 ghost use Rattle.memory_soundness.specs.SoundMemory.{SoundMemory};
-ghost use Rattle.memory_judging.specs.QuestionsLeft.{raisedFrom14, replaceFrom12, Replaceable, changeFrom12, Changeable};
+ghost use Rattle.memory_judging.specs.QuestionsLeft.{raisedFrom14, changeFrom12, Changeable};
 use crate::Verdict;
 use crate::order_checks::admitted;
 use crate::order_checks::underlying_of;
@@ -29,8 +32,9 @@ use memory_layout::search::find_order;
 
 // 14 to 24 of a REPLACE that raises order `o` to `total`.
 fn raised(m: &[u8], cells: &[u64], o: Order, total: u64) -> Answer
-    requires { ⌜ Replaceable (now m) o total × (o .total < total) × Sums (now cells) (openOrders (now m)) ⌝ }
-    ensures { λ r. ⌜ numberOf r ≡ firstNo (raisedFrom14 (now (m .entry)) o total) ⌝ }
+    requires { ⌜ Changeable (now m) o (Replace (pos total)) × (o .filled < total) × (o .total < total)
+        × Sums (now cells) (openOrders (now m)) ⌝ }
+    ensures { λ r. ⌜ numberOf r ≡ firstNo (raisedFrom14 (now (m .entry)) (o .id) (Replace (pos total)) (some (replacedTotal o total))) ⌝ }
 {
     let before = o.total;
     let after = o.replaced_total(total);
@@ -43,8 +47,8 @@ fn raised(m: &[u8], cells: &[u64], o: Order, total: u64) -> Answer
 
 // 12 to 24 of a REPLACE of order `o`.
 fn replaced(m: &[u8], cells: &[u64], o: Order, total: u64) -> Answer
-    requires { ⌜ Replaceable (now m) o total × Sums (now cells) (openOrders (now m)) ⌝ }
-    ensures { λ r. ⌜ numberOf r ≡ firstNo (replaceFrom12 (now (m .entry)) o total) ⌝ }
+    requires { ⌜ Changeable (now m) o (Replace (pos total)) × Sums (now cells) (openOrders (now m)) ⌝ }
+    ensures { λ r. ⌜ numberOf r ≡ firstNo (changeFrom12 (now (m .entry)) o (Replace (pos total))) ⌝ }
 {
     if total <= o.filled {
         return Answer::QuantityOutOfRange;

@@ -6,18 +6,16 @@ ghost use Prim.Native.Nat.{_≤_};
 ghost use lib.ListN.{length};
 ghost use lib.IntN.{pos, natAbs};
 ghost use Rattle.ledger.specs.declared.order.Order.{Order};
-ghost use Rattle.ledger.specs.Derivatives.{one};
 ghost use Rattle.limits.specs.Lines.{lineInForce};
 ghost use Rattle.limits.specs.Raised.{Raised};
 ghost use Rattle.limits.specs.Questions.{firstNo};
-ghost use Rattle.limits.specs.Asked.{positionQuestions};
 ghost use Rattle.limits.specs.Numbers.{existenceQuestions};
 ghost use Rattle.limits.specs.Answers.{numberOf};
 ghost use Rattle.positions.specs.Gathered.{Gathered};
-ghost use Rattle.memory_layout.specs.View.{rosterOf, linesOf, balancesOf, openOrders};
+ghost use Rattle.memory_layout.specs.View.{rosterOf, linesOf, openOrders};
 ghost use Rattle.memory_layout.specs.Readable.{HoldsLine};
 ghost use Rattle.memory_soundness.specs.Cells.{Sums};
-ghost use Rattle.memory_judging.specs.OrderQuestions.{admission, withinLimits, OnRoster, Sizable};
+ghost use Rattle.memory_judging.specs.OrderQuestions.{admission, withinLimits, PositionsAnswered, OnRoster, Sizable};
 ghost use Rattle.memory_judging.specs.OrderFields.{Under, cellsOf};
 use ledger::order::Order;
 use ledger::units::Contracts;
@@ -113,13 +111,7 @@ fn positions_by(
         × Under (now m) o under
         × HoldsLine (now line) (lineInForce (rosterOf (now m)) (linesOf (now m) (o .account)) (o .instrument))
         ⌝ }
-    ensures { λ r. ⌜
-        ((after : List Order) →
-        Raised (natAbs (added .0)) o (openOrders (now (m .entry))) after →
-        numberOf r
-        ≡ firstNo (positionQuestions one (rosterOf (now (m .entry))) (linesOf (now (m .entry)) (o .account)) after
-        (balancesOf (now (m .entry)) (o .account)) o))
-        ⌝ }
+    ensures { λ r. ⌜ PositionsAnswered (now (m .entry)) o (natAbs (added .0)) (numberOf r) ⌝ }
 {
     let account = o.account as usize;
     let of_account = balances(m, account);
@@ -152,13 +144,7 @@ fn positions_of(
         × Under (now m) o under
         × HoldsLine (now line) (lineInForce (rosterOf (now m)) (linesOf (now m) (o .account)) (o .instrument))
         ⌝ }
-    ensures { λ r. ⌜
-        ((after : List Order) →
-        Raised (natAbs (added .0)) o (openOrders (now (m .entry))) after →
-        numberOf r
-        ≡ firstNo (positionQuestions one (rosterOf (now (m .entry))) (linesOf (now (m .entry)) (o .account)) after
-        (balancesOf (now (m .entry)) (o .account)) o))
-        ⌝ }
+    ensures { λ r. ⌜ PositionsAnswered (now (m .entry)) o (natAbs (added .0)) (numberOf r) ⌝ }
 {
     if cells.len() == 0 {
         let mut own = [0u64; 65];

@@ -1,9 +1,8 @@
 -- What an acceptance tells of the event, kind by kind: its numbers are on the roster, its figures in range, its order open.
-use Rattle.integers.specs.Basics.{ℕ, _≤_, _<_, _≡_, true, List, some, ℤ, pos, negℤ, natAbs, _≤ℤ_, length, arith, leb-true, ltb-true, signed}
+use Rattle.integers.specs.Basics.{ℕ, _≤_, _<_, _≡_, true, List, some, ℤ, pos, negℤ, natAbs, _≤ℤ_, length, arith, ltb-true, signed}
 use Rattle.integers.specs.Magnitude.{within-in}
 use Rattle.words.specs.Words.{wordAt}
 use Rattle.ledger.specs.declared.order.Order.{Order}
-use Rattle.ledger.specs.Orders.{remaining}
 use Rattle.ledger.specs.Roster.{Roster, Numbered}
 use Rattle.book.specs.declared.LimitLine.{LimitLine}
 use Rattle.book.specs.declared.LimitLine.the-variants.{Own, Default, OfGroup}
@@ -11,7 +10,6 @@ use Rattle.book.specs.declared.Blocked.{Blocked}
 use Rattle.book.specs.declared.Blocked.the-variants.{Account, Instrument, GroupFor}
 use Rattle.book.specs.declared.Event.{Event}
 use Rattle.book.specs.declared.OrderChange.{OrderChange}
-use Rattle.book.specs.declared.OrderChange.the-variants.{Replace, Cancel, Fill}
 use Rattle.book.specs.declared.Event.the-variants.{Limit, Balance, Block, New, Change, Junk}
 use Rattle.book.specs.OpenOrders.{find}
 use Rattle.book.specs.Sound.{OrderFits, Sound}
@@ -53,9 +51,7 @@ abbrev pub Quantity : ℤ → Type 0
 Quantity n = (pos 0 ≤ℤ n) × Numbered 1000000 (natAbs n)
 
 abbrev pub ChangeFacts : OrderChange → Order → Type 0
-ChangeFacts (Replace n) o = Quantity n × (o .filled < natAbs n)
-ChangeFacts Cancel o = Unit
-ChangeFacts (Fill n) o = Quantity n × (natAbs n ≤ remaining o)
+ChangeFacts c o = (changeInRange c ≡ true) × (fitsOrder c o ≡ true)
 
 abbrev pub AcceptedFacts : List ℕ → Event → Type 0
 AcceptedFacts m (Limit a l) =
@@ -103,15 +99,10 @@ block-told r (Account a) h k = between-numbered (r .accounts) a h
 block-told r (Instrument i) h k = between-numbered (r .instruments) i k
 block-told r (GroupFor a g) h k = (between-numbered (r .accounts) a h, between-numbered (r .groups) g k)
 
-quantity : (n : ℤ) → isQuantity n ≡ true → Quantity n
+pub quantity : (n : ℤ) → isQuantity n ≡ true → Quantity n
 quantity n e =
     let h = betweenℤ-both (pos 1) (pos 1000000) n e in
     (omega signed, quantity-numbered n e)
-
-change-told : (c : OrderChange) (o : Order) → changeInRange c ≡ true → fitsOrder c o ≡ true → ChangeFacts c o
-change-told (Replace n) o figures fits = (quantity n figures, ltb-true (o .filled) (natAbs n) fits)
-change-told Cancel o figures fits = tt
-change-told (Fill n) o figures fits = (quantity n figures, leb-true (natAbs n) (remaining o) fits)
 
 module _ (m : List ℕ) (held : SoundMemory m) where
   change-facts : (id : ℕ) (c : OrderChange) → judged m (Change id c) ≡ 0 → AcceptedFacts m (Change id c)
@@ -120,7 +111,7 @@ module _ (m : List ℕ) (held : SoundMemory m) where
       let x = named-order (view m) id c (passed m (Change id c) passes) in
       let o = x .order in (
         record { order = o; found = x .found; fits = sound m held .fits o (standing-member (standing id (openOrders m) o (x .found))) },
-        change-told c o (x .figures) (x .fits),
+        (x .figures, x .fits),
       )
 
   pub accepted-facts : (e : Event) → judged m e ≡ 0 → AcceptedFacts m e

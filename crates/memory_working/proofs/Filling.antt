@@ -1,30 +1,29 @@
--- FILL: the order found moves its account's balance, and the numbers that the code adds fit.
+-- What is filled moves the balance of the order's account and instrument, and the numbers that the code adds fit.
 use Rattle.integers.specs.Basics.{ℕ, _*_, _≤_, _≡_, refl, _∙_, sym, ap, List, ℤ, pos, negℤ, natAbs, _+ℤ_, length, w64, SFits, toZ, ofZ}
 use Rattle.integers.specs.Basics.{toZ-ofZ, arith}
 use Rattle.integers.specs.Magnitude.{sized, magnitude-sum, magnitude-negation}
 use Rattle.ledger.specs.declared.order.Side.{Side}
 use Rattle.ledger.specs.declared.order.Side.the-variants.{Buy, Sell}
 use Rattle.ledger.specs.declared.order.Order.{Order}
-use Rattle.ledger.specs.Orders.{remaining}
 use Rattle.ledger.specs.Records.{orderOf}
 use Rattle.ledger.specs.Roster.{Numbered}
 use Rattle.ledger.specs.Positions.{toward, wayOf}
 use Rattle.ledger.specs.Fillings.{fillMoves}
 use Rattle.ledger.specs.Derivatives.{one}
-use Rattle.ledger.proofs.Details.{remaining-of}
 use Rattle.ledger.proofs.Amounts.{fill-here}
-use Rattle.book.specs.declared.OrderChange.the-variants.{Fill}
+use Rattle.book.specs.declared.OrderChange.{OrderChange}
 use Rattle.book.specs.declared.Event.the-variants.{Change}
 use Rattle.book.specs.Market.{marketOfKind}
-use Rattle.book.specs.Sound.{OrderFits}
+use Rattle.book.specs.Books.{filledIn}
+use Rattle.book.proofs.OrderChanges.{after-filled}
 use Rattle.memory_layout.specs.Layout.{memoryBytes}
 use Rattle.memory_layout.specs.View.{marketOf, rosterOf, balancesOf}
 use Rattle.memory_layout.specs.FieldStores.{storeBalance}
 use Rattle.memory_layout.specs.Readable.{Readable}
 use Rattle.memory_soundness.proofs.Bounded.{sound-readable, balance-small}
-use Rattle.memory_working.specs.Working.{Ready, Stands, recordsChanged, worked}
-use Rattle.memory_working.proofs.AcceptedFacts.{ChangeFacts, laid, records}
-use Rattle.memory_working.proofs.Changing.{change-facts, changed-memory}
+use Rattle.memory_working.specs.Working.{Ready, recordsChanged, worked}
+use Rattle.memory_working.proofs.AcceptedFacts.{laid}
+use Rattle.memory_working.proofs.Changing.{change-facts, after-in, changed-memory}
 
 -- the balance after a fill fits a word
 moved-fits : (s : Side) (b n z : ℤ) → natAbs b ≤ 1000000000 → natAbs n ≤ 1000000 → z ≡ b +ℤ toward (wayOf s) n → SFits w64 z
@@ -39,55 +38,36 @@ fill-one m o n =
     let e : 1 * n ≡ n = omega arith in
     rw e at (fill-here one (o .account) (o .instrument) o n refl refl)
 
-module _ {m : List ℕ} {id w p n : ℕ} (ready : Ready m (Change id (Fill (pos n))) p w) where
+module _ {m : List ℕ} {id w p : ℕ} {c : OrderChange} (ready : Ready m (Change id c) p w) where
   abbrev o : Order
   o = orderOf id w
 
-  facts : OrderFits (rosterOf m) o × ChangeFacts (Fill (pos n)) o
-  facts = change-facts ready
+  pub filled-small : filledIn c ≤ 1000000
+  filled-small = omega (arith, after-in ready, after-filled c o)
 
-  pub fill-most : n ≤ remaining o
-  fill-most = facts .1 .1
-
-  pub fill-quantity : n ≤ 1000000
-  fill-quantity = facts .1 .0 .1 .1
-
-  pub fill-room : (memoryBytes ≤ length m) × (o .account ≤ 16) × (o .instrument ≤ 32)
-  fill-room =
+  pub balance-room : (memoryBytes ≤ length m) × (o .account ≤ 16) × (o .instrument ≤ 32)
+  balance-room =
       let bounds = laid m (ready .held) .sized in
-      let a = facts .0 .account in
-      let i = facts .0 .instrument in
+      let fits = change-facts ready .0 in
       omega (arith, ready .held .long)
 
-  pub fill-stands : Stands m p id w n
-  unfolding orderOf
-  fill-stands =
-      record {
-        records = records m (ready .held);
-        found = ready .named .0;
-        loaded = ready .named .1;
-        most = omega (arith, fill-most, remaining-of id w);
-        small = let rest = facts .0 .remains in omega (arith, facts .0 .total .1, facts .1 .0 .1 .1);
-      }
-
-  pub fill-readable : Readable m × Numbered (rosterOf m .accounts) (o .account) × Numbered (rosterOf m .instruments) (o .instrument)
-  fill-readable = (sound-readable m (ready .held), facts .0 .account, facts .0 .instrument)
+  pub balance-readable : Readable m × Numbered (rosterOf m .accounts) (o .account) × Numbered (rosterOf m .instruments) (o .instrument)
+  balance-readable = let fits = change-facts ready .0 in (sound-readable m (ready .held), fits .account, fits .instrument)
 
   -- s is the balance that was read
   module _ {s : ℤ} (fits-s : SFits w64 s) (read : s ≡ balancesOf m (o .account) (o .instrument)) where
     same-balance : toZ w64 (ofZ w64 s) ≡ balancesOf m (o .account) (o .instrument)
     same-balance = toZ-ofZ w64 s fits-s ∙ read
 
-    pub fill-small : (natAbs (toZ w64 (ofZ w64 s)) ≤ 1000000000) × (n ≤ 1000000)
-    fill-small =
-        (rw same-balance (balance-small m (ready .held) (o .account) (o .instrument)), omega (arith, facts .1 .0 .1 .1))
+    pub read-small : natAbs (toZ w64 (ofZ w64 s)) ≤ 1000000000
+    read-small = rw same-balance (balance-small m (ready .held) (o .account) (o .instrument))
 
-    pub fill-worked : {z : ℤ} {l x : List ℕ} → l ≡ recordsChanged m id (Fill (pos n)) o
-        → z ≡ toZ w64 (ofZ w64 s) +ℤ toward (wayOf (o .side)) (pos n)
-        → x ≡ storeBalance l (o .account) (o .instrument) (toZ w64 (ofZ w64 z)) → x ≡ worked m (Change id (Fill (pos n)))
-    fill-worked {z} {l} stored after put =
-        let fits-z = moved-fits (o .side) (toZ w64 (ofZ w64 s)) (pos n) z (fill-small .0) (fill-small .1) after in
+    pub change-worked : {z : ℤ} {l x : List ℕ} → l ≡ recordsChanged m id c o
+        → z ≡ toZ w64 (ofZ w64 s) +ℤ toward (wayOf (o .side)) (pos (filledIn c))
+        → x ≡ storeBalance l (o .account) (o .instrument) (toZ w64 (ofZ w64 z)) → x ≡ worked m (Change id c)
+    change-worked {z} {l} stored after put =
+        let fits-z = moved-fits (o .side) (toZ w64 (ofZ w64 s)) (pos (filledIn c)) z read-small filled-small after in
         let moved : toZ w64 (ofZ w64 z) ≡ balancesOf m (o .account) (o .instrument)
-        +ℤ fillMoves (marketOf m .unit) (o .account) (o .instrument) o n =
-        toZ-ofZ w64 z fits-z ∙ after ∙ rw (same-balance, fill-one m o n) refl in
+        +ℤ fillMoves (marketOf m .unit) (o .account) (o .instrument) o (filledIn c) =
+        toZ-ofZ w64 z fits-z ∙ after ∙ rw (same-balance, fill-one m o (filledIn c)) refl in
         put ∙ rw (stored, moved) (sym (changed-memory ready))

@@ -1,10 +1,7 @@
 -- An event taken apart and handed on: each kind's function gets the event by another name, with its figure as the machine holds it.
-use Rattle.integers.specs.Basics.{ℕ, _≡_, _∙_, sym, ap, List, ℤ, pos, natAbs, _≤ℤ_, w64, SFits, toZ, ofZ, toZ-ofZ, signed, magnitude-parts}
-use Rattle.book.specs.declared.OrderChange.{OrderChange}
-use Rattle.book.specs.declared.Event.the-variants.{Change}
+use Rattle.integers.specs.Basics.{ℕ, _≡_, _∙_, sym, ap, List, ℤ, w64, SFits, toZ, ofZ, toZ-ofZ}
 use Rattle.book.specs.declared.Event.{Event}
 use Rattle.memory_working.specs.Working.{AcceptedEvent, Ready}
-use Rattle.memory_working.proofs.Rooms.{Cast, cast-fits}
 
 pub handed : (f : ℤ → Event) {e : Event} {z : ℤ} → e ≡ f z → SFits w64 z → e ≡ f (toZ w64 (ofZ w64 z))
 handed f {z = z} same fits = same ∙ ap f (sym (toZ-ofZ w64 z fits))
@@ -17,16 +14,3 @@ accepted-as {m} {e} same ready =
 
 pub ready-as : {m : List ℕ} {e e′ : Event} {p w : ℕ} → e ≡ e′ → Ready m e p w → Ready m e′ p w
 ready-as same ready = rw same at ready
-
--- a change by its figure, which is no less than 0, as a whole number
-abbrev pub Whole : (ℤ → OrderChange) → OrderChange → ℤ → Type 0
-Whole k c z = Cast z × (c ≡ k (pos (natAbs (toZ w64 (ofZ w64 z)))))
-
-pub whole : (k : ℤ → OrderChange) {c : OrderChange} {z : ℤ} → c ≡ k z → SFits w64 z → pos 0 ≤ℤ z → Whole k c z
-whole k {z = z} same fits low =
-    let n : z ≡ pos (natAbs (toZ w64 (ofZ w64 z))) = rw (toZ-ofZ w64 z fits) (omega (signed, magnitude-parts z)) in
-    (cast-fits z fits low, same ∙ ap k n)
-
--- a change by another name
-pub change-as : {m : List ℕ} {id p w : ℕ} {c c′ : OrderChange} → c ≡ c′ → Ready m (Change id c) p w → Ready m (Change id c′) p w
-change-as {id = id} same = ready-as (ap (Change id) same)

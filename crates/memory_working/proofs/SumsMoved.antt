@@ -11,13 +11,12 @@ use Rattle.ledger.proofs.Amounts.{amount}
 use Rattle.ledger.proofs.Changes.{CountChanged}
 use Rattle.limits.specs.Raised.{addedOn}
 use Rattle.book.specs.declared.OrderChange.{OrderChange}
-use Rattle.book.specs.declared.OrderChange.the-variants.{Replace, Cancel, Fill}
 use Rattle.book.specs.declared.Event.{Event}
 use Rattle.book.specs.declared.Event.the-variants.{Limit, Balance, Block, New, Change, Junk}
 use Rattle.book.specs.Market.{marketOfKind}
-use Rattle.book.specs.Books.{bookAfter}
+use Rattle.book.specs.Books.{orderAfter, bookAfter}
 use Rattle.book.specs.States.{State, work}
-use Rattle.book.proofs.Shifts.{remainsAfter, new-shift, change-shift}
+use Rattle.book.proofs.Shifts.{new-shift, change-shift}
 use Rattle.memory_layout.specs.View.{marketOf, openOrders, bookOf, view}
 use Rattle.memory_layout.specs.Judged.{judged}
 use Rattle.memory_soundness.specs.Cells.{Sums}
@@ -27,9 +26,9 @@ use Rattle.memory_working.specs.SumsChanged.{SumsChanged}
 use Rattle.memory_working.proofs.Handing.{accepted-as}
 use Rattle.memory_working.proofs.Writes.{Setting}
 use Rattle.memory_working.proofs.Small.{Sized}
-use Rattle.memory_working.proofs.AcceptedFacts.{ChangeFacts, accepted-facts}
+use Rattle.memory_working.proofs.AcceptedFacts.{accepted-facts}
 use Rattle.memory_working.proofs.ViewWorked.{view-worked}
-use Rattle.memory_working.proofs.Changing.{found, change-facts}
+use Rattle.memory_working.proofs.Changing.{found, after-in}
 
 pub same-amount : (n : ℕ) (o : Order) (s : Side) (a i : ℕ) → amount one s a i o n ≡ addedOn n o s a i
 unfolding amount addedOn one
@@ -72,20 +71,15 @@ new-sums {m} {id} {w} bytes word ready =
     (omega (arith, remaining-most o, accepted-facts m (ready .held) e (ready .accepted) .2 .1 .1)) own
 
 -- REPLACE, CANCEL and FILL: what remains after the change counts
-after-small : (c : OrderChange) (o : Order) → o .total ≤ 1000000 → ChangeFacts c o → remainsAfter c o ≤ 1000000
-after-small (Replace n) o total facts = omega (arith, facts .0 .1 .1)
-after-small Cancel o total facts = omega arith
-after-small (Fill n) o total facts = omega (arith, remaining-most o)
-
 pub change-sums : {m : List ℕ} {id w p : ℕ} {c : OrderChange} → Bytes m → Ready m (Change id c) p w
-    → SumsChanged (orderOf id w) (remaining (orderOf id w)) (remainsAfter c (orderOf id w)) (openOrders m)
+    → SumsChanged (orderOf id w) (remaining (orderOf id w)) (remaining (orderAfter c (orderOf id w))) (openOrders m)
     (openOrders (worked m (Change id c)))
 unfolding bookOf
 change-sums {m} {id} {w} {p} {c} bytes ready =
-    let f = change-facts ready in
     let o = orderOf id w in
-    told bytes (ready .held) (Change id c) tt (ready .accepted) o (remaining o) (remainsAfter c o) (after-small c o (f .0 .total .1) (f .1))
-    (change-shift (view m) id o (found ready) c)
+    let after = remaining (orderAfter c o) in
+    told bytes (ready .held) (Change id c) tt (ready .accepted) o (remaining o) after
+    (omega (arith, remaining-most (orderAfter c o), after-in ready)) (change-shift (view m) id o (found ready) c)
 
 -- an event of no order leaves them
 still : (k : State) (e : Event) → Setting e → work k e .book .orders ≡ k .book .orders

@@ -1,12 +1,11 @@
 -- The view of a memory after an accepted event is the view before it, worked.
-use Rattle.integers.specs.Basics.{ℕ, _^_, _≤_, _<_, _≡_, refl, _∙_, sym, ap, fun-ext, true, cond, List, some, ℤ, pos, natAbs, _+ℤ_, +ℤ-idr}
+use Rattle.integers.specs.Basics.{ℕ, _^_, _≤_, _<_, _≡_, refl, _∙_, sym, ap, fun-ext, true, cond, List, ℤ, pos, natAbs, _+ℤ_, +ℤ-idr, arith}
 use Rattle.integers.specs.Magnitude.{sized, magnitude-sum, magnitude-negation}
 use Rattle.words.specs.Bytes.{Bytes}
 use Rattle.ledger.specs.declared.order.Order.{Order}
 use Rattle.ledger.specs.declared.order.Side.{Side}
 use Rattle.ledger.specs.declared.order.Side.the-variants.{Buy, Sell}
-use Rattle.ledger.specs.Orders.{placeFrom}
-use Rattle.ledger.specs.Roster.{Numbered}
+use Rattle.ledger.specs.Orders.{remaining, placeFrom}
 use Rattle.ledger.specs.Fillings.{fillMoves}
 use Rattle.ledger.specs.Positions.{toward, wayOf}
 use Rattle.ledger.proofs.Amounts.{fill-apart}
@@ -15,12 +14,11 @@ use Rattle.book.specs.declared.LimitLine.the-variants.{Own, Default, OfGroup}
 use Rattle.book.specs.declared.Blocked.the-variants.{Account, Instrument, GroupFor}
 use Rattle.book.specs.declared.Event.{Event}
 use Rattle.book.specs.declared.OrderChange.{OrderChange}
-use Rattle.book.specs.declared.OrderChange.the-variants.{Replace, Cancel, Fill}
 use Rattle.book.specs.declared.Event.the-variants.{Limit, Balance, Block, New, Change, Junk}
 use Rattle.book.specs.OpenOrders.{change}
-use Rattle.book.specs.Books.{at, lineOf, groupLineOf, changed, filledBalances, changedBalances, bookAfter}
+use Rattle.book.specs.Books.{at, lineOf, groupLineOf, changed, filledIn, bookAfter}
 use Rattle.book.specs.States.{State, mark, work}
-use Rattle.book.specs.Sound.{OrderFits}
+use Rattle.book.proofs.OrderChanges.{after-filled, after-fits}
 use Rattle.book.proofs.SoundLines.{line-fits, group-line-fits}
 use Rattle.memory_layout.proofs.MarketRead.{market-most}
 use Rattle.memory_layout.specs.View.{marketOf, rosterOf, linesOf, balancesOf, blocksOf, openOrders, bookOf, tradingOf, view}
@@ -34,8 +32,8 @@ use Rattle.memory_layout.proofs.ViewLimits.{view-own, view-default, view-of-gro
 use Rattle.memory_layout.proofs.ViewOrders.{view-orders, bounds-orders, roster-orders}
 use Rattle.memory_soundness.specs.SoundMemory.{SoundMemory}
 use Rattle.memory_soundness.proofs.Bounded.{balance-small}
-use Rattle.memory_working.specs.Working.{firstAfter, recordsChanged, orderChanged, worked}
-use Rattle.memory_working.proofs.AcceptedFacts.{ChangeFacts, laid, accepted-facts}
+use Rattle.memory_working.specs.Working.{firstAfter, recordsChanged, worked}
+use Rattle.memory_working.proofs.AcceptedFacts.{laid, accepted-facts}
 use Rattle.memory_working.proofs.FirstRecord.{after-small}
 use Rattle.memory_working.proofs.Writes.{few-after}
 use Rattle.memory_working.proofs.Filling.{fill-one}
@@ -104,57 +102,35 @@ module _ (m : List ℕ) (bytes : Bytes m) (held : SoundMemory m) where
         beside = record { trading = at a true (k .beside .trading) };
       }) shown
 
-  -- the records after a change of order o
-  abbrev records-first : ℕ → OrderChange → Order → ℕ
-  records-first id c o = firstAfter m (placeFrom 0 id (openOrders m)) (changed c o)
-
-  records-shown : (id : ℕ) (c : OrderChange) (o : Order) → judged m (Change id c) ≡ 0
-      → view (recordsChanged m id c o) ≡ withOrders (change id (changed c) (openOrders m))
-  unfolding bookAfter bookOf
-  records-shown id c o passes =
-      orders-shown (records-first id c o) (after-small m (held .first) (placeFrom 0 id (openOrders m)) (changed c o)) (Change id c) tt
-      passes
-
-  fill-shown : (id : ℕ) (n : ℤ) (o : Order) → OrderFits (rosterOf m) o → judged m (Change id (Fill n)) ≡ 0 → Numbered 1000000 (natAbs n)
-      → view (orderChanged m id (Fill n) (some o)) ≡ stateOf (marketOf m) (rosterOf m)
-      (filledBalances (marketOf m .unit) (some o) (natAbs n)
-      (balancesOf m)) (linesOf m) (blocksOf m) (change id (changed (Fill n)) (openOrders m)) (tradingOf m)
-  unfolding bookAfter bookOf mark
-  fill-shown id n o fits passes quantity =
-      let e = Change id (Fill n) in
+  change-shown : (id : ℕ) (c : OrderChange) → judged m (Change id c) ≡ 0 → view (worked m (Change id c)) ≡ work (view m) (Change id c)
+  unfolding worked bookAfter bookOf mark remaining
+  change-shown id c passes =
+      let t = accepted-facts m held (Change id c) passes in
+      let o = t .0 .order in
+      let fits = t .0 .fits in
+      let whole = after-fits c o (omega (arith, fits .remains)) (fits .total .1) (t .1 .0) (t .1 .1) in
+      let e = Change id c in
       let a = o .account in
       let i = o .instrument in
+      let n = filledIn c in
       let unit = marketOf m .unit in
-      let os = change id (changed (Fill n)) (openOrders m) in
-      let z = balancesOf m a i +ℤ fillMoves unit a i o (natAbs n) in
-      let f = records-first id (Fill n) o in
-      let inside = after-small m (held .first) (placeFrom 0 id (openOrders m)) (changed (Fill n) o) in
+      let os = change id (changed c) (openOrders m) in
+      let z = balancesOf m a i +ℤ fillMoves unit a i o n in
+      let f = firstAfter m (placeFrom 0 id (openOrders m)) (changed c o) in
+      let inside = after-small m (held .first) (placeFrom 0 id (openOrders m)) (changed c o) in
       let few = few-after m held e passes in
       let roster = roster-orders m f os (laid m held) inside few in
-      view-balance (recordsChanged m id (Fill n) o) (bounds-orders m f os (laid m held) inside few) a i z (rw roster (fits .account))
+      rw (t .0 .found)
+      (view-balance (recordsChanged m id c o) (bounds-orders m f os (laid m held) inside few) a i z (rw roster (fits .account))
       (rw roster (fits .instrument)) (omega (
         sized,
         balance-small m held a i,
-        fill-size m o (natAbs n),
-        magnitude-sum (balancesOf m a i) (fillMoves unit a i o (natAbs n)),
+        fill-size m o n,
+        after-filled c o,
+        magnitude-sum (balancesOf m a i) (fillMoves unit a i o n),
       ))
-      ∙ ap (λ (k : State). work k (Balance a i z)) (records-shown id (Fill n) o passes)
-      ∙ ap (λ s. stateOf (marketOf m) (rosterOf m) s (linesOf m) (blocksOf m) os (tradingOf m))
-      (fill-moves unit o (natAbs n) (balancesOf m))
-
-  change-shown : (id : ℕ) (c : OrderChange) → judged m (Change id c) ≡ 0 → view (worked m (Change id c)) ≡ work (view m) (Change id c)
-  unfolding worked bookAfter bookOf mark changedBalances
-  change-shown id c passes =
-      let f = accepted-facts m held (Change id c) passes in
-      rw (f .0 .found) (by c passes (f .0 .order) (f .0 .fits) (f .1))
-    where
-      by : (c : OrderChange) → judged m (Change id c) ≡ 0 → (o : Order) → OrderFits (rosterOf m) o → ChangeFacts c o
-          → view (orderChanged m id c (some o)) ≡ stateOf (marketOf m) (rosterOf m)
-          (changedBalances (marketOf m .unit) c (some o) (balancesOf m))
-          (linesOf m) (blocksOf m) (change id (changed c) (openOrders m)) (tradingOf m)
-      by (Replace n) passes o fits facts = records-shown id (Replace n) o passes
-      by Cancel passes o fits facts = records-shown id Cancel o passes
-      by (Fill n) passes o fits facts = fill-shown id n o fits passes (facts .0 .1)
+      ∙ ap (λ (k : State). work k (Balance a i z)) (orders-shown f inside e tt passes)
+      ∙ ap (λ s. stateOf (marketOf m) (rosterOf m) s (linesOf m) (blocksOf m) os (tradingOf m)) (fill-moves unit o n (balancesOf m)))
 
   pub view-worked : (e : Event) → Sized e → judged m e ≡ 0
       → view (worked m e) ≡ work (view m) e

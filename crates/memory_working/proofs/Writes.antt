@@ -12,8 +12,6 @@ use Rattle.limits.specs.Lines.{Line, GroupLine}
 use Rattle.book.specs.declared.LimitLine.the-variants.{Own, Default, OfGroup}
 use Rattle.book.specs.declared.Blocked.the-variants.{Account, Instrument, GroupFor}
 use Rattle.book.specs.declared.Event.{Event}
-use Rattle.book.specs.declared.OrderChange.{OrderChange}
-use Rattle.book.specs.declared.OrderChange.the-variants.{Replace, Cancel, Fill}
 use Rattle.book.specs.declared.Event.the-variants.{Limit, Balance, Block, New, Change, Junk}
 use Rattle.book.specs.Books.{lineOf, groupLineOf, changed, bookAfter}
 use Rattle.book.specs.States.{work}
@@ -30,7 +28,7 @@ use Rattle.memory_layout.specs.Judged.{judged}
 use Rattle.memory_layout.proofs.RosterLaws.{roster-same}
 use Rattle.memory_layout.proofs.FirstRecord.{joined-small}
 use Rattle.memory_soundness.specs.SoundMemory.{SoundMemory}
-use Rattle.memory_working.specs.Working.{recordsChanged, orderChanged, worked}
+use Rattle.memory_working.specs.Working.{worked}
 use Rattle.memory_working.proofs.AcceptedFacts.{sound, laid, passed, accepted-facts}
 use Rattle.memory_working.proofs.FirstRecord.{after-small}
 
@@ -182,22 +180,10 @@ worked-keeps m (New s a i id n) P keeps held passes p =
     keeps _ (markWord a) 1 (omega arith) (keeps-list m (New s a i id n) P keeps held (λ x. x) _ (joined-small m _ (held .first)) passes p)
 worked-keeps m (Change id c) P keeps held passes p =
     let f = accepted-facts m held (Change id c) passes .0 in
-    rw (f .found) (by c passes (f .order) (f .fits .account) (f .fits .instrument) keeps)
-  where
-    records-kept : (c : OrderChange) → judged m (Change id c) ≡ 0 → (o : Order)
-        → ((l : List ℕ) (k v : ℕ) → Stores m (Change id c) k v → P l → P (putWord l k v)) → P (recordsChanged m id c o)
-    records-kept c passes o keeps =
-        keeps-list m (Change id c) P keeps held (λ x. x) _
-        (after-small m (held .first) (placeFrom 0 id (openOrders m)) (changed c o)) passes p
-
-    by : (c : OrderChange) → judged m (Change id c) ≡ 0 → (o : Order) → Numbered (rosterOf m .accounts) (o .account)
-        → Numbered (rosterOf m .instruments) (o .instrument)
-        → ((l : List ℕ) (k v : ℕ) → Stores m (Change id c) k v → P l → P (putWord l k v)) → P (orderChanged m id c (some o))
-    by (Replace n) passes o on-a on-i keeps = records-kept (Replace n) passes o keeps
-    by Cancel passes o on-a on-i keeps = records-kept Cancel passes o keeps
-    by (Fill n) passes o on-a on-i keeps =
-        keeps-balance m (Change id (Fill n)) P keeps held _ (o .account) (o .instrument) _ on-a on-i
-        (records-kept (Fill n) passes o keeps)
+    let o = f .order in
+    rw (f .found) (keeps-balance m (Change id c) P keeps held _ (o .account) (o .instrument) _ (f .fits .account) (f .fits .instrument)
+    (keeps-list m (Change id c) P keeps held (λ x. x) _ (after-small m (held .first) (placeFrom 0 id (openOrders m)) (changed c o)) passes
+    p))
 worked-keeps m Junk P keeps held passes p = p
 
 -- ---- so are kept

@@ -1,10 +1,10 @@
 -- The memory after an accepted event, by an equation for each kind.
-use Rattle.integers.specs.Basics.{ℕ, _+_, _≤_, _<_, _≡_, Bool, true, not, List, [], _∷_, Option, none, some, pos, natAbs, _+ℤ_}
+use Rattle.integers.specs.Basics.{ℕ, _≤_, _≡_, Bool, true, not, cond, List, [], _∷_, Option, none, some, pos, _+ℤ_, set}
 use Rattle.ledger.specs.declared.order.Order.{Order}
 use Rattle.ledger.specs.declared.find.Found.{Found}
 use Rattle.ledger.specs.declared.find.Found.the-variants.{At, Nothing}
-use Rattle.ledger.specs.Orders.{placeFrom}
-use Rattle.ledger.specs.Records.{detailFilled, detailRemaining, orderOf}
+use Rattle.ledger.specs.Orders.{closes, placeFrom}
+use Rattle.ledger.specs.Records.{orderOf}
 use Rattle.ledger.specs.Fillings.{fillMoves}
 use Rattle.limits.specs.Asked.{isZero}
 use Rattle.book.specs.declared.Figures.{Figures}
@@ -14,14 +14,13 @@ use Rattle.book.specs.declared.Blocked.{Blocked}
 use Rattle.book.specs.declared.Blocked.the-variants.{Account, Instrument, GroupFor}
 use Rattle.book.specs.declared.Event.{Event}
 use Rattle.book.specs.declared.OrderChange.{OrderChange}
-use Rattle.book.specs.declared.OrderChange.the-variants.{Replace, Cancel, Fill}
 use Rattle.book.specs.declared.Event.the-variants.{Limit, Balance, Block, New, Change, Junk}
 use Rattle.book.specs.OpenOrders.{find, insert, change}
-use Rattle.book.specs.Books.{lineOf, groupLineOf, newOrder, changed}
-use Rattle.book.specs.Table.{figuresOfLineFit}
+use Rattle.book.specs.Books.{lineOf, groupLineOf, newOrder, changed, filledIn}
+use Rattle.book.specs.Table.{figuresOfLineFit, changeInRange, fitsOrder}
 use Rattle.memory_layout.specs.View.{marketOf, balancesOf, firstOf, openOrders}
 use Rattle.memory_layout.specs.Judged.{judged, NamedAt}
-use Rattle.memory_layout.specs.Stores.{orderIn, storeFrom, joinedFirst, leftFirst, Records, rank}
+use Rattle.memory_layout.specs.Stores.{storeFrom, joinedFirst, leftFirst, rank, without}
 use Rattle.memory_layout.specs.FieldStores.{storeBalance, storeMark, blockAccount, blockInstrument, blockGroup, storeOwn, storeDefault}
 use Rattle.memory_layout.specs.FieldStores.{storeOfGroup}
 use Rattle.memory_soundness.specs.SoundMemory.{SoundMemory}
@@ -41,13 +40,12 @@ pub record Ready (m : List ℕ) (e : Event) (p w : ℕ) : Type 0 where
 abbrev pub newOf : ℕ → ℕ → Event
 newOf id w = let o = orderOf id w in New (o .side) (o .account) (o .instrument) id (pos (o .total))
 
--- the open order of an id and a detail is found at place p, and n more of it can be filled, in the bits that it has
-pub record Stands (m : List ℕ) (p id w n : ℕ) : Type 0 where
-  pub records : Records m
-  pub found : placeFrom 0 id (openOrders m) ≡ At p
-  pub loaded : orderOf id w ≡ orderIn m p
-  pub most : n ≤ detailRemaining w
-  pub small : detailFilled w + n < 134217728
+-- a change that has passed 9 and 12 of the order of an id and detail w, which is in range
+pub record Fitting (c : OrderChange) (w : ℕ) : Type 0 where
+  pub id : ℕ
+  pub figures : changeInRange c ≡ true
+  pub fits : fitsOrder c (orderOf id w) ≡ true
+  pub total : orderOf id w .total ≤ 1000000
 
 -- figures of a line that pass question 9 in a market whose largest figure is at most 1,000,000,000, so that each fits half a word
 pub record LineStorable (f : Figures) : Type 0 where
@@ -75,19 +73,23 @@ abbrev pub firstAfter : List ℕ → Found → List Order → ℕ
 firstAfter m found [] = goneFirst m found
 firstAfter m found (o ∷ os) = firstOf m
 
+-- the records when the order at place p becomes o: at remaining 0 it leaves
+abbrev pub orderKept : List ℕ → ℕ → Order → List ℕ
+orderKept m p o =
+    cond (closes o) (storeFrom m (leftFirst m p) (without p (openOrders m))) (storeFrom m (firstOf m) (set (openOrders m) p o))
+
 -- the records after a change of the open order o
 abbrev pub recordsChanged : List ℕ → ℕ → OrderChange → Order → List ℕ
 recordsChanged m id c o =
     storeFrom m (firstAfter m (placeFrom 0 id (openOrders m)) (changed c o)) (change id (changed c) (openOrders m))
 
--- the memory after a change of the order found: its record changes or leaves, and a FILL moves the balance of its account and instrument
+-- the memory after a change of the order found: its record changes or leaves, and the balance of its account and instrument moves by what
+-- is filled
 abbrev pub orderChanged : List ℕ → ℕ → OrderChange → Option Order → List ℕ
 orderChanged m id c none = m
-orderChanged m id (Replace n) (some o) = recordsChanged m id (Replace n) o
-orderChanged m id Cancel (some o) = recordsChanged m id Cancel o
-orderChanged m id (Fill n) (some o) =
-    storeBalance (recordsChanged m id (Fill n) o) (o .account) (o .instrument)
-    (balancesOf m (o .account) (o .instrument) +ℤ fillMoves (marketOf m .unit) (o .account) (o .instrument) o (natAbs n))
+orderChanged m id c (some o) =
+    storeBalance (recordsChanged m id c o) (o .account) (o .instrument)
+    (balancesOf m (o .account) (o .instrument) +ℤ fillMoves (marketOf m .unit) (o .account) (o .instrument) o (filledIn c))
 
 -- the memory after the event
 unfoldable pub worked : List ℕ → Event → List ℕ

@@ -2,15 +2,18 @@
 // the open orders, or stands there. The cells hold B and V of all accounts, before the event and after it, or
 // there are none.
 ghost use mathlib.Core.Path.{_≡_};
-ghost use Prim.Native.Nat.{_≤_};
-ghost use lib.IntN.{pos, natAbs, _+ℤ_};
+ghost use Prim.Native.Nat.{ℕ, _≤_, _<_};
+ghost use lib.IntN.{natAbs, _+ℤ_};
+ghost use Rattle.words.specs.Words.{wordAt};
 ghost use Rattle.ledger.specs.Positions.{toward, wayOf};
 ghost use Rattle.ledger.specs.Records.{orderOf};
-ghost use Rattle.book.specs.declared.OrderChange.the-variants.{Replace, Cancel, Fill};
 ghost use Rattle.book.specs.declared.Event.the-variants.{Change};
+ghost use Rattle.book.specs.Books.{orderAfter};
+ghost use Rattle.memory_layout.specs.Layout.{countWord};
 ghost use Rattle.memory_layout.specs.View.{openOrders};
+ghost use Rattle.memory_layout.specs.Stores.{Records};
 ghost use Rattle.memory_soundness.specs.Cells.{Sums};
-ghost use Rattle.memory_working.specs.Working.{Ready, newOf, Stands, recordsChanged, worked};
+ghost use Rattle.memory_working.specs.Working.{Ready, newOf, Fitting, orderKept, worked};
 use crate::sums::recount;
 use book::OrderChange;
 use ledger::detail::Detail;
@@ -35,25 +38,16 @@ pub fn enter(m: &mut [u8], cells: &mut [u64], id: u64, w: Detail, place: usize)
     set_mark(m, account_of(w.0) as usize);
 }
 
-// REPLACE: the order gets the new total.
-fn replace(m: &mut [u8], cells: &mut [u64], id: u64, w: Detail, place: usize, total: u64)
-    requires { ⌜ Ready (now m) (Change id (Replace (pos total))) place (w .0) × Sums (now cells) (openOrders (now m)) ⌝ }
-    ensures memory { λ r. ⌜ now (m .exit) ≡ worked (now (m .entry)) (Change id (Replace (pos total))) ⌝ }
-    ensures sums { λ r. ⌜ Sums (now (cells .exit)) (openOrders (now (m .exit))) ⌝ }
+// What a change makes of the order of a detail.
+fn detail_after(w: Detail, change: OrderChange) -> Detail
+    requires { ⌜ Fitting change (w .0) ⌝ }
+    ensures { λ r. ⌜ ((id : ℕ) → orderOf id (r .0) ≡ orderAfter change (orderOf id (w .0))) ⌝ }
 {
-    let next = w.replaced_total(total);
-    recount(cells, w, w.remaining(), next.remaining());
-    replace_order(m, place, id, next);
-}
-
-// CANCEL: the order leaves.
-fn cancel(m: &mut [u8], cells: &mut [u64], id: u64, w: Detail, place: usize)
-    requires { ⌜ Ready (now m) (Change id Cancel) place (w .0) × Sums (now cells) (openOrders (now m)) ⌝ }
-    ensures memory { λ r. ⌜ now (m .exit) ≡ worked (now (m .entry)) (Change id Cancel) ⌝ }
-    ensures sums { λ r. ⌜ Sums (now (cells .exit)) (openOrders (now (m .exit))) ⌝ }
-{
-    recount(cells, w, w.remaining(), 0);
-    remove_order(m, place);
+    match change {
+        OrderChange::Replace { total } => w.replaced_total(total as u64),
+        OrderChange::Cancel => w.replaced_total(w.filled()),
+        OrderChange::Fill { quantity } => w.filled_by(quantity as u64),
+    }
 }
 
 // The balance after a fill by `n`: a buy raises S, a sell lowers it.
@@ -67,12 +61,11 @@ fn balance_after(side: Side, balance: Contracts, n: Contracts) -> Contracts
     }
 }
 
-// The order's record after a fill by `n`: at remaining 0 it leaves.
-fn fill_record(m: &mut [u8], place: usize, id: u64, w: Detail, n: u64)
-    requires { ⌜ Stands (now m) place id (w .0) n ⌝ }
-    ensures { λ r. ⌜ now (m .exit) ≡ recordsChanged (now (m .entry)) id (Fill (pos n)) (orderOf id (w .0)) ⌝ }
+// The order at a place becomes that of the id and the detail: at remaining 0 it leaves.
+fn keep_order(m: &mut [u8], place: usize, id: u64, next: Detail)
+    requires { ⌜ Records (now m) × (place < wordAt (now m) countWord) ⌝ }
+    ensures { λ r. ⌜ now (m .exit) ≡ orderKept (now (m .entry)) place (orderOf id (next .0)) ⌝ }
 {
-    let next = w.filled_by(n);
     if next.remaining() == 0 {
         remove_order(m, place);
     } else {
@@ -80,25 +73,7 @@ fn fill_record(m: &mut [u8], place: usize, id: u64, w: Detail, n: u64)
     }
 }
 
-// FILL: the order's filled rises, and S moves.
-fn fill(m: &mut [u8], cells: &mut [u64], id: u64, w: Detail, place: usize, n: u64)
-    requires { ⌜ Ready (now m) (Change id (Fill (pos n))) place (w .0) × Sums (now cells) (openOrders (now m)) ⌝ }
-    ensures memory { λ r. ⌜ now (m .exit) ≡ worked (now (m .entry)) (Change id (Fill (pos n))) ⌝ }
-    ensures sums { λ r. ⌜ Sums (now (cells .exit)) (openOrders (now (m .exit))) ⌝ }
-{
-    let left = w.remaining();
-    recount(cells, w, left, left - n);
-    let o = w.order(id);
-    let account = o.account as usize;
-    let instrument = o.instrument as usize;
-    let side = o.side;
-    let before = Contracts(balance(m, account, instrument));
-    fill_record(m, place, id, w, n);
-    let next = balance_after(side, before, Contracts::of(n));
-    set_balance(m, account, instrument, next.0);
-}
-
-// The open order becomes what the change makes of it.
+// REPLACE, CANCEL and FILL: the open order becomes what the change makes of it, and S moves by what is filled.
 pub fn change_order(
     m: &mut [u8],
     cells: &mut [u64],
@@ -111,9 +86,15 @@ pub fn change_order(
     ensures memory { λ r. ⌜ now (m .exit) ≡ worked (now (m .entry)) (Change id change) ⌝ }
     ensures sums { λ r. ⌜ Sums (now (cells .exit)) (openOrders (now (m .exit))) ⌝ }
 {
-    match change {
-        OrderChange::Replace { total } => replace(m, cells, id, w, place, total as u64),
-        OrderChange::Cancel => cancel(m, cells, id, w, place),
-        OrderChange::Fill { quantity } => fill(m, cells, id, w, place, quantity as u64),
-    }
+    let next = detail_after(w, change);
+    recount(cells, w, w.remaining(), next.remaining());
+    let o = w.order(id);
+    let account = o.account as usize;
+    let instrument = o.instrument as usize;
+    let side = o.side;
+    let before = Contracts(balance(m, account, instrument));
+    keep_order(m, place, id, next);
+    let filled = Contracts::of(next.filled() - w.filled());
+    let after = balance_after(side, before, filled);
+    set_balance(m, account, instrument, after.0);
 }

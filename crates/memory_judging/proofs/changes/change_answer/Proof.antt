@@ -5,9 +5,8 @@ use Rattle.limits.specs.Questions.{firstNo}
 use Rattle.limits.specs.Answers.{numberOf}
 use Rattle.book.specs.declared.OrderChange.{OrderChange}
 use Rattle.book.specs.Table.{isQuantity, changeInRange}
-use Rattle.book.proofs.Tables.{quantity-numbered}
 use Rattle.memory_judging.specs.QuestionsLeft.{changeFrom12}
-use Rattle.memory_judging.proofs.HandedOn.{quantity-cast}
+use Rattle.memory_judging.proofs.HandedOn.{whole-quantity, quantity-cast}
 use Rattle.memory_judging.proofs.changes.change_answer.Statement.{statement}
 use Rattle.memory_judging.proofs.changes.change_answer.Tie as tie
 
@@ -28,15 +27,16 @@ replaced-requires c κs =
     let told = c .before in
     let s = told .before .before .before .before .before in
     let n = told .before .change .given .0 .0 in
-    rw (c .order .ensures, toZ-ofZ w64 n (replace-fits told))
-    (record { held = s .pre .0 .held; found = s .pre .0 .found; small = quantity-numbered n (replace-whole told) .1 }, s .pre .1)
+    rw (c .order .ensures, toZ-ofZ w64 n (replace-fits told), ← whole-quantity n (replace-whole told))
+    (record { held = s .pre .0 .held; found = s .pre .0 .found; figures = replace-whole told }, s .pre .1)
 
 returns : tie.Need-returns
 unfolding changeFrom12
 returns c =
     let told = c .before .before in
     let a = told .before .before .before .before .before .args in
-    rw (c .before .order .ensures, toZ-ofZ w64 (told .before .change .given .0 .0) (replace-fits told)) at (c .replaced .ensures)
+    let n = told .before .change .given .0 .0 in
+    rw (c .before .order .ensures, toZ-ofZ w64 n (replace-fits told), ← whole-quantity n (replace-whole told)) at (c .replaced .ensures)
     ∙ sym (ap (λ (x : OrderChange). firstNo (changeFrom12 (a .m .now) (orderOf (a .id) (a .w .0)) x)) (told .before .change .given .1))
 
 returns-2 : tie.Need-returns-2

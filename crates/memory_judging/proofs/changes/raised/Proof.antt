@@ -4,9 +4,8 @@ use Rattle.ledger.specs.Orders.{replacedTotal}
 use Rattle.limits.specs.Questions.{firstNo}
 use Rattle.limits.specs.Answers.{numberOf}
 use Rattle.memory_judging.specs.OrderQuestions.{admission, OnRoster}
-use Rattle.memory_judging.specs.QuestionsLeft.{raisedFrom14}
 use Rattle.memory_judging.proofs.QuestionsInOrder.{first-refuses, then-second, limits-set}
-use Rattle.memory_judging.proofs.Rises.{replaced-on, replaced-raises}
+use Rattle.memory_judging.proofs.Rises.{total-small, replaced-on, replaced-raises}
 use Rattle.memory_judging.proofs.changes.raised.Statement.{statement}
 use Rattle.memory_judging.proofs.changes.raised.Tie as tie
 
@@ -27,23 +26,22 @@ within-limits-requires c κs =
       rw (total .replaced-total .ensures) (record {
         on = replaced-on _ _ _ (s .pre .0);
         set = limits-set _ _ _ (asked at) (c .enum-told .given .1);
-        total = s .pre .0 .small;
-        small = omega (arith, s .pre .0 .small);
+        total = total-small _ _ _ (s .pre .0);
+        small = omega (arith, total-small _ _ _ (s .pre .0));
       }),
-      s .pre .2,
+      s .pre .3,
       at .before .underlying-of .ensures,
     )
 
 returns : tie.Need-returns
-unfolding raisedFrom14
 returns c =
     let at = c .before .before .before in
     let s = at .before .before .before .before .before in
-    (rw (at .before .before .replaced-total .ensures) at (c .within-limits .ensures)) _ (replaced-raises _ _ _ (s .pre .0) (s .pre .1))
+    (rw (at .before .before .replaced-total .ensures) at (c .within-limits .ensures)) _
+    (replaced-raises _ _ _ (s .pre .0) (s .pre .1) (s .pre .2))
     ∙ sym (then-second _ _ _ (asked at) (c .before .enum-told .given .1) _)
 
 pub raised-spec : {M : Type 1} → statement M
-unfolding raisedFrom14
 raised-spec =
     tie.close (tie.spec (λ c κs. search needs) (λ c κs. after-on c) (λ c κs. (after-on (c .before), c .underlying-of .ensures))
     (λ c. search needs) (λ c. search needs) within-limits-requires returns
