@@ -57,8 +57,8 @@ named-contracts c =
       at .before .before .before .roster .ensures,
     )
 
-weighed : (c : tie.After-weights-fit) → let m =
-    c .before .before .before .before .before .before .before .before .before .before .before .before .before .before .before .args .m .now in
+weighed : (c : tie.After-weights-fit) → let at = c .before .before .before .before .before .before .before .before in
+    let m = at .before .before .before .before .before .before .before .args .m .now in
     c .weights-fit .result ≡ every (rosterOf m .instruments) (λ j. leb (natAbs (signedAt (weightTable (rosterPart m)) j)) 1000000)
 weighed c =
     let at = c .before .before .before .before .before .before .before .before in
