@@ -1,4 +1,5 @@
 -- Laws of orders, sums, positions and fillings: no filling passes a potential position, and one reaches it. And of records and bounds.
+pub mod RosterTables
 pub mod Fits
 pub mod Linear
 pub mod Search

@@ -1,6 +1,6 @@
 -- Orders as flat records in lent bytes, two words each; balances; and a roster of 76 words.
 use Rattle.integers.specs.Basics.{ℕ, zero, suc, _+_, _*_, _-_, _/_, _%_, _≤_, _<_, cond, List, [], _∷_, ℤ, eqb}
-use Rattle.words.specs.Words.{wordAt, signedAt}
+use Rattle.words.specs.Words.{wordAt, signedAt, partOf}
 use Rattle.ledger.specs.declared.order.Order.{Order}
 use Rattle.ledger.specs.declared.order.Side.{Side}
 use Rattle.ledger.specs.declared.order.Side.the-variants.{Buy, Sell}
@@ -96,6 +96,16 @@ balancesIn m i = signedAt m i
 -- the bytes of a roster
 abbrev pub rosterBytes : ℕ
 rosterBytes = 608
+
+-- its tables, as parts: word n of each is that of number n
+abbrev pub groupTable : List ℕ → List ℕ
+groupTable m = partOf m 3 9
+
+abbrev pub contractTable : List ℕ → List ℕ
+contractTable m = partOf m 11 33
+
+abbrev pub weightTable : List ℕ → List ℕ
+weightTable m = partOf m 43 33
 
 -- the roster: words 0 to 3 are its sizes, then come the groups of 8 contracts, the contracts of 32 instruments and their weights
 unfoldable pub rosterIn : List ℕ → Roster

@@ -3,7 +3,8 @@ ghost use mathlib.Core.Path.{_≡_};
 ghost use Prim.Native.Nat.{_≤_};
 ghost use lib.ListN.{length};
 ghost use Rattle.ledger.specs.Roster.{groupOfInstrument};
-ghost use Rattle.ledger.specs.Records.{rosterIn, rosterBytes};
+ghost use Rattle.ledger.specs.Records.{rosterIn, rosterBytes, groupTable, contractTable, weightTable};
+use words::part;
 use words::signed_word;
 use words::word;
 
@@ -34,6 +35,28 @@ pub fn instruments_in(roster: &[u8]) -> u64
     ensures { λ r. ⌜ r ≡ rosterIn (now (roster .entry)) .instruments ⌝ }
 {
     word(roster, 3)
+}
+
+// The tables: the groups of contracts, the contracts of instruments and their weights. Word n of each is that of number n.
+pub fn group_table(roster: &[u8]) -> &[u8]
+    requires { ⌜ rosterBytes ≤ length (now roster) ⌝ }
+    ensures { λ r. ⌜ now r ≡ groupTable (now (roster .entry)) ⌝ }
+{
+    part(roster, 3, 9)
+}
+
+pub fn contract_table(roster: &[u8]) -> &[u8]
+    requires { ⌜ rosterBytes ≤ length (now roster) ⌝ }
+    ensures { λ r. ⌜ now r ≡ contractTable (now (roster .entry)) ⌝ }
+{
+    part(roster, 11, 33)
+}
+
+pub fn weight_table(roster: &[u8]) -> &[u8]
+    requires { ⌜ rosterBytes ≤ length (now roster) ⌝ }
+    ensures { λ r. ⌜ now r ≡ weightTable (now (roster .entry)) ⌝ }
+{
+    part(roster, 43, 33)
 }
 
 // The group of a contract.

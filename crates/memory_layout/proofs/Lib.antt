@@ -6,6 +6,9 @@ pub mod MarketRead
 pub mod GuardedTables
 pub mod FieldsRead
 pub mod Blank
+pub mod Written
+pub mod RosterWritten
+pub mod Begun
 pub mod OrderRecords
 pub mod Stored
 pub mod Apart

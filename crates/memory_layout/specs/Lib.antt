@@ -4,4 +4,5 @@ pub mod View
 pub mod Readable
 pub mod Stores
 pub mod FieldStores
+pub mod Opening
 pub mod Judged

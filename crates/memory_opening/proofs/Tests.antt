@@ -1,6 +1,6 @@
 -- What the tests of a roster say.
 use Rattle.integers.specs.Basics.{ℕ, suc, _+_, _*_, _≤_, _<_, _≡_, refl, _∙_, sym, ap, Bool, true, false, _&&_, cond, List, ℤ, pos, negsuc}
-use Rattle.integers.specs.Basics.{natAbs, _≤ℤ_, _<ℤ_, leZ, leb, eqb, length, w32, w64, SFits, toZ, ofZ, toZ-ofZ, arith, eqb-true, le-leb}
+use Rattle.integers.specs.Basics.{natAbs, _≤ℤ_, _<ℤ_, leZ, leb, eqb, length, w32, SFits, toZ, ofZ, toZ-ofZ, arith, eqb-true, le-leb}
 use Rattle.integers.specs.Basics.{lt-leb, ne-eqb, signed, magnitude-parts}
 use Rattle.words.specs.Fields.{u8At, u16At, i32At}
 use Rattle.ledger.specs.Roster.{Numbered}
@@ -31,13 +31,6 @@ weight-high (negsuc n) h =
 -- the test of a weight that the machine read back
 pub weighed : (w : ℤ) (t : Bool) → SFits w32 w → t ≡ leb (natAbs (toZ w32 (ofZ w32 w))) 1000000 → leb (natAbs w) 1000000 ≡ t
 weighed w t fits e = sym (e ∙ ap (λ z. leb (natAbs z) 1000000) (toZ-ofZ w32 w fits))
-
--- a weight as a word's number
-pub wider : (w : ℤ) → SFits w32 w → SFits w64 w
-wider w fits = omega signed
-
-pub widened : (w : ℤ) → SFits w32 w → toZ w64 (ofZ w64 (toZ w32 (ofZ w32 w))) ≡ w
-widened w fits = rw (toZ-ofZ w32 w fits) (toZ-ofZ w64 w (wider w fits))
 
 -- ---- the questions
 -- what question 2 says

@@ -1,7 +1,9 @@
 -- The roster that a memory holds: what acceptance asks of the part with it, and what its sizes say.
-use Rattle.integers.specs.Basics.{ℕ, _≤_, _≡_, true, _&&_, List, natAbs, leb, length}
+use Rattle.integers.specs.Basics.{ℕ, _≤_, _≡_, true, _&&_, List, natAbs, leb, length, arith}
+use Rattle.words.specs.Words.{wordAt, signedAt}
 use Rattle.ledger.specs.Roster.{Numbered}
-use Rattle.ledger.specs.Records.{rosterIn}
+use Rattle.ledger.specs.Records.{groupTable, contractTable, weightTable}
+use Rattle.ledger.proofs.RosterTables.{group-entry, contract-entry, weight-entry}
 use Rattle.limits.proofs.Answers.{both-true}
 use Rattle.book.specs.Decoding.{between}
 use Rattle.book.proofs.Tables.{between-numbered}
@@ -13,26 +15,6 @@ use Rattle.memory_layout.proofs.RosterRead.{group-same, contract-same, weight-s
 use Rattle.memory_layout.proofs.Every.{every-same}
 
 module _ (m : List ℕ) where
-  -- ---- acceptance, asked of the part with the roster
-  pub names-tests : namesFit (rosterOf m) ≡ (every (rosterOf m .contracts)
-      (λ c. between 1 (rosterOf m .groups) (rosterIn (rosterPart m) .groupOf c)) && every (rosterOf m .instruments)
-      (λ i. between 1 (rosterOf m .contracts) (rosterIn (rosterPart m) .contractOf i)))
-  unfolding namesFit
-  names-tests =
-      rw (
-        every-same (λ c. between 1 (rosterOf m .groups) (rosterOf m .groupOf c))
-            (λ c. between 1 (rosterOf m .groups) (rosterIn (rosterPart m) .groupOf c)) (rosterOf m .contracts)
-            (λ c h. rw (group-same m c h)),
-        every-same (λ i. between 1 (rosterOf m .contracts) (rosterOf m .contractOf i))
-            (λ i. between 1 (rosterOf m .contracts) (rosterIn (rosterPart m) .contractOf i)) (rosterOf m .instruments)
-            (λ i h. rw (contract-same m i h)),
-      )
-
-  pub weights-tests : weightsFit (rosterOf m) ≡ every (rosterOf m .instruments)
-      (λ i. leb (natAbs (rosterIn (rosterPart m) .weight i)) 1000000)
-  unfolding weightsFit
-  weights-tests = every-same _ _ (rosterOf m .instruments) (λ i h. rw (weight-same m i h))
-
   -- ---- what the sizes say
   pub sizes-numbered : sizesFit (rosterOf m) ≡ true → Numbered 16 (rosterOf m .accounts) × Numbered 4 (rosterOf m .groups)
       × Numbered 8 (rosterOf m .contracts) × Numbered 32 (rosterOf m .instruments)
@@ -48,6 +30,29 @@ module _ (m : List ℕ) where
         between-numbered 8 (r .contracts) (y .1),
         between-numbered 32 (r .instruments) (x .1),
       )
+
+  -- ---- acceptance, asked of the tables of the part with the roster
+  pub names-tests : sizesFit (rosterOf m) ≡ true → namesFit (rosterOf m) ≡ (every (rosterOf m .contracts)
+      (λ c. between 1 (rosterOf m .groups) (wordAt (groupTable (rosterPart m)) c)) && every (rosterOf m .instruments)
+      (λ i. between 1 (rosterOf m .contracts) (wordAt (contractTable (rosterPart m)) i)))
+  unfolding namesFit
+  names-tests e =
+      let n = sizes-numbered e in
+      rw (
+        every-same (λ c. between 1 (rosterOf m .groups) (rosterOf m .groupOf c))
+            (λ c. between 1 (rosterOf m .groups) (wordAt (groupTable (rosterPart m)) c)) (rosterOf m .contracts)
+            (λ c h. rw (group-same m c h, group-entry (rosterPart m) c (omega (arith, h, n .2 .1)))),
+        every-same (λ i. between 1 (rosterOf m .contracts) (rosterOf m .contractOf i))
+            (λ i. between 1 (rosterOf m .contracts) (wordAt (contractTable (rosterPart m)) i)) (rosterOf m .instruments)
+            (λ i h. rw (contract-same m i h, contract-entry (rosterPart m) i (omega (arith, h, n .3 .1)))),
+      )
+
+  pub weights-tests : sizesFit (rosterOf m) ≡ true → weightsFit (rosterOf m) ≡ every (rosterOf m .instruments)
+      (λ i. leb (natAbs (signedAt (weightTable (rosterPart m)) i)) 1000000)
+  unfolding weightsFit
+  weights-tests e =
+      every-same _ _ (rosterOf m .instruments)
+      (λ i h. rw (weight-same m i h, weight-entry (rosterPart m) i (omega (arith, h, sizes-numbered e .3 .1))))
 
   pub sound-sizes : rosterSound m ≡ true → sizesFit (rosterOf m) ≡ true
   unfolding rosterSound

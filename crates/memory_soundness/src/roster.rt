@@ -1,10 +1,10 @@
 // The roster that a memory holds: would it be accepted? The numbers of a table are asked at once, and where that does not tell, one by one.
 ghost use mathlib.Core.Path.{_≡_};
-ghost use Prim.Native.Nat.{_≤_};
+ghost use Prim.Native.Nat.{_+_, _*_, _≤_};
 ghost use lib.Dec.{leb};
 ghost use lib.IntN.{natAbs};
 ghost use lib.ListN.{length};
-ghost use Rattle.ledger.specs.Records.{rosterIn, rosterBytes};
+ghost use Rattle.words.specs.Words.{wordAt, signedAt};
 ghost use Rattle.book.specs.Decoding.{between};
 ghost use Rattle.memory_layout.specs.Rosters.{every, sizesFit};
 ghost use Rattle.memory_layout.specs.View.{rosterOf};
@@ -12,15 +12,17 @@ ghost use Rattle.memory_soundness.specs.Soundness.{rosterSound};
 use crate::bits::all_numbered;
 use crate::bits::all_small;
 use crate::ranges::is_weight;
-use ledger::roster::contract_in;
-use ledger::roster::group_in;
-use ledger::roster::weight_in;
+use ledger::roster::contract_table;
+use ledger::roster::group_table;
+use ledger::roster::weight_table;
 use memory_layout::roster::accounts;
 use memory_layout::roster::between;
 use memory_layout::roster::contracts;
 use memory_layout::roster::groups;
 use memory_layout::roster::instruments;
 use memory_layout::roster::roster;
+use words::signed_word;
+use words::word;
 
 // Are the sizes within their limits?
 fn sizes_fit(m: &[u8]) -> bool
@@ -39,48 +41,32 @@ fn sizes_fit(m: &[u8]) -> bool
     between(1, 32, instruments(m))
 }
 
-// Does each of the first `n` contracts name one of `most` groups?
-fn groups_named(s: &[u8], n: usize, most: u64) -> bool
-    requires { ⌜ (rosterBytes ≤ length (now s)) × (n ≤ 8) ⌝ }
-    ensures { λ r. ⌜ r ≡ every n (λ c. between 1 most (rosterIn (now (s .entry)) .groupOf c)) ⌝ }
+// Is each of the first `n` entries of a table a number from 1 to `most`?
+fn all_named(table: &[u8], n: usize, most: u64) -> bool
+    requires { ⌜ (n + 1) * 8 ≤ length (now table) ⌝ }
+    ensures { λ r. ⌜ r ≡ every n (λ j. between 1 most (wordAt (now (table .entry)) j)) ⌝ }
 {
-    if all_numbered(s, 4, n, most) {
+    if all_numbered(table, 1, n, most) {
         return true;
     }
     for j in 0..n {
-        if !between(1, most, group_in(s, j + 1)) {
+        if !between(1, most, word(table, j + 1)) {
             return false;
         }
     }
     true
 }
 
-// Does each of the first `n` instruments name one of `most` contracts?
-fn contracts_named(s: &[u8], n: usize, most: u64) -> bool
-    requires { ⌜ (rosterBytes ≤ length (now s)) × (n ≤ 32) ⌝ }
-    ensures { λ r. ⌜ r ≡ every n (λ i. between 1 most (rosterIn (now (s .entry)) .contractOf i)) ⌝ }
+// Is each of the first `n` weights of a table in range?
+fn weights_fit(table: &[u8], n: usize) -> bool
+    requires { ⌜ (n + 1) * 8 ≤ length (now table) ⌝ }
+    ensures { λ r. ⌜ r ≡ every n (λ i. leb (natAbs (signedAt (now (table .entry)) i)) 1000000) ⌝ }
 {
-    if all_numbered(s, 12, n, most) {
+    if all_small(table, 1, n, 524288) {
         return true;
     }
     for j in 0..n {
-        if !between(1, most, contract_in(s, j + 1)) {
-            return false;
-        }
-    }
-    true
-}
-
-// Is each weight of the first `n` instruments in range?
-fn weights_fit(s: &[u8], n: usize) -> bool
-    requires { ⌜ (rosterBytes ≤ length (now s)) × (n ≤ 32) ⌝ }
-    ensures { λ r. ⌜ r ≡ every n (λ i. leb (natAbs (rosterIn (now (s .entry)) .weight i)) 1000000) ⌝ }
-{
-    if all_small(s, 44, n, 524288) {
-        return true;
-    }
-    for j in 0..n {
-        if !is_weight(weight_in(s, j + 1)) {
+        if !is_weight(signed_word(table, j + 1)) {
             return false;
         }
     }
@@ -99,11 +85,11 @@ pub fn roster_is_sound(m: &[u8]) -> bool
     let g = groups(m);
     let c = contracts(m);
     let n = instruments(m) as usize;
-    if !groups_named(s, c as usize, g) {
+    if !all_named(group_table(s), c as usize, g) {
         return false;
     }
-    if !contracts_named(s, n, c) {
+    if !all_named(contract_table(s), n, c) {
         return false;
     }
-    weights_fit(s, n)
+    weights_fit(weight_table(s), n)
 }

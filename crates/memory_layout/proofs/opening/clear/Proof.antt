@@ -1,10 +1,10 @@
 -- After k turns the first k words are 0 (`cleared-more`); k ends at 8,192, all words of a desk.
 use Rattle.integers.specs.Basics.{_-_, _≤_, _≡_, refl, _∙_, sym, ap, length, arith, needs}
 use Rattle.words.specs.Words.{putWord}
-use Rattle.memory_opening.specs.Opening.{cleared}
-use Rattle.memory_opening.proofs.Written.{cleared-none, cleared-more}
-use Rattle.memory_opening.proofs.writing.clear.Statement.{statement}
-use Rattle.memory_opening.proofs.writing.clear.Tie as tie
+use Rattle.memory_layout.specs.Opening.{cleared}
+use Rattle.memory_layout.proofs.Written.{cleared-none, cleared-more}
+use Rattle.memory_layout.proofs.opening.clear.Statement.{statement}
+use Rattle.memory_layout.proofs.opening.clear.Tie as tie
 
 abbrev Inv-loop : tie.InvT-loop
 Inv-loop m₀ k₀ m k = (k ≤ 8192) × (length m ≡ length m₀) × (m ≡ cleared m₀ k)

@@ -2,9 +2,9 @@
 use Rattle.integers.specs.Basics.{_+_, _-_, _∙_, ap, arith, needs}
 use Rattle.words.specs.Fields.{u8At}
 use Rattle.words.specs.Words.{putWord}
-use Rattle.memory_opening.proofs.Written.{WrittenTo, written-start, written-turn, written-end}
-use Rattle.memory_opening.proofs.writing.put_bytes.Statement.{statement}
-use Rattle.memory_opening.proofs.writing.put_bytes.Tie as tie
+use Rattle.memory_layout.proofs.Written.{WrittenTo, written-start, written-turn, written-end}
+use Rattle.memory_layout.proofs.opening.put_bytes.Statement.{statement}
+use Rattle.memory_layout.proofs.opening.put_bytes.Tie as tie
 
 abbrev Inv-loop : tie.InvT-loop
 Inv-loop m₀ k s a n i₀ m i = WrittenTo (λ l j. putWord l (k + j) (u8At s (a + j))) m₀ m n i

@@ -1,17 +1,23 @@
 -- Each turn writes the weight read, in 64 bits what it was in 32, to its own word.
-use Rattle.integers.specs.Basics.{_+_, _*_, _-_, _∙_, ap, w32, SFits, toZ-ofZ, arith, needs}
+use Rattle.integers.specs.Basics.{_+_, _*_, _-_, _≡_, _∙_, ap, ℤ, w32, w64, SFits, toZ, ofZ, toZ-ofZ, arith, needs, signed}
 use Rattle.words.specs.Fields.{i32At}
 use Rattle.words.specs.Words.{putSigned}
-use Rattle.memory_opening.proofs.Written.{WrittenTo, written-start, written-turn, written-end}
-use Rattle.memory_opening.proofs.Tests.{wider, widened}
-use Rattle.memory_opening.proofs.writing.put_weights.Statement.{statement}
-use Rattle.memory_opening.proofs.writing.put_weights.Tie as tie
+use Rattle.memory_layout.proofs.Written.{WrittenTo, written-start, written-turn, written-end}
+use Rattle.memory_layout.proofs.opening.put_weights.Statement.{statement}
+use Rattle.memory_layout.proofs.opening.put_weights.Tie as tie
 
 abbrev Inv-loop : tie.InvT-loop
-Inv-loop m₀ k s a n i₀ m i = WrittenTo (λ l j. putSigned l (k + j) (i32At s (a + 4 * j))) m₀ m n i
+Inv-loop m₀ s a n i₀ m i = WrittenTo (λ l j. putSigned l (44 + j) (i32At s (a + 4 * j))) m₀ m n i
 
 abbrev μ-loop : tie.MeasureT-loop
-μ-loop m₀ k s a n i₀ m i = n - i
+μ-loop m₀ s a n i₀ m i = n - i
+
+-- a weight as a word's number
+wider : (w : ℤ) → SFits w32 w → SFits w64 w
+wider w fits = omega signed
+
+widened : (w : ℤ) → SFits w32 w → toZ w64 (ofZ w64 (toZ w32 (ofZ w32 w))) ≡ w
+widened w fits = rw (toZ-ofZ w32 w fits) (toZ-ofZ w64 w (wider w fits))
 
 loop-again : tie.Need-loop-again Inv-loop μ-loop
 loop-again c =

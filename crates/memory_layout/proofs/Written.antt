@@ -5,7 +5,7 @@ use native.Mathlib.Numerals.{add-one}
 use Rattle.words.specs.Bytes.{Bytes}
 use Rattle.words.specs.Words.{wordAt, putWord}
 use Rattle.words.proofs.Memory.{length-put, bytes-put, byte-put-other, word-put-same, word-put-other}
-use Rattle.memory_opening.specs.Opening.{cleared, written}
+use Rattle.memory_layout.specs.Opening.{cleared, written}
 
 -- ---- cleared words
 module _ (m : List ℕ) where
