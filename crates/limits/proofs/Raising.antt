@@ -10,7 +10,6 @@ use Rattle.ledger.specs.Positions.{Way, group, wayOf, wayBy, standsIn, ofInstru
 use Rattle.ledger.specs.Derivatives.{one}
 use Rattle.ledger.proofs.Amounts.{amount, amount-none, amount-sum}
 use Rattle.ledger.proofs.Sums.{Joined, Changed}
-use Rattle.ledger.proofs.Groups.{Of}
 use Rattle.ledger.proofs.Changes.{CountChanged, entered, replaced, shift-by, shift-group}
 use Rattle.ledger.proofs.Linear.{linear}
 use Rattle.limits.specs.Raised.{addedOn, Raised}

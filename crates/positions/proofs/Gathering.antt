@@ -1,6 +1,6 @@
 -- The cells in which B and V are gathered, order by order: of one account, or of each account in a row of its own.
 use Rattle.integers.specs.Basics.{ℕ, zero, suc, _+_, _≤_, _<_, _≡_, refl, _∙_, sym, ap, _≢_, true, cond, List, pos, _+ℤ_, +ℤ-idl, eqb}
-use Rattle.integers.specs.Basics.{length, getD, set, replicate, length-set, ℕ-discrete, arith, eq-eqb, ne-eqb}
+use Rattle.integers.specs.Basics.{length, getD, replicate, length-set, ℕ-discrete, arith, eq-eqb, ne-eqb}
 use lib.Seq.{getD-set-same, getD-set-other}
 use Rattle.ledger.specs.declared.order.Order.{Order}
 use Rattle.ledger.specs.declared.order.Side.{Side}

@@ -30,7 +30,8 @@ read c = rw (c .before .before .order .ensures) at (c .balance .ensures)
 -- what is filled, by the two details
 filled : (c : tie.After-filled2)
     → let at = c .before .before .before .before .before .before in
-    c .before .filled .result ≡ c .filled2 .result + filledIn (at .before .before .before .before .before .before .before .before .before .before .before .before .args .change)
+    let start = at .before .before .before .before .before .before .before .before .before .before .before .before in
+    c .before .filled .result ≡ c .filled2 .result + filledIn (start .args .change)
 filled c =
     let made = c .before .before .before .before .before .before .before .before .before .before .before .before .before .before .before in
     let a = made .before .before .before .args in
@@ -39,11 +40,17 @@ filled c =
     ∙ after-filled (a .change) (orderOf (a .id) (a .w .0))
     ∙ ap (λ n. n + filledIn (a .change)) (sym (c .filled2 .ensures (a .id)))
 
-moved : (c : tie.After-of) → let at = c .before .before .before .before .before .before .before in c .of .result .0 ≡ pos (filledIn (at .before .before .before .before .before .before .before .before .before .before .before .before .args .change))
+moved : (c : tie.After-of)
+    → let at = c .before .before .before .before .before .before .before in
+    let start = at .before .before .before .before .before .before .before .before .before .before .before .before in
+    c .of .result .0 ≡ pos (filledIn (start .args .change))
 moved c = c .of .ensures ∙ ap pos (omega (arith, filled (c .before)))
 
 of-requires : tie.Need-of-requires
-of-requires c κs = let at = c .before .before .before .before .before .before in omega (arith, filled c, filled-small (at .before .before .before .before .before .before .before .before .before .before .before .before .pre .0))
+of-requires c κs =
+    let at = c .before .before .before .before .before .before in
+    let start = at .before .before .before .before .before .before .before .before .before .before .before .before in
+    omega (arith, filled c, filled-small (start .pre .0))
 
 balance-after-requires : tie.Need-balance-after-requires
 balance-after-requires c κs =
@@ -54,7 +61,8 @@ balance-after-requires c κs =
 set-balance-requires : tie.Need-set-balance-requires
 set-balance-requires c κs =
     let made = c .before .before .before .before .before .before .before .before .before .before .before .before in
-    rw (made .order .ensures) (omega (arith, balance-room (made .before .before .before .before .before .before .before .before .before .before .pre .0)))
+    rw (made .order .ensures)
+    (omega (arith, balance-room (made .before .before .before .before .before .before .before .before .before .before .pre .0)))
 
 returns : tie.Need-returns
 returns c =
@@ -66,7 +74,8 @@ returns c =
     let start = made .before .before .before in
     let id = start .args .id in
     let stored = change-worked (start .pre .0) (record { sfits = at .balance .ok }) (read at)
-    (after .before .before .before .before .before .before .keep-order .ensures ∙ kept-there (start .pre .0) (made .detail-after .ensures id))
+    (after .before .before .before .before .before .before .keep-order .ensures
+    ∙ kept-there (start .pre .0) (made .detail-after .ensures id))
     (rw (moved (after .before), ordered .order .ensures) at (after .balance-after .ensures))
     (rw (ordered .order .ensures) at (c .before .before .set-balance .ensures)) in (
       stored,
@@ -79,6 +88,10 @@ returns c =
 pub change-order-spec : {M : Type 1} → statement M
 change-order-spec =
     tie.close (tie.spec (λ c κs. fitting (c .before .before .pre .0)) (λ c κs. search needs) (λ c κs. search needs) recount-requires
-    (λ c κs. search needs) (λ c κs. rw (c .before .order .ensures) (balance-readable (c .before .before .before .before .before .before .before .before .before .before .before .pre .0)))
-    (λ c κs. inside (c .before .before .before .before .before .before .before .before .before .before .before .before .before .pre .0)) (λ c κs. search needs) (λ c κs. search needs) (λ c. omega (arith, filled c)) of-requires
-    balance-after-requires set-balance-requires (λ c. search needs) (λ c. search needs) returns)
+    (λ c κs. search needs)
+    (λ c κs. let start = c .before .before .before .before .before .before .before .before .before .before .before in
+    rw (c .before .order .ensures) (balance-readable (start .pre .0)))
+    (λ c κs. let start = c .before .before .before .before .before .before .before .before .before .before .before .before .before in
+    inside (start .pre .0))
+    (λ c κs. search needs) (λ c κs. search needs) (λ c. omega (arith, filled c)) of-requires balance-after-requires
+    set-balance-requires (λ c. search needs) (λ c. search needs) returns)
