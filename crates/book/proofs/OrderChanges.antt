@@ -45,6 +45,11 @@ after-filled (Replace n) o = omega arith
 after-filled Cancel o = omega arith
 after-filled (Fill n) o = refl
 
+-- of a FILL by no more than remains, what remains and is filled is what remained
+pub fill-remains : (o : Order) (n : ℤ) → natAbs n ≤ remaining o → remaining (orderAfter (Fill n) o) + natAbs n ≡ remaining o
+unfolding orderAfter filledBy remaining
+fill-remains o n most = omega arith
+
 -- past 9 and 12, the total stays in range, and no more is filled than it
 pub after-fits : (c : OrderChange) (o : Order) → o .filled ≤ o .total → o .total ≤ 1000000 → changeInRange c ≡ true → fitsOrder c o ≡ true
     → (orderAfter c o .total ≤ 1000000) × (orderAfter c o .filled ≤ orderAfter c o .total)

@@ -1,7 +1,7 @@
 //! A desk's memory by its documented layout: 8,192 little-endian words of 64 bits, read into the
 //! second implementation's data.
 //!
-//! Written from the table in `crates/layout/specs/Layout.antt`. It shares no code with the gate.
+//! Written from the table in `crates/memory_layout/specs/Layout.antt`. It shares no code with the gate.
 
 mod detail;
 mod field;
