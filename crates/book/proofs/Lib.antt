@@ -9,6 +9,7 @@ pub mod Cuts
 pub mod Ids
 pub mod Accepted
 pub mod Tables
+pub mod Settings
 pub mod TableLaws
 pub mod Marks
 pub mod Shifts

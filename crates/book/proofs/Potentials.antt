@@ -9,9 +9,10 @@ use Rattle.ledger.proofs.Changes.{shift-down, shift-unmoved, shift-of-another, 
 use Rattle.ledger.proofs.Changes.{shift-by}
 use Rattle.ledger.proofs.Ways.{other-side, side-back}
 use Rattle.ledger.proofs.Linear.{linear}
+use Rattle.book.specs.declared.Setting.the-variants.{Balance}
 use Rattle.book.specs.declared.OrderChange.{OrderChange}
 use Rattle.book.specs.declared.OrderChange.the-variants.{Replace, Cancel, Fill}
-use Rattle.book.specs.declared.Event.the-variants.{Balance, New, Change}
+use Rattle.book.specs.declared.Event.the-variants.{Set, New, Change}
 use Rattle.book.specs.OpenOrders.{find}
 use Rattle.book.specs.Books.{at, newOrder, changedBalances, bookAfter}
 use Rattle.book.specs.States.{State, work}
@@ -21,7 +22,7 @@ use Rattle.book.proofs.Shifts.{remainsAfter, filledIn, new-shift, chang
 
 module _ (k : State) (a : ℕ) (p : Scope) (w : Way) where
   -- BALANCE moves none of another account
-  pub balance-other : (c i : ℕ) (z : ℤ) → a ≢ c → potentialOf (work k (Balance c i z)) a p w ≡ potentialOf k a p w
+  pub balance-other : (c i : ℕ) (z : ℤ) → a ≢ c → potentialOf (work k (Set (Balance c i z))) a p w ≡ potentialOf k a p w
   unfolding bookAfter
   balance-other c i z other =
       ap (λ S. potential (k .market .unit) (k .roster) (k .book .orders) a S p w)
@@ -29,7 +30,7 @@ module _ (k : State) (a : ℕ) (p : Scope) (w : Way) where
 
   -- and where the account has no open order, its potential positions are its positions
   pub balance-own : (i : ℕ) (z : ℤ) → ((o : Order) → List·Memᴰ o (k .book .orders) → o .account ≢ a)
-      → potentialOf (work k (Balance a i z)) a p w ≡ position (k .roster) (at i z (k .book .balanceOf a)) p w
+      → potentialOf (work k (Set (Balance a i z))) a p w ≡ position (k .roster) (at i z (k .book .balanceOf a)) p w
   unfolding bookAfter
   balance-own i z none-open =
       ap (λ S. potential (k .market .unit) (k .roster) (k .book .orders) a S p w)
