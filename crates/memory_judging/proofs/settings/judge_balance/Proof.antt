@@ -60,7 +60,8 @@ is-trading-requires c κs =
 -- the three tests are passed, and t says whether the account trades
 answered : (c : tie.After-is-trading) (t : Bool)
     → let a = c .before .before .before .before .before .before .before .before .before .args in
-    tradingOf (a .m .now) (a .account) ≡ t → judged (a .m .now) (Set (Balance (a .account) (a .instrument) (a .balance))) ≡ cond (not t) 0 10
+    tradingOf (a .m .now) (a .account) ≡ t
+    → judged (a .m .now) (Set (Balance (a .account) (a .instrument) (a .balance))) ≡ cond (not t) 0 10
 answered c t e =
     let three = c .before in
     let two = three .before .before .before in

@@ -34,7 +34,8 @@ judge-limit-spec =
     (λ c. sym (set-answer _ _ false _ _ _ (answered-no _ _ (c .before .account-known .ensures) (c .if1 .taken)) refl refl refl))
     (λ c κs. search needs)
     (λ c. sym
-    (set-answer _ _ true false _ _ (known (c .before .before)) (answered-no _ _ (c .before .line-known .ensures) (c .if2 .taken)) refl refl))
+    (set-answer _ _ true false _ _ (known (c .before .before)) (answered-no _ _ (c .before .line-known .ensures) (c .if2 .taken)) refl
+    refl))
     (λ c κs. search needs) (λ c κs. search needs)
     (λ c. sym (answered (c .before) false (answered-no _ _ (c .before .limit-fits .ensures) (c .if3 .taken))))
     (λ c. sym (answered (c .before) true (answered-yes _ _ (c .before .limit-fits .ensures) (c .if3 .left)))))
