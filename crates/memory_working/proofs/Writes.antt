@@ -36,16 +36,16 @@ module _ (m : List ℕ) (e : Event) (P : List ℕ → Type 0) (keeps : (l : List
     (held : SoundMemory m) where
   -- a word behind the roster, of an event of an order
   of-order : (NoOrder e → ⊥) → (k v : ℕ) → 112 ≤ k → k < 8192 → (k ≡ 113 → v ≤ 256) → (1536 ≤ k → k < 2880 → ⊥) → Stores m e k v
-  of-order no-setting k v low high first apart =
-      record { low = low; high = high; aside = λ s. absurd (no-setting s); first = first; figures = λ a b. absurd (apart a b) }
+  of-order an-order k v low high first apart =
+      record { low = low; high = high; aside = λ s. absurd (an-order s); first = first; figures = λ a b. absurd (apart a b) }
 
   keeps-list : (NoOrder e → ⊥) → (f : ℕ) → f ≤ 256 → judged m e ≡ 0 → P m
       → P (storeFrom m f (work (view m) e .book .orders))
-  keeps-list no-setting f inside passes =
+  keeps-list an-order f inside passes =
       keeps-orders (Stores m e) P keeps
-      (λ j v low high. of-order no-setting j v (omega arith) (omega arith) (λ same. omega arith) (λ a b. omega arith))
-      (λ v. of-order no-setting 112 v (omega arith) (omega arith) (λ same. omega arith) (λ a b. omega arith))
-      (λ v small. of-order no-setting 113 v (omega arith) (omega arith) (λ same. small) (λ a b. omega arith))
+      (λ j v low high. of-order an-order j v (omega arith) (omega arith) (λ same. omega arith) (λ a b. omega arith))
+      (λ v. of-order an-order 112 v (omega arith) (omega arith) (λ same. omega arith) (λ a b. omega arith))
+      (λ v small. of-order an-order 113 v (omega arith) (omega arith) (λ same. small) (λ a b. omega arith))
       m f _ inside (few-after m held e passes)
 
 pub worked-keeps : (m : List ℕ) (e : Event) (P : List ℕ → Type 0) → ((l : List ℕ) (k v : ℕ) → Stores m e k v → P l → P (putWord l k v))
