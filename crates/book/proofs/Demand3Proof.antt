@@ -8,7 +8,6 @@ use Rattle.ledger.proofs.Upper.{upper, upper-standing}
 use Rattle.limits.specs.Lines.{limit}
 use Rattle.limits.proofs.Refusals.{refused-iff}
 use Rattle.book.specs.declared.Event.{Event}
-use Rattle.book.specs.declared.Event.the-variants.{Limit, Balance, Block, New, Change, Junk}
 use Rattle.book.specs.States.{State, work}
 use Rattle.book.specs.Positions.{potentialOf}
 use Rattle.book.specs.Table.{notYetTrading, entered}
@@ -27,13 +26,9 @@ use Rattle.book.proofs.Runs.{Holds, answers, holds-worked, holds-after,
 -- an accepted event sets no balance of an account that is trading
 no-balance : (k : State) (a : ℕ) → k .beside .trading a ≡ true → (e : Event) → Passed k e → SetsNoBalance a e
 unfolding notYetTrading
-no-balance k a marked (Limit c l) ok = tt
-no-balance k a marked (Balance c i z) ok =
-    λ own. true≢false (sym marked ∙ (rw (← own) at (not-true (k .beside .trading c) (ok .idle))))
-no-balance k a marked (Block what z) ok = tt
-no-balance k a marked (New s c i id n) ok = tt
-no-balance k a marked (Change id c) ok = tt
-no-balance k a marked Junk ok = tt
+no-balance k a marked e ok own =
+    let idle = rw own at (ok .idle) in
+    true≢false (sym marked ∙ not-true (k .beside .trading a) idle)
 
 module _ {D : Desk} (C : Contract D) where
   -- ---- the first half: refused for a position limit exactly when some filling passes one

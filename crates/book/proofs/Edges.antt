@@ -4,8 +4,9 @@ use Rattle.ledger.specs.declared.order.Order.{Order}
 use Rattle.ledger.specs.declared.order.Side.the-variants.{Buy, Sell}
 use Rattle.ledger.specs.Roster.{Roster}
 use Rattle.book.specs.declared.LimitLine.the-variants.{Default, OfGroup}
+use Rattle.book.specs.declared.Setting.the-variants.{Limit, Balance}
 use Rattle.book.specs.declared.Event.{Event}
-use Rattle.book.specs.declared.Event.the-variants.{Limit, Balance, New}
+use Rattle.book.specs.declared.Event.the-variants.{Set, New}
 use Rattle.book.specs.Market.{derivatives}
 use Rattle.book.specs.Decoding.{decode}
 use Rattle.book.specs.Books.{withOrders, newOrder}
@@ -53,10 +54,10 @@ starred-positions = refl
 
 -- their events, N the last, as document 01 has them: limits that are not named bind nothing
 abbrev lineSet : (tci tvi lci lvi : ℕ) → Event
-lineSet tci tvi lci lvi = Limit 1 (Default 1 (record { tci = pos tci; tvi = pos tvi; lci = pos lci; lvi = pos lvi }))
+lineSet tci tvi lci lvi = Set (Limit 1 (Default 1 (record { tci = pos tci; tvi = pos tvi; lci = pos lci; lvi = pos lvi })))
 
 abbrev groupSet : (lcc lvc : ℕ) → Event
-groupSet lcc lvc = Limit 1 (OfGroup 1 (pos lcc) (pos lvc))
+groupSet lcc lvc = Set (Limit 1 (OfGroup 1 (pos lcc) (pos lvc)))
 
 abbrev anyLine : Event
 anyLine = lineSet 1000000 1000000 1000000000 1000000000
@@ -68,7 +69,7 @@ abbrev tableFive : (tvi lvi : ℕ) → List Event
 tableFive tvi lvi =
     anyLine
     ∷ anyGroup
-    ∷ Balance 1 1 (minus 10000)
+    ∷ Set (Balance 1 1 (minus 10000))
     ∷ New Buy 1 1 1 (pos 5000)
     ∷ New Sell 1 1 2 (pos 5000)
     ∷ lineSet 10000 tvi 1000000 lvi
@@ -79,10 +80,10 @@ pub starred-events : map (λ c. decoded (c .events ++ (c .order ∷ []))) starre
     ≡ tableFive 2500 21000
     ∷ tableFive 10000 21000
     ∷ tableFive 10000 25000
-    ∷ (anyLine ∷ anyGroup ∷ Balance 1 1 (pos 100000) ∷ New Buy 1 1 1 (pos 50000) ∷ New Sell 1 1 2 (pos 200000) ∷ [])
-    ∷ (anyLine ∷ anyGroup ∷ Balance 1 1 (minus 5000) ∷ New Buy 1 1 1 (pos 1000) ∷ [])
-    ∷ (lineSet 1000000 1000000 0 1000000000 ∷ anyGroup ∷ Balance 1 1 (minus 2) ∷ New Buy 1 1 1 (pos 2) ∷ [])
-    ∷ (lineSet 1000000 1000000 0 1000000000 ∷ anyGroup ∷ Balance 1 1 (minus 2) ∷ New Buy 1 1 1 (pos 3) ∷ [])
+    ∷ (anyLine ∷ anyGroup ∷ Set (Balance 1 1 (pos 100000)) ∷ New Buy 1 1 1 (pos 50000) ∷ New Sell 1 1 2 (pos 200000) ∷ [])
+    ∷ (anyLine ∷ anyGroup ∷ Set (Balance 1 1 (minus 5000)) ∷ New Buy 1 1 1 (pos 1000) ∷ [])
+    ∷ (lineSet 1000000 1000000 0 1000000000 ∷ anyGroup ∷ Set (Balance 1 1 (minus 2)) ∷ New Buy 1 1 1 (pos 2) ∷ [])
+    ∷ (lineSet 1000000 1000000 0 1000000000 ∷ anyGroup ∷ Set (Balance 1 1 (minus 2)) ∷ New Buy 1 1 1 (pos 3) ∷ [])
     ∷ (anyLine ∷ anyGroup ∷ groupSet 0 1000000 ∷ New Sell 1 2 1 (pos 1) ∷ [])
     ∷ (anyLine ∷ anyGroup ∷ groupSet 0 0 ∷ New Sell 1 3 1 (pos 1) ∷ [])
     ∷ []

@@ -10,6 +10,7 @@ pub mod OrderChanges
 pub mod Ids
 pub mod Accepted
 pub mod Tables
+pub mod Settings
 pub mod TableLaws
 pub mod Marks
 pub mod Shifts

@@ -4,7 +4,7 @@ use Rattle.ledger.specs.declared.order.Order.{Order}
 use Rattle.ledger.specs.Orders.{replacedTotal}
 use Rattle.limits.proofs.LineLaws.{none-some}
 use Rattle.book.specs.declared.Event.{Event}
-use Rattle.book.specs.declared.Event.the-variants.{Limit, Balance, Block, New, Change, Junk}
+use Rattle.book.specs.declared.Event.the-variants.{Set, New, Change, Junk}
 use Rattle.book.specs.OpenOrders.{find}
 use Rattle.book.specs.Books.{newOrder, bookAfter}
 use Rattle.book.specs.States.{State, mark, work}
@@ -16,9 +16,7 @@ use Rattle.book.proofs.OrderChanges.{raised-found}
 
 pub enters-lines : (k : State) (e : Event) (o : Order) → entered (k .book) e ≡ some o → work k e .book .linesOf ≡ k .book .linesOf
 unfolding entered bookAfter
-enters-lines k (Limit c l) o enters = none-some o enters
-enters-lines k (Balance c i z) o enters = refl
-enters-lines k (Block what z) o enters = refl
+enters-lines k (Set x) o enters = none-some o enters
 enters-lines k (New s c i id n) o enters = refl
 enters-lines k (Change id c) o enters = refl
 enters-lines k Junk o enters = refl
@@ -26,9 +24,7 @@ enters-lines k Junk o enters = refl
 pub enters-marked : (k : State) → Sound k → (e : Event) (o : Order) → entered (k .book) e ≡ some o
     → work k e .beside .trading (o .account) ≡ true
 unfolding entered mark newOrder replacedTotal
-enters-marked k sound (Limit c l) o enters = none-some o enters
-enters-marked k sound (Balance c i z) o enters = none-some o enters
-enters-marked k sound (Block what z) o enters = none-some o enters
+enters-marked k sound (Set x) o enters = none-some o enters
 enters-marked k sound (New s c i id n) o enters =
     let same : newOrder s c i id n ≡ o = cc in
     rw (← same) (at-here c true (k .beside .trading) c refl)

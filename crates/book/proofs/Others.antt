@@ -1,12 +1,15 @@
 -- An event of one account leaves every other account's orders, balances and lines as they were.
-use Rattle.integers.specs.Basics.{ℕ, _≡_, refl, _∙_, sym, ap, inr, ⊎-elim, _↔_, _≢_, List, List·Memᴰ, some, _+ℤ_, +ℤ-idr}
+use Rattle.integers.specs.Basics.{ℕ, _≡_, refl, _∙_, sym, ap, inr, ⊎-elim, _↔_, _≢_, List, List·Memᴰ, Option, none, some, ℤ, _+ℤ_, +ℤ-idr}
 use mathlib.Core.Logic.{Iff·rfl}
 use Rattle.ledger.specs.declared.order.Order.{Order}
 use Rattle.ledger.proofs.Amounts.{fill-apart}
+use Rattle.limits.specs.Lines.{Lines}
+use Rattle.book.specs.declared.Setting.{Setting}
 use Rattle.book.specs.declared.Event.{Event}
-use Rattle.book.specs.declared.Event.the-variants.{Limit, Balance, Block, New, Change, Junk}
+use Rattle.book.specs.declared.Event.the-variants.{Set, New, Change, Junk}
+use Rattle.book.specs.Settings.{IsLimit, asLimit, IsBalance, asBalance}
 use Rattle.book.specs.OpenOrders.{find, change}
-use Rattle.book.specs.Books.{Book, at, setLine, newOrder, changed, filledIn, bookAfter}
+use Rattle.book.specs.Books.{Book, at, setLine, setLines, setBalances, newOrder, changed, filledIn, bookAfter}
 use Rattle.book.specs.States.{State, work}
 use Rattle.book.specs.Sound.{Ascending, Sound}
 use Rattle.book.proofs.Cuts.{insert-members}
@@ -17,11 +20,9 @@ use Rattle.book.proofs.Shifts.{change-balances}
 use Rattle.book.proofs.Within.{named-order}
 use Rattle.book.proofs.SoundOrders.{changed-account}
 
--- the event is not of account a: it names another, or an order of another
+-- the event is not of account a: it sets a line or a balance of another, or enters or changes an order of another
 abbrev pub OfAnother : ℕ → Book → Event → Type 0
-OfAnother a b (Limit c l) = a ≢ c
-OfAnother a b (Balance c i z) = a ≢ c
-OfAnother a b (Block what z) = Unit
+OfAnother a b (Set x) = ((l : IsLimit x) → a ≢ l .account) × ((z : IsBalance x) → a ≢ z .account)
 OfAnother a b (New s c i id n) = a ≢ c
 OfAnother a b (Change id c) = (o : Order) → find id (b .orders) ≡ some o → a ≢ o .account
 OfAnother a b Junk = Unit
@@ -47,22 +48,25 @@ changed-elsewhere {least} {os} asc a id f o found other same x own = (
         let one : x ≡ o = cc in
         other (sym own ∙ ap (λ y. y .account) one)
 
+-- lines and balances with those set of another account
+module _ {x : Setting} (a : ℕ) where
+  lines-elsewhere : (ls : ℕ → Lines) → ((l : IsLimit x) → a ≢ l .account) → (y : Option (IsLimit x)) → setLines y ls a ≡ ls a
+  lines-elsewhere ls other none = refl
+  lines-elsewhere ls other (some s) = at-elsewhere (s .account) (setLine (s .line) (ls (s .account))) ls a (other s)
+
+  balances-elsewhere : (S : ℕ → ℕ → ℤ) → ((z : IsBalance x) → a ≢ z .account) → (y : Option (IsBalance x)) → setBalances y S a ≡ S a
+  balances-elsewhere S other none = refl
+  balances-elsewhere S other (some s) = at-elsewhere (s .account) (at (s .instrument) (s .balance) (S (s .account))) S a (other s)
+
 module _ (k : State) (sound : Sound k) (a : ℕ) where
   pub untouched : (e : Event) → Passed k e → OfAnother a (k .book) e → Untouched a (k .book) (work k e .book)
   unfolding bookAfter newOrder
-  untouched (Limit c l) ok other =
+  untouched (Set x) ok other =
       record {
-        orders = λ x own. Iff·rfl;
-        balances = λ i. refl;
-        lines = at-elsewhere c (setLine l (k .book .linesOf c)) (k .book .linesOf) a other;
+        orders = λ y own. Iff·rfl;
+        balances = λ j. ap (λ S. S j) (balances-elsewhere a (k .book .balanceOf) (other .1) (asBalance x));
+        lines = lines-elsewhere a (k .book .linesOf) (other .0) (asLimit x);
       }
-  untouched (Balance c i z) ok other =
-      record {
-        orders = λ x own. Iff·rfl;
-        balances = λ j. ap (λ S. S j) (at-elsewhere c (at i z (k .book .balanceOf c)) (k .book .balanceOf) a other);
-        lines = refl;
-      }
-  untouched (Block what z) ok other = record { orders = λ x own. Iff·rfl; balances = λ i. refl; lines = refl }
   untouched (New s c i id n) ok other =
       record {
         orders = λ x own. (

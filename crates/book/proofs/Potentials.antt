@@ -6,8 +6,9 @@ use Rattle.ledger.specs.Orders.{remaining}
 use Rattle.ledger.specs.Positions.{Way, Scope, instrument, opposite, wayOf, potential, position}
 use Rattle.ledger.specs.Moves.{Moves}
 use Rattle.ledger.proofs.Changes.{shift-unmoved, shift-of-another, shift-by, change-here, change-opposite, lowers, unmoved, idle}
+use Rattle.book.specs.declared.Setting.the-variants.{Balance}
 use Rattle.book.specs.declared.OrderChange.{OrderChange}
-use Rattle.book.specs.declared.Event.the-variants.{Balance, New, Change}
+use Rattle.book.specs.declared.Event.the-variants.{Set, New, Change}
 use Rattle.book.specs.OpenOrders.{find}
 use Rattle.book.specs.Books.{at, newOrder, orderAfter, filledIn, bookAfter}
 use Rattle.book.specs.States.{State, work}
@@ -17,7 +18,7 @@ use Rattle.book.proofs.Shifts.{new-shift, change-shift, change-balances
 
 module _ (k : State) (a : ℕ) (p : Scope) (w : Way) where
   -- BALANCE moves none of another account
-  pub balance-other : (c i : ℕ) (z : ℤ) → a ≢ c → potentialOf (work k (Balance c i z)) a p w ≡ potentialOf k a p w
+  pub balance-other : (c i : ℕ) (z : ℤ) → a ≢ c → potentialOf (work k (Set (Balance c i z))) a p w ≡ potentialOf k a p w
   unfolding bookAfter
   balance-other c i z other =
       ap (λ S. potential (k .market .unit) (k .roster) (k .book .orders) a S p w)
@@ -25,7 +26,7 @@ module _ (k : State) (a : ℕ) (p : Scope) (w : Way) where
 
   -- and where the account has no open order, its potential positions are its positions
   pub balance-own : (i : ℕ) (z : ℤ) → ((o : Order) → List·Memᴰ o (k .book .orders) → o .account ≢ a)
-      → potentialOf (work k (Balance a i z)) a p w ≡ position (k .roster) (at i z (k .book .balanceOf a)) p w
+      → potentialOf (work k (Set (Balance a i z))) a p w ≡ position (k .roster) (at i z (k .book .balanceOf a)) p w
   unfolding bookAfter
   balance-own i z none-open =
       ap (λ S. potential (k .market .unit) (k .roster) (k .book .orders) a S p w)

@@ -5,8 +5,9 @@ use Rattle.ledger.specs.declared.order.Side.the-variants.{Buy, Sell}
 use Rattle.ledger.specs.Roster.{Roster}
 use Rattle.book.specs.declared.Figures.{Figures}
 use Rattle.book.specs.declared.LimitLine.the-variants.{Default, OfGroup}
+use Rattle.book.specs.declared.Setting.the-variants.{Limit, Balance}
 use Rattle.book.specs.declared.Event.{Event}
-use Rattle.book.specs.declared.Event.the-variants.{Limit, Balance, New}
+use Rattle.book.specs.declared.Event.the-variants.{Set, New}
 use Rattle.book.specs.Positions.{groupIn}
 use Rattle.book.specs.Days.{answersTo, endOf}
 use Rattle.book.specs.Market.{derivatives}
@@ -40,12 +41,12 @@ line = record { tci = pos 1000; tvi = pos 1000; lci = pos 2000; lvi = pos 0 }
 -- balances of 2,000 in K8D8, K8D0, K8D9 and K8DB; sells of 2,000 in K8D8 and in K8D0, by two orders each
 abbrev morning : List Event
 morning =
-    Limit 1 (Default 1 line)
-    ∷ Limit 1 (OfGroup 1 (pos 5000) (pos 5000))
-    ∷ Balance 1 4 (pos 2000)
-    ∷ Balance 1 2 (pos 2000)
-    ∷ Balance 1 5 (pos 2000)
-    ∷ Balance 1 1 (pos 2000)
+    Set (Limit 1 (Default 1 line))
+    ∷ Set (Limit 1 (OfGroup 1 (pos 5000) (pos 5000)))
+    ∷ Set (Balance 1 4 (pos 2000))
+    ∷ Set (Balance 1 2 (pos 2000))
+    ∷ Set (Balance 1 5 (pos 2000))
+    ∷ Set (Balance 1 1 (pos 2000))
     ∷ New Sell 1 4 1 (pos 1000)
     ∷ New Sell 1 4 2 (pos 1000)
     ∷ New Sell 1 2 3 (pos 1000)

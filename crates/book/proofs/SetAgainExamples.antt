@@ -5,8 +5,9 @@ use Rattle.ledger.specs.Positions.{Scope, instrument, group}
 use Rattle.limits.specs.Lines.{Line}
 use Rattle.book.specs.declared.Figures.{Figures}
 use Rattle.book.specs.declared.LimitLine.the-variants.{Own, Default, OfGroup}
-use Rattle.book.specs.declared.Event.{Event}
-use Rattle.book.specs.declared.Event.the-variants.{Limit, Balance}
+use Rattle.book.specs.declared.Setting.{Setting}
+use Rattle.book.specs.declared.Setting.the-variants.{Limit, Balance}
+use Rattle.book.specs.declared.Event.the-variants.{Set}
 use Rattle.book.specs.Market.{derivatives}
 use Rattle.book.specs.Books.{Book, at, unsets, lineOf, groupLineOf, setLine, bookAfter}
 use Rattle.book.specs.SetAgain.{lineSet, lineOver, SetsAgain}
@@ -37,9 +38,9 @@ book =
       orders = [];
     }
 
-abbrev Again : Event → Scope → Type 0
-Again e p =
-    SetsAgain (record { market = derivatives; roster = roster; book = book; beside = record { trading = λ a. false } }) e 1 p
+abbrev Again : Setting → Scope → Type 0
+Again x p =
+    SetsAgain (record { market = derivatives; roster = roster; book = book; beside = record { trading = λ a. false } }) (Set x) 1 p
 
 -- the own line is unset while it is not set: nothing in force changes
 unset-twice : ¬ Again (Limit 1 (Own 1 (figures (negsuc 0)))) (instrument 1)

@@ -8,52 +8,58 @@ use Rattle.limits.proofs.LineLaws.{none-some}
 use Rattle.book.specs.declared.Figures.{Figures}
 use Rattle.book.specs.declared.LimitLine.{LimitLine}
 use Rattle.book.specs.declared.LimitLine.the-variants.{Own, Default, OfGroup}
+use Rattle.book.specs.declared.Setting.the-variants.{Limit}
 use Rattle.book.specs.declared.Event.{Event}
-use Rattle.book.specs.declared.Event.the-variants.{Limit, Balance, Block, New, Change, Junk}
+use Rattle.book.specs.declared.Event.the-variants.{Set, New, Change, Junk}
 use Rattle.book.specs.Books.{setLine}
 use Rattle.book.specs.States.{State, work}
 use Rattle.book.specs.SetAgain.{LineName, nameOf, ownLine, defaultLine, groupLine, lineSet, SetsAgain}
+use Rattle.book.proofs.Settings.{by-limit}
 use Rattle.book.proofs.LimitsStay.{under-own, under-default, group-set-again, lines-own}
 
 -- ---- "by an accepted LIMIT": no other event sets a line, and a LIMIT sets the one that it names
-pub set-by-that-limit : (e : Event) (n : LineName) → (lineSet e ≡ some n) ↔ ((a : ℕ) × (l : LimitLine) × (e ≡ Limit a l) × (n ≡ nameOf a l))
+abbrev pub IsLimitOn : LineName → Event → Type 0
+IsLimitOn n e = (a : ℕ) × (l : LimitLine) × (e ≡ Set (Limit a l)) × (n ≡ nameOf a l)
+
+pub set-by-that-limit : (e : Event) (n : LineName) → (lineSet e ≡ some n) ↔ IsLimitOn n e
 unfolding lineSet
 set-by-that-limit e n = (there e, λ h. rw (h .2, h .3))
   where
-    there : (e : Event) → lineSet e ≡ some n → (a : ℕ) × (l : LimitLine) × (e ≡ Limit a l) × (n ≡ nameOf a l)
-    there (Limit a l) h = (a, l, refl, cc)
-    there (Balance a i z) h = none-some n h
-    there (Block what z) h = none-some n h
+    there : (e : Event) → lineSet e ≡ some n → IsLimitOn n e
+    there (Set x) h =
+        by-limit (λ s. lineSet (Set s) ≡ some n → IsLimitOn n (Set s)) x (λ a l h. (a, l, refl, cc))
+        (λ none h. none-some n (rw none at h)) h
     there (New s a i id q) h = none-some n h
     there (Change id c) h = none-some n h
     there Junk h = none-some n h
 
 -- an instrument's own line, a contract's default line, a group's line: each by a LIMIT of the account on it
-pub own-line-set : (e : Event) (a i : ℕ) → (lineSet e ≡ some (ownLine a i)) ↔ ((f : Figures) × (e ≡ Limit a (Own i f)))
+pub own-line-set : (e : Event) (a i : ℕ) → (lineSet e ≡ some (ownLine a i)) ↔ ((f : Figures) × (e ≡ Set (Limit a (Own i f))))
 unfolding lineSet
 own-line-set e a i = (λ h. let that = set-by-that-limit e (ownLine a i) .0 h in by (that .0) (that .1) (that .3) (that .2), λ h. rw (h .1))
   where
-    by : (c : ℕ) (l : LimitLine) → ownLine a i ≡ nameOf c l → e ≡ Limit c l → (f : Figures) × (e ≡ Limit a (Own i f))
+    by : (c : ℕ) (l : LimitLine) → ownLine a i ≡ nameOf c l → e ≡ Set (Limit c l) → (f : Figures) × (e ≡ Set (Limit a (Own i f)))
     by c (Own j f) n h = (f, cc)
     by c (Default d f) n h = absurd (let z : _≡_ {A = ℕ} 0 1 = cc in omega arith)
     by c (OfGroup g x y) n h = absurd (let z : _≡_ {A = ℕ} 0 1 = cc in omega arith)
 
-pub default-line-set : (e : Event) (a c : ℕ) → (lineSet e ≡ some (defaultLine a c)) ↔ ((f : Figures) × (e ≡ Limit a (Default c f)))
+pub default-line-set : (e : Event) (a c : ℕ) → (lineSet e ≡ some (defaultLine a c)) ↔ ((f : Figures) × (e ≡ Set (Limit a (Default c f))))
 unfolding lineSet
 default-line-set e a c =
     (λ h. let that = set-by-that-limit e (defaultLine a c) .0 h in by (that .0) (that .1) (that .3) (that .2), λ h. rw (h .1))
   where
-    by : (d : ℕ) (l : LimitLine) → defaultLine a c ≡ nameOf d l → e ≡ Limit d l → (f : Figures) × (e ≡ Limit a (Default c f))
+    by : (d : ℕ) (l : LimitLine) → defaultLine a c ≡ nameOf d l → e ≡ Set (Limit d l) → (f : Figures) × (e ≡ Set (Limit a (Default c f)))
     by d (Own j f) n h = absurd (let z : _≡_ {A = ℕ} 0 1 = cc in omega arith)
     by d (Default k f) n h = (f, cc)
     by d (OfGroup g x y) n h = absurd (let z : _≡_ {A = ℕ} 0 1 = cc in omega arith)
 
-pub group-line-set : (e : Event) (a g : ℕ) → (lineSet e ≡ some (groupLine a g)) ↔ ((x : ℤ) × (y : ℤ) × (e ≡ Limit a (OfGroup g x y)))
+pub group-line-set : (e : Event) (a g : ℕ) → (lineSet e ≡ some (groupLine a g)) ↔ ((x : ℤ) × (y : ℤ) × (e ≡ Set (Limit a (OfGroup g x y))))
 unfolding lineSet
 group-line-set e a g =
     (λ h. let that = set-by-that-limit e (groupLine a g) .0 h in by (that .0) (that .1) (that .3) (that .2), λ h. rw (h .2))
   where
-    by : (c : ℕ) (l : LimitLine) → groupLine a g ≡ nameOf c l → e ≡ Limit c l → (x : ℤ) × (y : ℤ) × (e ≡ Limit a (OfGroup g x y))
+    by : (c : ℕ) (l : LimitLine) → groupLine a g ≡ nameOf c l → e ≡ Set (Limit c l)
+        → (x : ℤ) × (y : ℤ) × (e ≡ Set (Limit a (OfGroup g x y)))
     by c (Own j f) n h = absurd (let z : _≡_ {A = ℕ} 0 1 = cc in omega arith)
     by c (Default d f) n h = absurd (let z : _≡_ {A = ℕ} 0 1 = cc in omega arith)
     by c (OfGroup k x y) n h = (x, y, cc)
@@ -91,13 +97,13 @@ module _ (k : State) (e : Event) (a : ℕ) where
       )
 
   -- ---- the same with the events written out
-  pub group-again : (g : ℕ) → SetsAgain k e a (group g) ↔ ((x : ℤ) × (y : ℤ) × (e ≡ Limit a (OfGroup g x y)))
+  pub group-again : (g : ℕ) → SetsAgain k e a (group g) ↔ ((x : ℤ) × (y : ℤ) × (e ≡ Set (Limit a (OfGroup g x y))))
   group-again g = Iff·trans (group-set-again k e a g) (group-line-set e a g)
 
   pub instrument-again : (i : ℕ) → SetsAgain k e a (instrument i)
-      ↔ ((((f : Figures) × (e ≡ Limit a (Own i f)))
+      ↔ ((((f : Figures) × (e ≡ Set (Limit a (Own i f))))
       × ((isSet (k .book .linesOf a .ownOf i) ≡ true) ⊎ (isSet (work k e .book .linesOf a .ownOf i) ≡ true))) ⊎
-      (((f : Figures) × (e ≡ Limit a (Default (k .roster .contractOf i) f))) × (isSet (k .book .linesOf a .ownOf i) ≡ false)))
+      (((f : Figures) × (e ≡ Set (Limit a (Default (k .roster .contractOf i) f)))) × (isSet (k .book .linesOf a .ownOf i) ≡ false)))
   instrument-again i =
       let own = own-line-set e a i in
       let default = default-line-set e a (k .roster .contractOf i) in

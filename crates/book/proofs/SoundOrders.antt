@@ -10,7 +10,7 @@ use Rattle.limits.specs.Lines.{isSet}
 use Rattle.limits.proofs.LineLaws.{unset-none}
 use Rattle.book.specs.declared.Event.{Event}
 use Rattle.book.specs.declared.OrderChange.{OrderChange}
-use Rattle.book.specs.declared.Event.the-variants.{Limit, Balance, Block, New, Change, Junk}
+use Rattle.book.specs.declared.Event.the-variants.{Set, New, Change, Junk}
 use Rattle.book.specs.OpenOrders.{find, change, kept}
 use Rattle.book.specs.Books.{newOrder, orderAfter, changed, bookAfter}
 use Rattle.book.specs.States.{State, mark, work}
@@ -80,9 +80,7 @@ module _ (k : State) (sound : Sound k) where
 
   pub fits-after : (e : Event) → Passed k e → (x : Order) → List·Memᴰ x (work k e .book .orders) → OrderFits (k .roster) x
   unfolding bookAfter accountKnown itemKnown figuresFit
-  fits-after (Limit a l) ok x m = sound .fits x m
-  fits-after (Balance a i z) ok x m = sound .fits x m
-  fits-after (Block what z) ok x m = sound .fits x m
+  fits-after (Set y) ok x m = sound .fits x m
   fits-after (New s a i id n) ok x m =
       let r = k .roster in
       let new = new-fits r s a i id n (between-numbered (r .accounts) a (ok .account)) (between-numbered (r .instruments) i (ok .item))
@@ -97,9 +95,7 @@ module _ (k : State) (sound : Sound k) where
 
   pub count-after : (e : Event) → Passed k e → length (work k e .book .orders) ≤ 256
   unfolding bookAfter placeFree
-  count-after (Limit a l) ok = sound .count
-  count-after (Balance a i z) ok = sound .count
-  count-after (Block what z) ok = sound .count
+  count-after (Set x) ok = sound .count
   count-after (New s a i id n) ok =
       let few = ltb-true (length (k .book .orders)) 256 (ok .room) in
       omega (arith, insert-length (newOrder s a i id n) (k .book .orders))
@@ -116,9 +112,7 @@ module _ (k : State) (sound : Sound k) where
 
   pub ids-after : (e : Event) → HasId e → Passed k e → Ascending 0 (work k e .book .orders)
   unfolding bookAfter idFree newOrder
-  ids-after (Limit a l) id-0 ok = sound .ids
-  ids-after (Balance a i z) id-0 ok = sound .ids
-  ids-after (Block what z) id-0 ok = sound .ids
+  ids-after (Set x) id-0 ok = sound .ids
   ids-after (New s a i id n) id-0 ok =
       insert-ascending (sound .ids) (newOrder s a i id n) id-0
       (unset-none (find id (k .book .orders)) (not-true (isSet (find id (k .book .orders))) (ok .fresh)))
@@ -129,9 +123,7 @@ module _ (k : State) (sound : Sound k) where
   pub marked-after : (e : Event) → Passed k e → (x : Order) → List·Memᴰ x (work k e .book .orders)
       → work k e .beside .trading (x .account) ≡ true
   unfolding bookAfter mark newOrder
-  marked-after (Limit a l) ok x m = sound .marked x m
-  marked-after (Balance a i z) ok x m = sound .marked x m
-  marked-after (Block what z) ok x m = sound .marked x m
+  marked-after (Set y) ok x m = sound .marked x m
   marked-after (New s a i id n) ok x m =
       at-each a true (k .beside .trading) (λ t. t ≡ true) (x .account) (λ _. refl)
       (λ other. ⊎-elim (λ e. absurd (other (rw e))) (sound .marked x) (insert-members (newOrder s a i id n) (k .book .orders) x .0 m))

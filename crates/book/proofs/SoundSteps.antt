@@ -10,8 +10,10 @@ use Rattle.ledger.proofs.Changes.{idle}
 use Rattle.ledger.proofs.Ways.{zero-toward}
 use Rattle.ledger.proofs.Linear.{linear}
 use Rattle.limits.proofs.LineLaws.{none-some}
+use Rattle.book.specs.declared.LimitLine.{LimitLine}
+use Rattle.book.specs.declared.Setting.the-variants.{Limit, Balance}
 use Rattle.book.specs.declared.Event.{Event}
-use Rattle.book.specs.declared.Event.the-variants.{Limit, Balance, Block, New, Change, Junk}
+use Rattle.book.specs.declared.Event.the-variants.{Set, New, Change, Junk}
 use Rattle.book.specs.Market.{Market}
 use Rattle.book.specs.Books.{emptyBook, setLine, bookAfter}
 use Rattle.book.specs.States.{State, begun, work}
@@ -20,6 +22,7 @@ use Rattle.book.specs.Table.{figuresFit, notYetTrading, answer}
 use Rattle.book.specs.Sound.{RosterFits, LinesFit, nothing, Sound}
 use Rattle.book.proofs.Accepted.{Passed, Accepted, accepted}
 use Rattle.book.proofs.Tables.{at-each, betweenℤ-both}
+use Rattle.book.proofs.Settings.{by-limit, by-balance}
 use Rattle.book.proofs.Potentials.{balance-own}
 use Rattle.book.proofs.Decoded.{HasId}
 use Rattle.book.proofs.Within.{SetsNoBalance, kept-within}
@@ -47,20 +50,25 @@ toward-fits long z largest low high = high
 toward-fits short z largest low high = omega (signed, negation-parts z, negation-parts (pos largest))
 
 module _ (k : State) (sound : Sound k) where
-  pub lines-after : (e : Event) → Passed k e → (a : ℕ) → LinesFit (k .market .largest) (work k e .book .linesOf a)
+  limit-fits-after : (a c : ℕ) (l : LimitLine) → Passed k (Set (Limit c l))
+      → LinesFit (k .market .largest) (work k (Set (Limit c l)) .book .linesOf a)
   unfolding bookAfter figuresFit
-  lines-after (Limit c l) ok a =
+  limit-fits-after a c l ok =
       at-each c (setLine l (k .book .linesOf c)) (k .book .linesOf) (LinesFit (k .market .largest)) a
       (λ _. set-fits (k .market .largest) l (k .book .linesOf c) (ok .figures) (sound .lines c)) (λ _. sound .lines a)
-  lines-after (Balance c i z) ok a = sound .lines a
-  lines-after (Block what z) ok a = sound .lines a
+
+  pub lines-after : (e : Event) → Passed k e → (a : ℕ) → LinesFit (k .market .largest) (work k e .book .linesOf a)
+  unfolding bookAfter figuresFit
+  lines-after (Set x) ok a =
+      by-limit (λ s. Passed k (Set s) → LinesFit (k .market .largest) (work k (Set s) .book .linesOf a)) x (limit-fits-after a)
+      (λ none _. rw none (sound .lines a)) ok
   lines-after (New s c i id n) ok a = sound .lines a
   lines-after (Change id c) ok a = sound .lines a
   lines-after Junk ok a = sound .lines a
 
   -- where a BALANCE is accepted, the account is not marked and has no open order, so the positions that it leaves are in range
-  balance-bounded : (a i : ℕ) (z : ℤ) → Passed k (Balance a i z) → (j : ℕ) (w : Way)
-      → potentialOf (work k (Balance a i z)) a (instrument j) w ≤ℤ pos (k .market .largest)
+  balance-bounded : (a i : ℕ) (z : ℤ) → Passed k (Set (Balance a i z)) → (j : ℕ) (w : Way)
+      → potentialOf (work k (Set (Balance a i z))) a (instrument j) w ≤ℤ pos (k .market .largest)
   unfolding figuresFit notYetTrading position potential
   balance-bounded a i z ok j w =
       let largest = k .market .largest in
@@ -84,13 +92,14 @@ module _ (k : State) (sound : Sound k) where
           (limit-fits (k .roster) (k .book .linesOf a) (k .market .largest) (sound .lines a) i w) (sound .bounded a i w)
 
       by : (e : Event) → Accepted k e → potentialOf (work k e) a (instrument i) w ≤ℤ pos (k .market .largest)
-      by (Limit c l) acc = keep (Limit c l) acc tt
-      by (Balance c j z) acc =
-          by-cases (ℕ-discrete a c) (λ own. rw own (balance-bounded c j z (acc .passed) i w)) (keep (Balance c j z) acc)
-      by (Block what z) acc = keep (Block what z) acc tt
-      by (New s c j id n) acc = keep (New s c j id n) acc tt
-      by (Change id c) acc = keep (Change id c) acc tt
-      by Junk acc = keep Junk acc tt
+      by (Set x) acc =
+          by-balance (λ s. Accepted k (Set s) → potentialOf (work k (Set s)) a (instrument i) w ≤ℤ pos (k .market .largest)) x
+          (λ c j z ok. by-cases (ℕ-discrete a c) (λ own. rw own (balance-bounded c j z (ok .passed) i w))
+          (λ other. keep (Set (Balance c j z)) ok (λ e. other cc)))
+          (λ none ok. keep (Set x) ok (λ e. none-some a (rw none at e))) acc
+      by (New s c j id n) acc = keep (New s c j id n) acc (none-some a)
+      by (Change id c) acc = keep (Change id c) acc (none-some a)
+      by Junk acc = keep Junk acc (none-some a)
 
   pub sound-step : (e : Event) → HasId e → answer k e ≡ 0 → Sound (work k e)
   unfolding potential

@@ -8,7 +8,7 @@ use Rattle.limits.specs.Asked.{positionQuestions}
 use Rattle.limits.proofs.LineLaws.{none-some}
 use Rattle.book.specs.declared.Event.{Event}
 use Rattle.book.specs.declared.OrderChange.the-variants.{Replace}
-use Rattle.book.specs.declared.Event.the-variants.{Limit, Balance, Block, New, Change, Junk}
+use Rattle.book.specs.declared.Event.the-variants.{Set, New, Change, Junk}
 use Rattle.book.specs.OpenOrders.{find}
 use Rattle.book.specs.Books.{Book, newOrder}
 use Rattle.book.specs.States.{State, work}
@@ -66,9 +66,7 @@ entered-iff b e o = (
 )
   where
     there : (e : Event) → entered b e ≡ some o → IsNew e o ⊎ Raises b e o
-    there (Limit a l) h = none-some o h
-    there (Balance a i z) h = none-some o h
-    there (Block what z) h = none-some o h
+    there (Set x) h = none-some o h
     there (New s a i id n) h = inl (n, cc, cc, cc)
     there (Change id c) h =
         let found = raised-found c (find id (b .orders)) o h in

@@ -1,6 +1,6 @@
 -- An accepted event keeps a potential position within every bound that its limit is within. With the limit itself for the
 -- bound this is demand 3's second half; with the largest figure it is soundness.
-use Rattle.integers.specs.Basics.{ℕ, _≡_, refl, _∙_, _≢_, by-cases, true, Option, none, some, ℤ, _≤ℤ_, ℕ-discrete, signed}
+use Rattle.integers.specs.Basics.{ℕ, _≡_, refl, _∙_, sym, ap, _≢_, by-cases, true, Option, none, some, ℤ, _≤ℤ_, ℕ-discrete, signed}
 use Rattle.ledger.specs.declared.order.Order.{Order}
 use Rattle.ledger.specs.Roster.{Roster}
 use Rattle.ledger.specs.Positions.{Way, Scope, instrument, group}
@@ -8,27 +8,25 @@ use Rattle.ledger.specs.Moves.{Moves}
 use Rattle.ledger.proofs.Movement.{moves?}
 use Rattle.limits.specs.Lines.{isSet}
 use Rattle.limits.proofs.LineLaws.{set-some}
+use Rattle.book.specs.declared.Setting.{Setting}
 use Rattle.book.specs.declared.Event.{Event}
 use Rattle.book.specs.declared.OrderChange.{OrderChange}
-use Rattle.book.specs.declared.Event.the-variants.{Limit, Balance, Block, New, Change, Junk}
+use Rattle.book.specs.declared.Event.the-variants.{Set, New, Change, Junk}
 use Rattle.book.specs.OpenOrders.{find}
 use Rattle.book.specs.Books.{Book, newOrder, bookAfter}
 use Rattle.book.specs.States.{State, work}
+use Rattle.book.specs.Names.{balanceAccount}
 use Rattle.book.specs.Table.{figuresFit, changeInRange, idOpen, fitsOrder, quantityFits, raised, entered}
 use Rattle.book.specs.Positions.{potentialOf}
 use Rattle.book.specs.Demand3.{limitOf}
 use Rattle.book.proofs.Accepted.{Passed, Accepted}
+use Rattle.book.proofs.Settings.{by-balance}
 use Rattle.book.proofs.OrderChanges.{SameOrder, same-order, raised-after, not-raised}
 use Rattle.book.proofs.Potentials.{balance-other, new-unmoved, new-other, change-lowers, change-unmoved}
 
 -- the event sets no balance of account a
 abbrev pub SetsNoBalance : ℕ → Event → Type 0
-SetsNoBalance a (Limit c l) = Unit
-SetsNoBalance a (Balance c i z) = a ≢ c
-SetsNoBalance a (Block what z) = Unit
-SetsNoBalance a (New s c i id n) = Unit
-SetsNoBalance a (Change id c) = Unit
-SetsNoBalance a Junk = Unit
+SetsNoBalance a e = balanceAccount e ≢ some a
 
 -- the order that an accepted REPLACE, CANCEL or FILL names
 pub found-order : (id : ℕ) (b : Book) → isSet (find id (b .orders)) ≡ true → (o : Order) × (find id (b .orders) ≡ some o)
@@ -91,12 +89,17 @@ module _ (k : State) (a : ℕ) (p : Scope) (w : Way) (bound : ℤ) where
           (λ out. rest (λ both. out (both .1))))
           (λ other. rest (λ both. other (both .0)))
 
+  -- a setting moves a position by a balance only, and that is of another account
+  set-within : (x : Setting) → SetsNoBalance a (Set x) → potentialOf k a p w ≤ℤ bound → potentialOf (work k (Set x)) a p w ≤ℤ bound
+  unfolding bookAfter
+  set-within x out h =
+      by-balance (λ s. SetsNoBalance a (Set s) → potentialOf (work k (Set s)) a p w ≤ℤ bound) x
+      (λ c i z other. let same = balance-other k a p w c i z (λ e. other (ap some (sym e))) in omega signed) (λ none _. rw none h) out
+
   pub kept-within : (e : Event) → Accepted k e → SetsNoBalance a e → limitOf k a p w ≤ℤ bound → potentialOf k a p w ≤ℤ bound
       → potentialOf (work k e) a p w ≤ℤ bound
   unfolding entered newOrder bookAfter
-  kept-within (Limit c l) acc out le h = h
-  kept-within (Balance c i z) acc out le h = let same = balance-other k a p w c i z out in omega signed
-  kept-within (Block what z) acc out le h = h
+  kept-within (Set x) acc out le h = set-within x out h
   kept-within (New s c i id n) acc out le h =
       let o = newOrder s c i id n in
       by-cases (ℕ-discrete c a)

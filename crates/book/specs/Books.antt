@@ -13,8 +13,10 @@ use Rattle.book.specs.declared.Blocked.{Blocked}
 use Rattle.book.specs.declared.Blocked.the-variants.{Account, Instrument, GroupFor}
 use Rattle.book.specs.declared.OrderChange.{OrderChange}
 use Rattle.book.specs.declared.OrderChange.the-variants.{Replace, Cancel, Fill}
+use Rattle.book.specs.declared.Setting.{Setting}
 use Rattle.book.specs.declared.Event.{Event}
-use Rattle.book.specs.declared.Event.the-variants.{Limit, Balance, Block, New, Change, Junk}
+use Rattle.book.specs.declared.Event.the-variants.{Set, New, Change, Junk}
+use Rattle.book.specs.Settings.{IsLimit, asLimit, IsBalance, asBalance, IsBlock, asBlock}
 use Rattle.book.specs.OpenOrders.{find, insert, change, kept}
 
 -- which accounts, instruments (for all) and groups (for an account) are blocked
@@ -110,16 +112,32 @@ filledBalances unit (some o) n s a i = s a i +ℤ fillMoves unit a i o n
 abbrev pub withOrders : Book → List Order → Book
 withOrders b os = record { balanceOf = b .balanceOf; linesOf = b .linesOf; blocks = b .blocks; orders = os }
 
+-- LIMIT: the figures become that line; no other setting sets one
+abbrev pub setLines : {x : Setting} → Option (IsLimit x) → (ℕ → Lines) → ℕ → Lines
+setLines none ls = ls
+setLines (some s) ls = at (s .account) (setLine (s .line) (ls (s .account))) ls
+
+-- BALANCE: the figure becomes that S; no other setting does
+abbrev pub setBalances : {x : Setting} → Option (IsBalance x) → (ℕ → ℕ → ℤ) → ℕ → ℕ → ℤ
+setBalances none S = S
+setBalances (some s) S = at (s .account) (at (s .instrument) (s .balance) (S (s .account))) S
+
+-- BLOCK: the figure becomes that block; no other setting does
+abbrev pub setBlocks : {x : Setting} → Option (IsBlock x) → Blocks → Blocks
+setBlocks none bs = bs
+setBlocks (some s) bs = setBlock (s .what) (not (isZero (s .on))) bs
+
 -- the book after an accepted event.
--- LIMIT, BALANCE, BLOCK: the figures become that line, S or block. NEW: an order joins. REPLACE, CANCEL, FILL: the order with that id
--- becomes what the change makes of it, and S moves by what is filled
+-- LIMIT, BALANCE, BLOCK: the figures become that line, S or block, and the open orders stay. NEW: an order joins. REPLACE, CANCEL, FILL:
+-- the order with that id becomes what the change makes of it, and S moves by what is filled
 unfoldable pub bookAfter : (Order → ℕ) → Book → Event → Book
-bookAfter unit b (Limit a l) =
-    record { balanceOf = b .balanceOf; linesOf = at a (setLine l (b .linesOf a)) (b .linesOf); blocks = b .blocks; orders = b .orders }
-bookAfter unit b (Balance a i z) =
-    record { balanceOf = at a (at i z (b .balanceOf a)) (b .balanceOf); linesOf = b .linesOf; blocks = b .blocks; orders = b .orders }
-bookAfter unit b (Block what z) =
-    record { balanceOf = b .balanceOf; linesOf = b .linesOf; blocks = setBlock what (not (isZero z)) (b .blocks); orders = b .orders }
+bookAfter unit b (Set x) =
+    record {
+      balanceOf = setBalances (asBalance x) (b .balanceOf);
+      linesOf = setLines (asLimit x) (b .linesOf);
+      blocks = setBlocks (asBlock x) (b .blocks);
+      orders = b .orders;
+    }
 bookAfter unit b (New s a i id n) = withOrders b (insert (newOrder s a i id n) (b .orders))
 bookAfter unit b (Change id c) =
     record {

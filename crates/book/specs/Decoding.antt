@@ -5,13 +5,15 @@ use Rattle.ledger.specs.Records.{sideOf}
 use Rattle.limits.specs.Asked.{isZero}
 use Rattle.book.specs.declared.Figures.{Figures}
 use Rattle.book.specs.declared.Named.{Named}
+use Rattle.book.specs.declared.Setting.{Setting}
+use Rattle.book.specs.declared.Setting.the-variants.{Limit, Balance, Block}
 use Rattle.book.specs.declared.Event.{Event}
 use Rattle.book.specs.declared.LimitLine.{LimitLine}
 use Rattle.book.specs.declared.Blocked.{Blocked}
 use Rattle.book.specs.declared.LimitLine.the-variants.{Own, Default, OfGroup}
 use Rattle.book.specs.declared.Blocked.the-variants.{Account, Instrument, GroupFor}
 use Rattle.book.specs.declared.OrderChange.the-variants.{Replace, Cancel, Fill}
-use Rattle.book.specs.declared.Event.the-variants.{Limit, Balance, Block, New, Change, Junk}
+use Rattle.book.specs.declared.Event.the-variants.{Set, New, Change, Junk}
 
 -- the fields, in the order of the bytes: kind, side, account, item, level, zero, order id, four figures
 abbrev pub kindOf : List ℕ → ℕ
@@ -39,10 +41,16 @@ idField e = u64At e 8
 abbrev pub figureField : List ℕ → ℕ → ℤ
 figureField e j = i64At e (16 + j * 8)
 
-abbrev pub byKind : {A : Type 0} → ℕ → A → A → A → A → A → A → A → A
-byKind k limit balance block new replace cancel fill =
-    cond (eqb k 1) limit (cond (eqb k 2) balance
-    (cond (eqb k 3) block (cond (eqb k 4) new (cond (eqb k 5) replace (cond (eqb k 6) cancel fill)))))
+-- kinds 1, 2 and 3 set something: LIMIT, BALANCE and BLOCK
+abbrev pub isSetting : ℕ → Bool
+isSetting k = eqb k 1 || eqb k 2 || eqb k 3
+
+abbrev pub bySetting : {A : Type 0} → ℕ → A → A → A → A
+bySetting k limit balance block = cond (eqb k 1) limit (cond (eqb k 2) balance block)
+
+abbrev pub byKind : {A : Type 0} → ℕ → A → A → A → A → A → A
+byKind k set new replace cancel fill =
+    cond (isSetting k) set (cond (eqb k 4) new (cond (eqb k 5) replace (cond (eqb k 6) cancel fill)))
 
 abbrev pub byLevel : {A : Type 0} → ℕ → A → A → A → A
 byLevel l one two three = cond (eqb l 1) one (cond (eqb l 2) two three)
@@ -71,12 +79,17 @@ newNames = record { side = true; account = true; item = true; level = false; id 
 abbrev pub orderNames : ℕ → Named
 orderNames n = record { side = false; account = false; item = false; level = false; id = true; figures = n }
 
-unfoldable pub named : ℕ → ℕ → Named
-named kind level =
-    byKind kind
+abbrev pub settingNames : ℕ → ℕ → Named
+settingNames kind level =
+    bySetting kind
     (byLevel level (limitNames 4) (limitNames 4) (limitNames 2))
     balanceNames
     (byLevel level (blockNames true false) (blockNames false true) (blockNames true true))
+
+unfoldable pub named : ℕ → ℕ → Named
+named kind level =
+    byKind kind
+    (settingNames kind level)
     newNames
     (orderNames 1)
     (orderNames 0)
@@ -96,9 +109,13 @@ fieldsFit n e =
     && (ltb 2 (n .figures) || isZero (figureField e 2))
     && (ltb 3 (n .figures) || isZero (figureField e 3))
 
+-- the kinds
+abbrev pub isKind : ℕ → Bool
+isKind k = between 1 7 k
+
 -- 6: is the event 48 bytes, the kind 1 to 7, and does each field fit what the kind and level name?
 unfoldable pub wellFormed : List ℕ → Bool
-wellFormed e = eqb (length e) 48 && between 1 7 (kindOf e) && fieldsFit (named (kindOf e) (levelField e)) e
+wellFormed e = eqb (length e) 48 && isKind (kindOf e) && fieldsFit (named (kindOf e) (levelField e)) e
 
 abbrev pub figuresOf : List ℕ → Figures
 figuresOf e =
@@ -119,13 +136,19 @@ blockedField e =
     (Instrument (itemField e))
     (GroupFor (accountField e) (itemField e))
 
+-- what well-formed bytes of a LIMIT, a BALANCE or a BLOCK set
+abbrev pub settingOf : List ℕ → Setting
+settingOf e =
+    bySetting (kindOf e)
+    (Limit (accountField e) (lineField e))
+    (Balance (accountField e) (itemField e) (figureField e 0))
+    (Block (blockedField e) (figureField e 0))
+
 -- the event that well-formed bytes name
 unfoldable pub eventOf : List ℕ → Event
 eventOf e =
     byKind (kindOf e)
-    (Limit (accountField e) (lineField e))
-    (Balance (accountField e) (itemField e) (figureField e 0))
-    (Block (blockedField e) (figureField e 0))
+    (Set (settingOf e))
     (New (sideOf (sideField e)) (accountField e) (itemField e) (idField e) (figureField e 0))
     (Change (idField e) (Replace (figureField e 0)))
     (Change (idField e) Cancel)

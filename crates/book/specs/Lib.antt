@@ -1,6 +1,7 @@
 pub mod Market
 pub mod Decoding
 pub mod OpenOrders
+pub mod Settings
 pub mod Books
 pub mod States
 pub mod Names

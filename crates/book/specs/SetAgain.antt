@@ -6,8 +6,10 @@ use Rattle.ledger.specs.Positions.{Scope, instrument, group}
 use Rattle.limits.specs.Lines.{isSet}
 use Rattle.book.specs.declared.LimitLine.{LimitLine}
 use Rattle.book.specs.declared.LimitLine.the-variants.{Own, Default, OfGroup}
+use Rattle.book.specs.declared.Setting.{Setting}
 use Rattle.book.specs.declared.Event.{Event}
-use Rattle.book.specs.declared.Event.the-variants.{Limit, Balance, Block, New, Change, Junk}
+use Rattle.book.specs.declared.Event.the-variants.{Set, New, Change, Junk}
+use Rattle.book.specs.Settings.{IsLimit, asLimit}
 use Rattle.book.specs.Books.{Book}
 use Rattle.book.specs.States.{State, work}
 
@@ -22,11 +24,13 @@ nameOf a (Own i f) = ownLine a i
 nameOf a (Default c f) = defaultLine a c
 nameOf a (OfGroup g x y) = groupLine a g
 
--- the line that an event sets
+-- the line that an event sets: the one that a LIMIT names
+abbrev pub lineNamed : {x : Setting} → Option (IsLimit x) → Option LineName
+lineNamed none = none
+lineNamed (some s) = some (nameOf (s .account) (s .line))
+
 unfoldable pub lineSet : Event → Option LineName
-lineSet (Limit a l) = some (nameOf a l)
-lineSet (Balance a i z) = none
-lineSet (Block what z) = none
+lineSet (Set x) = lineNamed (asLimit x)
 lineSet (New s a i id n) = none
 lineSet (Change id c) = none
 lineSet Junk = none

@@ -2,7 +2,7 @@
 use Rattle.integers.specs.Basics.{ℕ, Bool, true, false}
 use Rattle.ledger.specs.Roster.{Roster}
 use Rattle.book.specs.declared.Event.{Event}
-use Rattle.book.specs.declared.Event.the-variants.{Limit, Balance, Block, New, Change, Junk}
+use Rattle.book.specs.declared.Event.the-variants.{Set, New, Change, Junk}
 use Rattle.book.specs.Market.{Market}
 use Rattle.book.specs.Books.{Book, emptyBook, at, bookAfter}
 
@@ -18,9 +18,7 @@ pub record State : Type 0 where
 
 -- "Only an accepted NEW sets that mark"
 unfoldable pub mark : (ℕ → Bool) → Event → ℕ → Bool
-mark trading (Limit a l) = trading
-mark trading (Balance a i z) = trading
-mark trading (Block what z) = trading
+mark trading (Set x) = trading
 mark trading (New s a i id n) = at a true trading
 mark trading (Change id c) = trading
 mark trading Junk = trading

@@ -12,16 +12,19 @@ use Rattle.limits.specs.Asked.{limitsSet, sizeFits, positionQuestions}
 use Rattle.book.specs.declared.Figures.{Figures}
 use Rattle.book.specs.declared.LimitLine.{LimitLine}
 use Rattle.book.specs.declared.LimitLine.the-variants.{Own, Default, OfGroup}
+use Rattle.book.specs.declared.Setting.{Setting}
+use Rattle.book.specs.declared.Setting.the-variants.{Limit, Balance, Block}
 use Rattle.book.specs.declared.OrderChange.{OrderChange}
 use Rattle.book.specs.declared.OrderChange.the-variants.{Replace, Cancel, Fill}
 use Rattle.book.specs.declared.Event.{Event}
-use Rattle.book.specs.declared.Event.the-variants.{Limit, Balance, Block, New, Change, Junk}
+use Rattle.book.specs.declared.Event.the-variants.{Set, New, Change, Junk}
 use Rattle.book.specs.Market.{Market}
 use Rattle.book.specs.Decoding.{between}
 use Rattle.book.specs.OpenOrders.{find}
 use Rattle.book.specs.Books.{Book, isMinusOne, unsets, newOrder}
 use Rattle.book.specs.States.{State, work}
-use Rattle.book.specs.Names.{Item, anInstrument, aContract, aGroup, namedAccount, namedItem, balanceAccount, newOrderOf, changeOf}
+use Rattle.book.specs.Settings.{Item, anInstrument, aContract, aGroup}
+use Rattle.book.specs.Names.{namedAccount, namedItem, balanceAccount, newOrderOf, changeOf}
 
 -- is it so of what is named, where something is
 abbrev pub whereSome : {A : Type 0} → (A → Bool) → Option A → Bool
@@ -30,9 +33,7 @@ whereSome test (some x) = test x
 
 -- 6: is it an event?
 unfoldable pub isEvent : Event → Bool
-isEvent (Limit a l) = true
-isEvent (Balance a i z) = true
-isEvent (Block what z) = true
+isEvent (Set x) = true
 isEvent (New s a i id n) = true
 isEvent (Change id c) = true
 isEvent Junk = false
@@ -75,10 +76,13 @@ changeInRange (Replace n) = isQuantity n
 changeInRange Cancel = true
 changeInRange (Fill n) = isQuantity n
 
+abbrev pub settingInRange : Market → Setting → Bool
+settingInRange mk (Limit a l) = lineFits (mk .largest) l
+settingInRange mk (Balance a i z) = betweenℤ (negℤ (pos (mk .largest))) (pos (mk .largest)) z
+settingInRange mk (Block what z) = betweenℤ (pos 0) (pos 1) z
+
 unfoldable pub figuresFit : Market → Event → Bool
-figuresFit mk (Limit a l) = lineFits (mk .largest) l
-figuresFit mk (Balance a i z) = betweenℤ (negℤ (pos (mk .largest))) (pos (mk .largest)) z
-figuresFit mk (Block what z) = betweenℤ (pos 0) (pos 1) z
+figuresFit mk (Set x) = settingInRange mk x
 figuresFit mk (New s a i id n) = isQuantity n
 figuresFit mk (Change id c) = changeInRange c
 figuresFit mk Junk = true
@@ -109,9 +113,7 @@ raised (Fill n) x = none
 
 -- the order entered, by a NEW, or raised: questions 14 to 24 are asked of it
 unfoldable pub entered : Book → Event → Option Order
-entered b (Limit a l) = none
-entered b (Balance a i z) = none
-entered b (Block what z) = none
+entered b (Set x) = none
 entered b (New s a i id n) = some (newOrder s a i id n)
 entered b (Change id c) = raised c (find id (b .orders))
 entered b Junk = none

@@ -69,8 +69,8 @@ pub enum OrderChange {
     Fill { quantity: i64 },
 }
 
-// An event of each kind, or bytes that are none; REPLACE, CANCEL and FILL are one case, an open order's id and the change.
-pub enum Event {
+// What sets something of a desk: a line, a balance, a block.
+pub enum Setting {
     Limit {
         account: u64,
         line: LimitLine,
@@ -83,6 +83,14 @@ pub enum Event {
     Block {
         what: Blocked,
         on: i64,
+    },
+}
+
+// An event of each kind, or bytes that are none; LIMIT, BALANCE and BLOCK are one case, what is set; REPLACE, CANCEL and FILL are one, an
+// open order's id and the change.
+pub enum Event {
+    Set {
+        setting: Setting,
     },
     New {
         side: Side,

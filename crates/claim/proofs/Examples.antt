@@ -9,7 +9,8 @@ use Rattle.ledger.specs.Moves.{Moves}
 use Rattle.limits.specs.Lines.{limit}
 use Rattle.limits.specs.Questions.{allPass}
 use Rattle.book.specs.declared.LimitLine.{LimitLine}
-use Rattle.book.specs.declared.Event.the-variants.{Limit}
+use Rattle.book.specs.declared.Setting.the-variants.{Limit}
+use Rattle.book.specs.declared.Event.the-variants.{Set}
 use Rattle.book.specs.Market.{derivatives}
 use Rattle.book.specs.Books.{bookAfter}
 use Rattle.book.specs.Table.{entered, questionsBefore, answer}
@@ -150,7 +151,7 @@ module _ (m s : List ℕ) (bytes : Bytes m) (opens : openingAnswer m s ≡ 0) wh
       -- `e`, on the line that the position is under, is accepted
       pub limit-set-again : (before : List RawEvent) (e : RawEvent) (behind : List RawEvent) (c : ℕ) (l : LimitLine)
           → writtenAll later ≡ before ++ (e ∷ behind)
-          → asEvent e ≡ Limit c l
+          → asEvent e ≡ Set (Limit c l)
           → answer (endOf (plainState s (events ++ (n ∷ []))) (asEvents before)) (asEvent e) ≡ 0
           → nameOf c l ≡ lineOver (rosterFrom s) (endOf (plainState s (events ++ (n ∷ []))) (asEvents before) .book)
           (o .account) p

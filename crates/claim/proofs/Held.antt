@@ -6,7 +6,8 @@ use Rattle.ledger.specs.Positions.{Scope}
 use Rattle.ledger.specs.Roster.{Roster}
 use Rattle.book.specs.declared.LimitLine.{LimitLine}
 use Rattle.book.specs.declared.Event.{Event}
-use Rattle.book.specs.declared.Event.the-variants.{Limit}
+use Rattle.book.specs.declared.Setting.the-variants.{Limit}
+use Rattle.book.specs.declared.Event.the-variants.{Set}
 use Rattle.book.specs.Market.{derivatives}
 use Rattle.book.specs.Books.{bookAfter}
 use Rattle.book.specs.States.{State, begun}
@@ -43,7 +44,7 @@ module _ (r : Roster) where
   OnTheLine k e a p =
       (c : ℕ)
       × (l : LimitLine)
-      × (e ≡ Limit c l)
+      × (e ≡ Set (Limit c l))
       × ((nameOf c l ≡ lineOver r (k .book) a p) ⊎ (nameOf c l ≡ lineOver r (bookAfter one (k .book) e) a p))
 
   sets-on-the-line : (k : State) → Held k → (e : Event) (a : ℕ) (p : Scope) → SetsAgain k e a p ↔ OnTheLine k e a p

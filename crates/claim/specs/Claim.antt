@@ -14,7 +14,8 @@ use Rattle.ledger.specs.Moves.{Moves}
 use Rattle.limits.specs.Lines.{isSet, limit}
 use Rattle.limits.specs.Questions.{Question, allPass, numbersOf}
 use Rattle.book.specs.declared.LimitLine.{LimitLine}
-use Rattle.book.specs.declared.Event.the-variants.{Limit}
+use Rattle.book.specs.declared.Setting.the-variants.{Limit}
+use Rattle.book.specs.declared.Event.the-variants.{Set}
 use Rattle.book.specs.Market.{derivatives}
 use Rattle.book.specs.Decoding.{between, decode}
 use Rattle.book.specs.Books.{bookAfter}
@@ -151,7 +152,7 @@ Demand3 =
     -- no accepted LIMIT among them is on the line that the position is under before it or after it
     ((before : List RawEvent) (e : RawEvent) (behind : List RawEvent) (a : ℕ) (l : LimitLine)
     → later ≡ before ++ (e ∷ behind)
-    → asEvent e ≡ Limit a l
+    → asEvent e ≡ Set (Limit a l)
     → answerTo (memoryAfter gate next before) (e .bytes) ≡ 0
     → (let b = stateAfter gate next keptN before .book in
     (nameOf a l ≡ lineOver r b (o .account) p) ⊎ (nameOf a l ≡ lineOver r (bookAfter one b (asEvent e)) (o .account) p) → ⊥))

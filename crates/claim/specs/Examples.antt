@@ -9,7 +9,8 @@ use Rattle.ledger.specs.Roster.{Roster}
 use Rattle.limits.specs.Lines.{limit}
 use Rattle.limits.specs.Questions.{allPass}
 use Rattle.book.specs.declared.LimitLine.{LimitLine}
-use Rattle.book.specs.declared.Event.the-variants.{Limit}
+use Rattle.book.specs.declared.Setting.the-variants.{Limit}
+use Rattle.book.specs.declared.Event.the-variants.{Set}
 use Rattle.book.specs.Market.{derivatives}
 use Rattle.book.specs.Books.{Book, bookAfter}
 use Rattle.book.specs.Table.{entered, questionsBefore}
@@ -67,7 +68,7 @@ abbrev pub NoneOnTheLine : Roster → List ℕ → State → ℕ → Scope → L
 NoneOnTheLine r m k a p events =
     (before : List RawEvent) (e : RawEvent) (behind : List RawEvent) (c : ℕ) (l : LimitLine)
     → events ≡ before ++ (e ∷ behind)
-    → asEvent e ≡ Limit c l
+    → asEvent e ≡ Set (Limit c l)
     → answerTo (memoryAfter gate m before) (e .bytes) ≡ 0
     → (let b = stateAfter gate m k before .book in
     (nameOf c l ≡ lineOver r b a p) ⊎ (nameOf c l ≡ lineOver r (bookAfter one b (asEvent e)) a p) → ⊥)

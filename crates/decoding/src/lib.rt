@@ -6,13 +6,15 @@ ghost use lib.Dec.{eqb};
 ghost use lib.ListN.{length};
 ghost use Rattle.words.specs.Fields.{u16At, i64At};
 ghost use Rattle.limits.specs.Asked.{isZero};
-ghost use Rattle.book.specs.Decoding.{kindOf, figuresOf, between, named, fieldsFit, wellFormed, lineField, blockedField, eventOf, decode};
+ghost use Rattle.book.specs.Decoding.{kindOf, figuresOf, between, named, fieldsFit, isKind, wellFormed, lineField, blockedField, eventOf};
+ghost use Rattle.book.specs.Decoding.{decode};
 use book::Blocked;
 use book::Event;
 use book::Figures;
 use book::LimitLine;
 use book::Named;
 use book::OrderChange;
+use book::Setting;
 use ledger::records::side_of;
 use words::fields::i64_at;
 use words::fields::u8_at;
@@ -185,18 +187,24 @@ fn event_of(kind: u8, e: &[u8]) -> Event
     ensures { λ r. ⌜ r ≡ eventOf (now (e .entry)) ⌝ }
 {
     match kind {
-        1 => Event::Limit {
-            account: number_at(e, 2),
-            line: line(e),
+        1 => Event::Set {
+            setting: Setting::Limit {
+                account: number_at(e, 2),
+                line: line(e),
+            },
         },
-        2 => Event::Balance {
-            account: number_at(e, 2),
-            instrument: number_at(e, 4),
-            balance: i64_at(e, 16),
+        2 => Event::Set {
+            setting: Setting::Balance {
+                account: number_at(e, 2),
+                instrument: number_at(e, 4),
+                balance: i64_at(e, 16),
+            },
         },
-        3 => Event::Block {
-            what: blocked(e),
-            on: i64_at(e, 16),
+        3 => Event::Set {
+            setting: Setting::Block {
+                what: blocked(e),
+                on: i64_at(e, 16),
+            },
         },
         4 => Event::New {
             side: side_of(wide8(u8_at(e, 1))),
@@ -224,12 +232,19 @@ fn event_of(kind: u8, e: &[u8]) -> Event
     }
 }
 
+// The kinds, 1 to 7.
+fn is_kind(kind: u8) -> bool
+    ensures { λ r. ⌜ r ≡ isKind kind ⌝ }
+{
+    (1 <= kind) & (kind <= 7)
+}
+
 // Is the kind listed, and do the fields fit its line of the table?
 fn well_formed(kind: u8, e: &[u8]) -> bool
     requires { ⌜ (length (now e) ≡ 48) × (kindOf (now e) ≡ kind) ⌝ }
     ensures { λ r. ⌜ r ≡ wellFormed (now (e .entry)) ⌝ }
 {
-    listed(true, 7, kind) & fields_fit(named(kind, u8_at(e, 6)), e)
+    is_kind(kind) & fields_fit(named(kind, u8_at(e, 6)), e)
 }
 
 // The event of bytes of a kind, or junk.

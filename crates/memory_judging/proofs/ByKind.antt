@@ -1,19 +1,19 @@
 -- The table kind by kind: the first no of the questions that a kind is asked, by their tests.
-use Rattle.integers.specs.Basics.{ℕ, _≡_, refl, _∙_, Bool, true, false, not, cond, List, Option, none, some, ℤ, pos, negℤ}
+use Rattle.integers.specs.Basics.{ℕ, _≡_, refl, _∙_, Bool, true, false, not, cond, List, Option, none, some, ℤ}
 use Rattle.ledger.specs.declared.order.Order.{Order}
 use Rattle.ledger.specs.declared.order.Side.{Side}
 use Rattle.limits.specs.Questions.{firstNo}
 use Rattle.limits.specs.Numbers.{sizeQuestions}
-use Rattle.book.specs.declared.LimitLine.{LimitLine}
-use Rattle.book.specs.declared.Blocked.{Blocked}
+use Rattle.book.specs.declared.Setting.{Setting}
 use Rattle.book.specs.declared.Event.{Event}
 use Rattle.book.specs.declared.OrderChange.{OrderChange}
-use Rattle.book.specs.declared.Event.the-variants.{Limit, Balance, Block, New, Change, Junk}
+use Rattle.book.specs.declared.Event.the-variants.{Set, New, Change, Junk}
+use Rattle.book.specs.Settings.{settingAccount, settingItem, asBalance}
 use Rattle.book.specs.Decoding.{between}
 use Rattle.book.specs.OpenOrders.{find}
 use Rattle.book.specs.Books.{newOrder, bookAfter}
-use Rattle.book.specs.Names.{limitedItem, blockedAccount, blockedItem}
-use Rattle.book.specs.Table.{isEvent, accountKnown, isListed, itemKnown, betweenℤ, lineFits, changeInRange, isQuantity, figuresFit}
+use Rattle.book.specs.Names.{balanceOwner}
+use Rattle.book.specs.Table.{isEvent, accountKnown, isListed, itemKnown, settingInRange, changeInRange, isQuantity, figuresFit}
 use Rattle.book.specs.Table.{notYetTrading, idOpen, quantityFits, whereSome, raised, entered, idFree, placeFree, questionsBefore}
 use Rattle.book.specs.Table.{limitQuestions, answer}
 use Rattle.book.proofs.Cuts.{standing}
@@ -27,18 +27,11 @@ use Rattle.memory_judging.specs.QuestionsLeft.{newFrom18, newFrom13, cha
 module _ (m : List ℕ) where
   -- the first no of an event, but for a change of an open order, of which three lemmas below tell
   abbrev tested : Event → ℕ
-  tested (Limit a l) =
-      cond (between 1 (rosterOf m .accounts) a)
-      (cond (isListed (rosterOf m) (limitedItem l)) (cond (lineFits (marketOf m .largest) l) 0 9) 8) 7
-  tested (Balance a i b) =
-      cond (between 1 (rosterOf m .accounts) a)
-      (cond (between 1 (rosterOf m .instruments) i)
-      (cond (betweenℤ (negℤ (pos (marketOf m .largest))) (pos (marketOf m .largest)) b) (cond (not (tradingOf m a)) 0 10) 9)
+  tested (Set x) =
+      cond (whereSome (between 1 (rosterOf m .accounts)) (settingAccount x))
+      (cond (whereSome (isListed (rosterOf m)) (settingItem x))
+      (cond (settingInRange (marketOf m) x) (cond (whereSome (λ a. not (tradingOf m a)) (balanceOwner (asBalance x))) 0 10) 9)
       8)
-      7
-  tested (Block what on) =
-      cond (whereSome (between 1 (rosterOf m .accounts)) (blockedAccount what))
-      (cond (whereSome (isListed (rosterOf m)) (blockedItem what)) (cond (betweenℤ (pos 0) (pos 1) on) 0 9) 8)
       7
   tested (New s a i id n) =
       cond (between 1 (rosterOf m .accounts) a)
@@ -51,29 +44,16 @@ module _ (m : List ℕ) where
   unfolding judged answer questionsBefore limitQuestions isEvent accountKnown itemKnown figuresFit notYetTrading idOpen
       quantityFits entered idFree placeFree firstNo bookOf bookAfter newOrder newFrom13 newFrom18 admission withinLimits
       sizeQuestions
-  by-kind (Limit a l) = refl
-  by-kind (Balance a i b) = refl
-  by-kind (Block what on) = refl
+  by-kind (Set x) = refl
   by-kind (New s a i id n) = refl
   by-kind (Change id c) = refl
   by-kind Junk = refl
 
-  pub limit-answer : (a : ℕ) (l : LimitLine) (x y z : Bool)
-      → between 1 (rosterOf m .accounts) a ≡ x → isListed (rosterOf m) (limitedItem l) ≡ y → lineFits (marketOf m .largest) l ≡ z
-      → judged m (Limit a l) ≡ cond x (cond y (cond z 0 9) 8) 7
-  limit-answer a l x y z d e f = by-kind (Limit a l) ∙ rw (d, e, f)
-
-  pub balance-answer : (a i : ℕ) (b : ℤ) (x y z t : Bool)
-      → between 1 (rosterOf m .accounts) a ≡ x → between 1 (rosterOf m .instruments) i ≡ y
-      → betweenℤ (negℤ (pos (marketOf m .largest))) (pos (marketOf m .largest)) b ≡ z → tradingOf m a ≡ t
-      → judged m (Balance a i b) ≡ cond x (cond y (cond z (cond (not t) 0 10) 9) 8) 7
-  balance-answer a i b x y z t d e f g = by-kind (Balance a i b) ∙ rw (d, e, f, g)
-
-  pub block-answer : (what : Blocked) (on : ℤ) (x y z : Bool)
-      → whereSome (between 1 (rosterOf m .accounts)) (blockedAccount what) ≡ x → whereSome (isListed (rosterOf m)) (blockedItem what) ≡ y
-      → betweenℤ (pos 0) (pos 1) on ≡ z
-      → judged m (Block what on) ≡ cond x (cond y (cond z 0 9) 8) 7
-  block-answer what on x y z d e f = by-kind (Block what on) ∙ rw (d, e, f)
+  pub set-answer : (x : Setting) (p q r t : Bool) → whereSome (between 1 (rosterOf m .accounts)) (settingAccount x) ≡ p
+      → whereSome (isListed (rosterOf m)) (settingItem x) ≡ q → settingInRange (marketOf m) x ≡ r
+      → whereSome (λ a. not (tradingOf m a)) (balanceOwner (asBalance x)) ≡ t
+      → judged m (Set x) ≡ cond p (cond q (cond r (cond t 0 10) 9) 8) 7
+  set-answer x p q r t d e f g = by-kind (Set x) ∙ rw (d, e, f, g)
 
   pub junk-answer : judged m Junk ≡ 6
   junk-answer = by-kind Junk

@@ -1,7 +1,7 @@
 // Questions 7 and 8: is the account, or the item, that an event names on the roster?
 ghost use mathlib.Core.Path.{_≡_};
 ghost use Rattle.book.specs.Decoding.{between};
-ghost use Rattle.book.specs.Names.{limitedItem, blockedAccount, blockedItem};
+ghost use Rattle.book.specs.Settings.{limitedItem, blockedAccount, blockedItem};
 ghost use Rattle.book.specs.Table.{whereSome, isListed};
 ghost use Rattle.memory_layout.specs.View.{rosterOf};
 ghost use Rattle.memory_soundness.specs.SoundMemory.{SoundMemory};

@@ -14,9 +14,7 @@ ghost use Rattle.memory_soundness.specs.Cells.{Sums};
 ghost use Rattle.memory_soundness.specs.SoundMemory.{SoundMemory};
 use crate::changes::judge_change;
 use crate::entries::judge_new;
-use crate::settings::judge_balance;
-use crate::settings::judge_block;
-use crate::settings::judge_limit;
+use crate::settings::judge_setting;
 use book::Event;
 use ledger::detail::Detail;
 use limits::answer::Answer;
@@ -47,13 +45,7 @@ pub fn judge(m: &[u8], cells: &[u64], e: Event) -> Verdict
     ensures named { λ r. ⌜ (judged (now (m .entry)) e ≡ 0 → NamedAt (now (m .entry)) e (r .place) (r .detail .0)) ⌝ }
 {
     match e {
-        Event::Limit { account, line } => plain(judge_limit(m, account, line)),
-        Event::Balance {
-            account,
-            instrument,
-            balance,
-        } => plain(judge_balance(m, account, instrument, balance)),
-        Event::Block { what, on } => plain(judge_block(m, what, on)),
+        Event::Set { setting } => plain(judge_setting(m, setting)),
         Event::New {
             side,
             account,

@@ -3,7 +3,8 @@ use Rattle.integers.specs.Basics.{ℕ, _+_, _≤_, _<_, _≡_, refl, _∙_, Boo
 use Rattle.words.specs.Words.{putWord}
 use Rattle.ledger.specs.Roster.{Numbered}
 use Rattle.limits.specs.Asked.{isZero}
-use Rattle.book.specs.declared.Event.the-variants.{Block}
+use Rattle.book.specs.declared.Setting.the-variants.{Block}
+use Rattle.book.specs.declared.Event.the-variants.{Set}
 use Rattle.book.specs.declared.Blocked.{Blocked}
 use Rattle.book.specs.declared.Blocked.the-variants.{Account, Instrument, GroupFor}
 use Rattle.book.specs.Books.{setBlock, bookAfter}
@@ -48,7 +49,7 @@ module _ (m : List ℕ) (held : InBounds m) (j v : ℕ) (from : 144 ≤ j) (belo
       → rowOf (rosterOf m .instruments) (λ i. flag put (instrumentBlockWord i)) ≡ instruments
       → tableOf (rosterOf m .accounts) (rosterOf m .groups) false (groupBlockAt put) ≡ groups
       → blocksBy accounts instruments groups ≡ setBlock what (not (isZero z)) (blocksOf m)
-      → view put ≡ work (view m) (Block what z)
+      → view put ≡ work (view m) (Set (Block what z))
   unfolding bookOf bookAfter mark
   block-view what z accounts instruments groups blocks =
       same-view (one-market put m held j others (omega arith) (omega arith)) block-roster
@@ -64,7 +65,7 @@ module _ (m : List ℕ) (held : InBounds m) (z : ℤ) where
   on = not (isZero z)
 
   pub view-block-account : (a : ℕ) → Numbered (rosterOf m .accounts) a
-      → view (blockAccount m a on) ≡ work (view m) (Block (Account a) z)
+      → view (blockAccount m a on) ≡ work (view m) (Set (Block (Account a) z))
   unfolding blocksOf setBlock
   view-block-account a on-a =
       let sized = held .sized in
@@ -78,7 +79,7 @@ module _ (m : List ℕ) (held : InBounds m) (z : ℤ) where
       (groups-kept m held j (bit on) (omega arith) (omega arith) (omega arith)) refl
 
   pub view-block-instrument : (i : ℕ) → Numbered (rosterOf m .instruments) i
-      → view (blockInstrument m i on) ≡ work (view m) (Block (Instrument i) z)
+      → view (blockInstrument m i on) ≡ work (view m) (Set (Block (Instrument i) z))
   unfolding blocksOf setBlock
   view-block-instrument i on-i =
       let sized = held .sized in
@@ -93,7 +94,7 @@ module _ (m : List ℕ) (held : InBounds m) (z : ℤ) where
       (groups-kept m held j (bit on) (omega arith) (omega arith) (omega arith)) refl
 
   pub view-block-group : (a g : ℕ) → Numbered (rosterOf m .accounts) a → Numbered (rosterOf m .groups) g
-      → view (blockGroup m a g on) ≡ work (view m) (Block (GroupFor a g) z)
+      → view (blockGroup m a g on) ≡ work (view m) (Set (Block (GroupFor a g) z))
   unfolding blocksOf setBlock
   view-block-group a g on-a on-g =
       let sized = held .sized in

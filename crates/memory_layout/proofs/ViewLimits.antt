@@ -4,7 +4,8 @@ use Rattle.words.specs.Words.{wordAt}
 use Rattle.ledger.specs.Roster.{Numbered}
 use Rattle.book.specs.declared.Figures.{Figures}
 use Rattle.book.specs.declared.LimitLine.the-variants.{Own, Default, OfGroup}
-use Rattle.book.specs.declared.Event.the-variants.{Limit}
+use Rattle.book.specs.declared.Setting.the-variants.{Limit}
+use Rattle.book.specs.declared.Event.the-variants.{Set}
 use Rattle.book.specs.Books.{at, lineOf, groupLineOf, setLine}
 use Rattle.book.specs.States.{work}
 use Rattle.memory_layout.specs.Layout.{ownSetRow, defaultSetRow, groupSetRow, ownRow, defaultRow, groupRow}
@@ -75,7 +76,7 @@ module _ (m : List ℕ) (held : InBounds m) (a i : ℕ) (f : Figures) (small : S
         elsewhere = line-elsewhere m (ownSetRow a + i) (ownRow a + i * 2) (lineOf f);
       }
 
-  pub view-own : view own ≡ work (view m) (Limit a (Own i f))
+  pub view-own : view own ≡ work (view m) (Set (Limit a (Own i f)))
   unfolding linesOf setLine
   view-own =
       let sized = held .sized in
@@ -107,7 +108,7 @@ module _ (m : List ℕ) (held : InBounds m) (a c : ℕ) (f : Figures) (small : S
         elsewhere = line-elsewhere m (defaultSetRow a + c) (defaultRow a + c * 2) (lineOf f);
       }
 
-  pub view-default : view default ≡ work (view m) (Limit a (Default c f))
+  pub view-default : view default ≡ work (view m) (Set (Limit a (Default c f)))
   unfolding linesOf setLine
   view-default =
       let sized = held .sized in
@@ -139,7 +140,7 @@ module _ (m : List ℕ) (held : InBounds m) (a g : ℕ) (x y : ℤ) (small : Sma
         elsewhere = group-line-elsewhere m (groupSetRow a + g) (groupRow a + g) (groupLineOf x y);
       }
 
-  pub view-of-group : view of-group ≡ work (view m) (Limit a (OfGroup g x y))
+  pub view-of-group : view of-group ≡ work (view m) (Set (Limit a (OfGroup g x y)))
   unfolding linesOf setLine
   view-of-group =
       let sized = held .sized in

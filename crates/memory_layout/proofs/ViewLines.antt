@@ -3,7 +3,8 @@ use Rattle.integers.specs.Basics.{ℕ, _≡_, _∙_, ap, fun-ext, cond, List, O
 use Rattle.ledger.proofs.Ways.{by-number}
 use Rattle.limits.specs.Lines.{Line, GroupLine}
 use Rattle.book.specs.declared.LimitLine.{LimitLine}
-use Rattle.book.specs.declared.Event.the-variants.{Limit}
+use Rattle.book.specs.declared.Setting.the-variants.{Limit}
+use Rattle.book.specs.declared.Event.the-variants.{Set}
 use Rattle.book.specs.Books.{at, setLine, bookAfter}
 use Rattle.book.specs.States.{mark, work}
 use Rattle.book.proofs.Tables.{at-here, at-elsewhere}
@@ -21,7 +22,7 @@ module _ (l m : List ℕ) (held : InBounds m) (before : Same 0 768 l m) (after :
   lines-roster = roster-same l m (held .sized) (λ k low high. before k (omega arith) (omega arith))
 
   pub lines-view : (a : ℕ) (line : LimitLine) → linesOf l ≡ at a (setLine line (linesOf m a)) (linesOf m)
-      → view l ≡ work (view m) (Limit a line)
+      → view l ≡ work (view m) (Set (Limit a line))
   unfolding bookOf bookAfter mark
   lines-view a line lines =
       same-view (market-same l m (before kindWord (omega arith) (omega arith))) lines-roster

@@ -2,7 +2,8 @@
 use Rattle.integers.specs.Basics.{ℕ, _+_, _≤_, _<_, _≡_, _∙_, ap, true, List, ℤ, pos, w64, SFits, arith}
 use Rattle.words.proofs.TwosComplement.{signed-put-same, signed-put-other}
 use Rattle.ledger.specs.Roster.{Numbered}
-use Rattle.book.specs.declared.Event.the-variants.{Balance}
+use Rattle.book.specs.declared.Setting.the-variants.{Balance}
+use Rattle.book.specs.declared.Event.the-variants.{Set}
 use Rattle.book.specs.Books.{at, bookAfter}
 use Rattle.book.specs.States.{mark, work}
 use Rattle.memory_layout.specs.Layout.{kindWord, countWord, firstWord, markWord, balanceRow}
@@ -54,7 +55,7 @@ module _ (m : List ℕ) (held : InBounds m) (a i : ℕ) (z : ℤ) (on-a : Number
       (signed-put-same m (balanceRow a + i) z (omega (arith, held .long)) fits)
       (λ b k on-b on-k apart. signed-put-other m (balanceRow a + i) z (balanceRow b + k) (λ e. apart (omega arith) (omega arith)))
 
-  pub view-balance : view balanced ≡ work (view m) (Balance a i z)
+  pub view-balance : view balanced ≡ work (view m) (Set (Balance a i z))
   unfolding bookOf bookAfter mark
   view-balance =
       let j : ℕ = balanceRow a + i in

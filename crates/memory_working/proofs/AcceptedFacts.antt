@@ -1,22 +1,19 @@
 -- What an acceptance tells of the event, kind by kind: its numbers are on the roster, its figures in range, its order open.
-use Rattle.integers.specs.Basics.{ℕ, _≤_, _<_, _≡_, true, List, some, ℤ, pos, negℤ, natAbs, _≤ℤ_, length, arith, ltb-true, signed}
+use Rattle.integers.specs.Basics.{ℕ, _≤_, _<_, _≡_, Bool, true, List, Option, none, some, ℤ, pos, negℤ, natAbs, _≤ℤ_, length, arith}
+use Rattle.integers.specs.Basics.{ltb-true, signed}
 use Rattle.integers.specs.Magnitude.{within-in}
 use Rattle.words.specs.Words.{wordAt}
 use Rattle.ledger.specs.declared.order.Order.{Order}
 use Rattle.ledger.specs.Roster.{Roster, Numbered}
-use Rattle.book.specs.declared.LimitLine.{LimitLine}
-use Rattle.book.specs.declared.LimitLine.the-variants.{Own, Default, OfGroup}
-use Rattle.book.specs.declared.Blocked.{Blocked}
-use Rattle.book.specs.declared.Blocked.the-variants.{Account, Instrument, GroupFor}
 use Rattle.book.specs.declared.Event.{Event}
 use Rattle.book.specs.declared.OrderChange.{OrderChange}
-use Rattle.book.specs.declared.Event.the-variants.{Limit, Balance, Block, New, Change, Junk}
+use Rattle.book.specs.declared.Event.the-variants.{Set, New, Change, Junk}
 use Rattle.book.specs.OpenOrders.{find}
 use Rattle.book.specs.Sound.{OrderFits, Sound}
 use Rattle.book.specs.Decoding.{between}
-use Rattle.book.specs.Names.{limitedItem, blockedAccount, blockedItem}
-use Rattle.book.specs.Table.{whereSome, accountKnown, isListed, itemKnown, isQuantity, lineFits, changeInRange, figuresFit, fitsOrder}
-use Rattle.book.specs.Table.{placeFree}
+use Rattle.book.specs.Settings.{Item, anInstrument, aContract, aGroup, settingAccount, settingItem}
+use Rattle.book.specs.Table.{whereSome, accountKnown, isListed, itemKnown, betweenℤ, isQuantity, changeInRange, settingInRange, figuresFit}
+use Rattle.book.specs.Table.{fitsOrder, placeFree}
 use Rattle.book.proofs.Accepted.{Passed, accepted}
 use Rattle.book.proofs.Cuts.{standing, standing-member}
 use Rattle.book.proofs.Tables.{between-numbered, betweenℤ-both, quantity-numbered}
@@ -30,16 +27,16 @@ use Rattle.memory_soundness.specs.SoundMemory.{SoundMemory}
 use Rattle.memory_soundness.proofs.SoundDesk.{sound-count, sound-records}
 use Rattle.memory_layout.proofs.Lengths.{length-open}
 
--- the item of a line is on the roster
-abbrev pub LineOnRoster : Roster → LimitLine → Type 0
-LineOnRoster r (Own i f) = Numbered (r .instruments) i
-LineOnRoster r (Default c f) = Numbered (r .contracts) c
-LineOnRoster r (OfGroup g x y) = Numbered (r .groups) g
+-- an item is on the roster
+abbrev pub OnRoster : Roster → Item → Type 0
+OnRoster r (anInstrument i) = Numbered (r .instruments) i
+OnRoster r (aContract c) = Numbered (r .contracts) c
+OnRoster r (aGroup g) = Numbered (r .groups) g
 
-abbrev pub BlockOnRoster : Roster → Blocked → Type 0
-BlockOnRoster r (Account a) = Numbered (r .accounts) a
-BlockOnRoster r (Instrument i) = Numbered (r .instruments) i
-BlockOnRoster r (GroupFor a g) = Numbered (r .accounts) a × Numbered (r .groups) g
+-- of what is named, where something is
+abbrev pub WhereSome : {A : Type 0} → (A → Type 0) → Option A → Type 0
+WhereSome P none = Unit
+WhereSome P (some x) = P x
 
 -- the order with an id is open, and in range
 pub record Found (m : List ℕ) (id : ℕ) : Type 0 where
@@ -54,11 +51,10 @@ abbrev pub ChangeFacts : OrderChange → Order → Type 0
 ChangeFacts c o = (changeInRange c ≡ true) × (fitsOrder c o ≡ true)
 
 abbrev pub AcceptedFacts : List ℕ → Event → Type 0
-AcceptedFacts m (Limit a l) =
-    Numbered (rosterOf m .accounts) a × LineOnRoster (rosterOf m) l × (lineFits (marketOf m .largest) l ≡ true)
-AcceptedFacts m (Balance a i z) =
-    Numbered (rosterOf m .accounts) a × Numbered (rosterOf m .instruments) i × (natAbs z ≤ marketOf m .largest)
-AcceptedFacts m (Block what z) = BlockOnRoster (rosterOf m) what
+AcceptedFacts m (Set x) =
+    WhereSome (Numbered (rosterOf m .accounts)) (settingAccount x)
+    × WhereSome (OnRoster (rosterOf m)) (settingItem x)
+    × (settingInRange (marketOf m) x ≡ true)
 AcceptedFacts m (New s a i id n) =
     Numbered (rosterOf m .accounts) a × Numbered (rosterOf m .instruments) i × Quantity n × (wordAt m countWord < 256)
 AcceptedFacts m (Change id c) = (f : Found m id) × ChangeFacts c (f .order)
@@ -88,16 +84,21 @@ unfolding judged
 passed m e passes = accepted (view m) e passes .passed
 
 -- ---- an accepted event
-line-told : (r : Roster) (l : LimitLine) → isListed r (limitedItem l) ≡ true → LineOnRoster r l
-line-told r (Own i f) h = between-numbered (r .instruments) i h
-line-told r (Default c f) h = between-numbered (r .contracts) c h
-line-told r (OfGroup g x y) h = between-numbered (r .groups) g h
+item-told : (r : Roster) (x : Item) → isListed r x ≡ true → OnRoster r x
+item-told r (anInstrument i) h = between-numbered (r .instruments) i h
+item-told r (aContract c) h = between-numbered (r .contracts) c h
+item-told r (aGroup g) h = between-numbered (r .groups) g h
 
-block-told : (r : Roster) (what : Blocked) → whereSome (between 1 (r .accounts)) (blockedAccount what) ≡ true
-    → whereSome (isListed r) (blockedItem what) ≡ true → BlockOnRoster r what
-block-told r (Account a) h k = between-numbered (r .accounts) a h
-block-told r (Instrument i) h k = between-numbered (r .instruments) i k
-block-told r (GroupFor a g) h k = (between-numbered (r .accounts) a h, between-numbered (r .groups) g k)
+some-told : {A : Type 0} (f : A → Bool) (P : A → Type 0) → ((x : A) → f x ≡ true → P x) → (y : Option A) → whereSome f y ≡ true
+    → WhereSome P y
+some-told f P each none h = tt
+some-told f P each (some x) h = each x h
+
+-- a balance in range
+pub balance-told : (largest : ℕ) (z : ℤ) → betweenℤ (negℤ (pos largest)) (pos largest) z ≡ true → natAbs z ≤ largest
+balance-told largest z h =
+    let in-range = betweenℤ-both (negℤ (pos largest)) (pos largest) z h in
+    within-in z largest (in-range .0) (in-range .1)
 
 pub quantity : (n : ℤ) → isQuantity n ≡ true → Quantity n
 quantity n e =
@@ -116,19 +117,13 @@ module _ (m : List ℕ) (held : SoundMemory m) where
 
   pub accepted-facts : (e : Event) → judged m e ≡ 0 → AcceptedFacts m e
   unfolding accountKnown itemKnown figuresFit placeFree bookOf
-  accepted-facts (Limit a l) passes =
-      let ok = passed m (Limit a l) passes in
-      (between-numbered (rosterOf m .accounts) a (ok .account), line-told (rosterOf m) l (ok .item), ok .figures)
-  accepted-facts (Balance a i z) passes =
-      let ok = passed m (Balance a i z) passes in
-      let z-in = betweenℤ-both (negℤ (pos (marketOf m .largest))) (pos (marketOf m .largest)) z (ok .figures) in (
-        between-numbered (rosterOf m .accounts) a (ok .account),
-        between-numbered (rosterOf m .instruments) i (ok .item),
-        within-in z (marketOf m .largest) (z-in .0) (z-in .1),
+  accepted-facts (Set x) passes =
+      let ok = passed m (Set x) passes in
+      let r = rosterOf m in (
+        some-told (between 1 (r .accounts)) (Numbered (r .accounts)) (between-numbered (r .accounts)) (settingAccount x) (ok .account),
+        some-told (isListed r) (OnRoster r) (item-told r) (settingItem x) (ok .item),
+        ok .figures,
       )
-  accepted-facts (Block what z) passes =
-      let ok = passed m (Block what z) passes in
-      block-told (rosterOf m) what (ok .account) (ok .item)
   accepted-facts (New s a i id n) passes =
       let ok = passed m (New s a i id n) passes in
       let few = ltb-true (length (openOrders m)) 256 (ok .room) in (

@@ -4,7 +4,8 @@ use Rattle.ledger.proofs.Ways.{by-number}
 use Rattle.limits.specs.Asked.{isZero}
 use Rattle.limits.proofs.Asking.{isZero-false}
 use Rattle.book.specs.declared.Blocked.{Blocked}
-use Rattle.book.specs.declared.Event.the-variants.{Block}
+use Rattle.book.specs.declared.Setting.the-variants.{Block}
+use Rattle.book.specs.declared.Event.the-variants.{Set}
 use Rattle.memory_working.specs.Working.{AcceptedEvent, blockStored, worked}
 
 zero-bits : (z : ℤ) → SFits w64 z → eqb (ofZ w64 z) 0 ≡ isZero z
@@ -13,10 +14,11 @@ zero-bits z fits =
     (λ e. let zero : z ≡ pos 0 = sym (toZ-ofZ w64 z fits) ∙ ap (toZ w64) e in rw zero)
     (λ other. sym (isZero-false z (λ e. other (ap (ofZ w64) e))))
 
-pub ready-block : {m : List ℕ} {what w : Blocked} {z : ℤ} → what ≡ w → AcceptedEvent m (Block what z) → AcceptedEvent m (Block w z)
+pub ready-block : {m : List ℕ} {what w : Blocked} {z : ℤ} → what ≡ w → AcceptedEvent m (Set (Block what z))
+    → AcceptedEvent m (Set (Block w z))
 ready-block same ready = rw same at ready
 
 pub worked-block : (m : List ℕ) (z : ℤ) {what w : Blocked} {x : List ℕ} → SFits w64 z → what ≡ w
-    → x ≡ blockStored m w (not (eqb (ofZ w64 z) 0)) → x ≡ worked m (Block what z)
+    → x ≡ blockStored m w (not (eqb (ofZ w64 z) 0)) → x ≡ worked m (Set (Block what z))
 unfolding worked
 worked-block m z fits same stored = rw (same, ← zero-bits z fits) stored

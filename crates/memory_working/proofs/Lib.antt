@@ -1,6 +1,8 @@
 -- Working an accepted event: what an acceptance tells, what is then stored, and that the view becomes the book's and stays sound.
 pub mod AcceptedFacts
 pub mod FirstRecord
+pub mod StoreRuns
+pub mod SettingWorked
 pub mod Writes
 pub mod Small
 pub mod ViewWorked

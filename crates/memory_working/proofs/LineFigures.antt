@@ -11,7 +11,8 @@ use Rattle.book.specs.Table.{isLimit, figuresOfLineFit}
 use Rattle.book.proofs.Tables.{betweenℤ-both}
 use Rattle.book.specs.declared.LimitLine.{LimitLine}
 use Rattle.book.specs.declared.LimitLine.the-variants.{OfGroup}
-use Rattle.book.specs.declared.Event.the-variants.{Limit}
+use Rattle.book.specs.declared.Setting.the-variants.{Limit}
+use Rattle.book.specs.declared.Event.the-variants.{Set}
 use Rattle.memory_layout.specs.FieldStores.{lineWith, groupLineWith}
 use Rattle.memory_working.specs.Working.{AcceptedEvent, LineStorable, lineStored, worked}
 use Rattle.memory_working.proofs.AcceptedFacts.{accepted-facts}
@@ -66,7 +67,7 @@ positive-not-minus-one : (z : ℤ) → pos 0 ≤ℤ z → isMinusOne z ≡ false
 positive-not-minus-one (pos n) h = refl
 positive-not-minus-one (negsuc n) h = absurd (h .le)
 
-module _ {m : List ℕ} {a g : ℕ} {x y : ℤ} (ready : AcceptedEvent m (Limit a (OfGroup g x y))) (fits-x : SFits w64 x) {t : Bool}
+module _ {m : List ℕ} {a g : ℕ} {x y : ℤ} (ready : AcceptedEvent m (Set (Limit a (OfGroup g x y)))) (fits-x : SFits w64 x) {t : Bool}
     (tested : t ≡ isMinusOne (toZ w64 (ofZ w64 x))) where
   abbrev largest : ℕ
   largest = marketOf m .largest
@@ -75,7 +76,7 @@ module _ {m : List ℕ} {a g : ℕ} {x y : ℤ} (ready : AcceptedEvent m (Limit 
   most = market-most m
 
   fit : (isMinusOne x && isMinusOne y) || (isLimit largest x && isLimit largest y) ≡ true
-  fit = accepted-facts m (ready .held) (Limit a (OfGroup g x y)) (ready .accepted) .2
+  fit = accepted-facts m (ready .held) (Set (Limit a (OfGroup g x y))) (ready .accepted) .2
 
   first : isMinusOne x ≡ t
   first = sym (tested ∙ ap isMinusOne (toZ-ofZ w64 x fits-x))
@@ -106,10 +107,10 @@ pub storable-figures : (m : List ℕ) (f : Figures) → figuresOfLineFit (market
 storable-figures m f fits = record { largest = marketOf m .largest; most = market-most m; fits = fits }
 
 -- ---- a line by another name
-pub ready-line : {m : List ℕ} {a : ℕ} {l k : LimitLine} → l ≡ k → AcceptedEvent m (Limit a l) → AcceptedEvent m (Limit a k)
+pub ready-line : {m : List ℕ} {a : ℕ} {l k : LimitLine} → l ≡ k → AcceptedEvent m (Set (Limit a l)) → AcceptedEvent m (Set (Limit a k))
 ready-line same ready = rw same at ready
 
-pub worked-line : (m : List ℕ) (a : ℕ) {l k : LimitLine} {x : List ℕ} → l ≡ k → x ≡ lineStored m a k → x ≡ worked m (Limit a l)
+pub worked-line : (m : List ℕ) (a : ℕ) {l k : LimitLine} {x : List ℕ} → l ≡ k → x ≡ lineStored m a k → x ≡ worked m (Set (Limit a l))
 unfolding worked
 worked-line m a same stored = rw same stored
 

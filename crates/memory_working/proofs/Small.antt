@@ -1,6 +1,6 @@
 -- The figures that an accepted event stores fit their words and halves of words.
 use Rattle.integers.specs.Basics.{ℕ, _^_, _≤_, _<_, _≡_, refl, ⊎-elim, List, [], _∷_, List·Memᴰ, List·Memᴰ·head, List·Memᴰ·tail}
-use Rattle.integers.specs.Basics.{List·Memᴰ·not-nil, Option, none, some, eqb, arith}
+use Rattle.integers.specs.Basics.{List·Memᴰ·not-nil, Option, none, some, arith}
 use mathlib.Core.List.{List·Memᴰ·eq-of-singleton}
 use Rattle.words.specs.Bytes.{Bytes}
 use Rattle.words.specs.Fields.{u64At}
@@ -10,13 +10,14 @@ use Rattle.ledger.specs.declared.order.Order.{Order}
 use Rattle.ledger.specs.Orders.{remaining}
 use Rattle.limits.specs.Lines.{Line, GroupLine}
 use Rattle.book.specs.declared.Event.{Event}
-use Rattle.book.specs.declared.Event.the-variants.{Limit, Balance, Block, New, Change, Junk}
-use Rattle.book.specs.Decoding.{kindOf, wellFormed, eventOf, decode}
+use Rattle.book.specs.declared.Event.the-variants.{Set, New, Change, Junk}
+use Rattle.book.specs.Decoding.{decode}
 use Rattle.book.specs.OpenOrders.{change}
 use Rattle.book.specs.declared.OrderChange.{OrderChange}
 use Rattle.book.specs.Books.{newOrder, changed, bookAfter}
 use Rattle.book.specs.States.{work}
 use Rattle.book.specs.Sound.{LineFits, GroupLineFits}
+use Rattle.book.proofs.Decoded.{decoded-each}
 use Rattle.book.proofs.Cuts.{standing, standing-member, insert-members}
 use Rattle.book.proofs.Ids.{Became, gone, became, changed-became}
 use Rattle.book.proofs.SoundOrders.{change-each, fits-after}
@@ -24,7 +25,6 @@ use Rattle.memory_layout.specs.Layout.{countWord}
 use Rattle.memory_layout.specs.View.{recordsOf, openOrders, bookOf, view}
 use Rattle.memory_layout.specs.Stores.{SmallOrder, SmallOrders}
 use Rattle.memory_layout.specs.Judged.{judged}
-use Rattle.memory_layout.proofs.RosterLaws.{by-test}
 use Rattle.memory_layout.proofs.OrderRecords.{small-open}
 use Rattle.memory_layout.proofs.StoreWords.{SmallLine, SmallGroupLine}
 use Rattle.memory_soundness.specs.SoundMemory.{SoundMemory}
@@ -48,26 +48,15 @@ small-group-line most (some l) fits = let f = fits l refl in omega arith
 -- ---- open orders
 -- the id of a NEW is a word
 abbrev pub Sized : Event → Type 0
-Sized (Limit a l) = Unit
-Sized (Balance a i z) = Unit
-Sized (Block what z) = Unit
+Sized (Set x) = Unit
 Sized (New s a i id n) = id < 2 ^ 64
 Sized (Change id c) = Unit
 Sized Junk = Unit
 
 -- so it is of every decoded event
 pub decoded-sized : (e : List ℕ) → Bytes e → Sized (decode e)
-unfolding decode eventOf u64At
-decoded-sized e bytes =
-    let k = kindOf e in
-    by-test (wellFormed e) _ _ Sized
-    (λ _. by-test (eqb k 1) _ _ Sized (λ _. tt)
-    (λ _. by-test (eqb k 2) _ _ Sized (λ _. tt)
-    (λ _. by-test (eqb k 3) _ _ Sized (λ _. tt)
-    (λ _. by-test (eqb k 4) _ _ Sized (λ _. number-below 8 e 8 bytes)
-    (λ _. by-test (eqb k 5) _ _ Sized (λ _. tt)
-    (λ _. by-test (eqb k 6) _ _ Sized (λ _. tt) (λ _. tt)))))))
-    (λ _. tt)
+unfolding u64At
+decoded-sized e bytes = decoded-each Sized e (λ x. tt) (λ s a i n has. number-below 8 e 8 bytes) (λ id c. tt) tt
 
 members-small : (os : List Order) → ((o : Order) → List·Memᴰ o os → SmallOrder o) → SmallOrders os
 members-small [] small = tt
@@ -94,9 +83,7 @@ module _ (m : List ℕ) (bytes : Bytes m) (held : SoundMemory m) where
 
   ids-after : (e : Event) → Sized e → judged m e ≡ 0 → (x : Order) → List·Memᴰ x (work (view m) e .book .orders) → x .id < 2 ^ 64
   unfolding bookAfter bookOf newOrder
-  ids-after (Limit a l) sized passes = open-ids
-  ids-after (Balance a i z) sized passes = open-ids
-  ids-after (Block what z) sized passes = open-ids
+  ids-after (Set x) sized passes = open-ids
   ids-after (New s a i id n) sized passes =
       λ x k. ⊎-elim (λ e. rw e sized) (open-ids x) (insert-members (newOrder s a i id n) (openOrders m) x .0 k)
   ids-after (Change id c) sized passes = changed-ids id c (accepted-facts m held (Change id c) passes .0)

@@ -16,7 +16,8 @@ use Rattle.memory_layout.specs.Judged.{judged}
 use Rattle.memory_soundness.specs.SoundMemory.{Figures, SoundMemory}
 use Rattle.memory_working.specs.Working.{worked}
 use Rattle.memory_working.proofs.AcceptedFacts.{sound, laid}
-use Rattle.memory_working.proofs.Writes.{FiguresFit, Stores, worked-keeps, length-worked, word-worked, roster-worked, market-worked}
+use Rattle.memory_working.proofs.StoreRuns.{FiguresFit, Stores}
+use Rattle.memory_working.proofs.Writes.{worked-keeps, length-worked, word-worked, roster-worked, market-worked}
 use Rattle.memory_working.proofs.Small.{Sized}
 use Rattle.memory_working.proofs.ViewWorked.{view-worked}
 

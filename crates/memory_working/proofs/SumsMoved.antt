@@ -1,5 +1,5 @@
 -- B and V after an accepted event of an order: what counts of that order is another number, as the book says it, and no other sum changes.
-use Rattle.integers.specs.Basics.{ℕ, _^_, _≤_, _<_, _≡_, refl, sym, ap, subst, List, pos, arith}
+use Rattle.integers.specs.Basics.{ℕ, _^_, _≤_, _<_, _≡_, sym, ap, subst, List, pos, arith}
 use native.Mathlib.Nat.{one-mul}
 use Rattle.words.specs.Bytes.{Bytes}
 use Rattle.ledger.specs.declared.order.Order.{Order}
@@ -11,11 +11,12 @@ use Rattle.ledger.proofs.Amounts.{amount}
 use Rattle.ledger.proofs.Changes.{CountChanged}
 use Rattle.limits.specs.Raised.{addedOn}
 use Rattle.book.specs.declared.OrderChange.{OrderChange}
+use Rattle.book.specs.declared.Setting.{Setting}
 use Rattle.book.specs.declared.Event.{Event}
-use Rattle.book.specs.declared.Event.the-variants.{Limit, Balance, Block, New, Change, Junk}
+use Rattle.book.specs.declared.Event.the-variants.{Set, Change}
 use Rattle.book.specs.Market.{marketOfKind}
 use Rattle.book.specs.Books.{orderAfter, bookAfter}
-use Rattle.book.specs.States.{State, work}
+use Rattle.book.specs.States.{work}
 use Rattle.book.proofs.Shifts.{new-shift, change-shift}
 use Rattle.memory_layout.specs.View.{marketOf, openOrders, bookOf, view}
 use Rattle.memory_layout.specs.Judged.{judged}
@@ -24,7 +25,6 @@ use Rattle.memory_soundness.specs.SoundMemory.{SoundMemory}
 use Rattle.memory_working.specs.Working.{Ready, newOf, worked}
 use Rattle.memory_working.specs.SumsChanged.{SumsChanged}
 use Rattle.memory_working.proofs.Handing.{accepted-as}
-use Rattle.memory_working.proofs.Writes.{Setting}
 use Rattle.memory_working.proofs.Small.{Sized}
 use Rattle.memory_working.proofs.AcceptedFacts.{accepted-facts}
 use Rattle.memory_working.proofs.ViewWorked.{view-worked}
@@ -81,29 +81,11 @@ change-sums {m} {id} {w} {p} {c} bytes ready =
     told bytes (ready .held) (Change id c) tt (ready .accepted) o (remaining o) after
     (omega (arith, remaining-most (orderAfter c o), after-in ready)) (change-shift (view m) id o (found ready) c)
 
--- an event of no order leaves them
-still : (k : State) (e : Event) → Setting e → work k e .book .orders ≡ k .book .orders
-unfolding bookAfter
-still k (Limit a l) s = refl
-still k (Balance a i z) s = refl
-still k (Block what z) s = refl
-still k (New x a i id n) s = absurd s
-still k (Change id c) s = absurd s
-still k Junk s = refl
-
-setting-sized : (e : Event) → Setting e → Sized e
-setting-sized (Limit a l) s = tt
-setting-sized (Balance a i z) s = tt
-setting-sized (Block what z) s = tt
-setting-sized (New x a i id n) s = absurd s
-setting-sized (Change id c) s = tt
-setting-sized Junk s = tt
-
--- it is worked under the name that the match gives it
-pub setting-done : {m cells x : List ℕ} {e e′ : Event} {p w : ℕ} → Bytes m → e ≡ e′ → Ready m e p w → Setting e′ → x ≡ worked m e′
-    → Sums cells (openOrders m) → (x ≡ worked m e) × Sums cells (openOrders x)
-unfolding bookOf
-setting-done {m} {cells} {x} {e} {e′} bytes same ready s stored sums =
+-- a setting leaves the open orders as they are; it is worked under the name that the match gives it
+pub setting-done : {m cells l : List ℕ} {e : Event} {x : Setting} {p w : ℕ} → Bytes m → e ≡ Set x → Ready m e p w → l ≡ worked m (Set x)
+    → Sums cells (openOrders m) → (l ≡ worked m e) × Sums cells (openOrders l)
+unfolding bookOf bookAfter
+setting-done {m} {cells} {l} {e} {x} bytes same ready stored sums =
     let r = accepted-as same ready in
-    let kept = after-event m bytes (r .held) e′ (setting-sized e′ s) (r .accepted) in
-    (rw same stored, rw (stored, kept, still (view m) e′ s) sums)
+    let kept = after-event m bytes (r .held) (Set x) tt (r .accepted) in
+    (rw same stored, rw (stored, kept) sums)

@@ -10,34 +10,30 @@ use Rattle.ledger.specs.Fillings.{fillMoves}
 use Rattle.ledger.specs.Positions.{toward, wayOf}
 use Rattle.ledger.proofs.Amounts.{fill-apart}
 use Rattle.ledger.proofs.Ways.{by-number}
-use Rattle.book.specs.declared.LimitLine.the-variants.{Own, Default, OfGroup}
-use Rattle.book.specs.declared.Blocked.the-variants.{Account, Instrument, GroupFor}
+use Rattle.book.specs.declared.Setting.the-variants.{Balance}
 use Rattle.book.specs.declared.Event.{Event}
 use Rattle.book.specs.declared.OrderChange.{OrderChange}
-use Rattle.book.specs.declared.Event.the-variants.{Limit, Balance, Block, New, Change, Junk}
+use Rattle.book.specs.declared.Event.the-variants.{Set, New, Change, Junk}
 use Rattle.book.specs.OpenOrders.{change}
-use Rattle.book.specs.Books.{at, lineOf, groupLineOf, changed, filledIn, bookAfter}
+use Rattle.book.specs.Books.{at, changed, filledIn, bookAfter}
 use Rattle.book.specs.States.{State, mark, work}
 use Rattle.book.proofs.OrderChanges.{after-filled, after-fits}
-use Rattle.book.proofs.SoundLines.{line-fits, group-line-fits}
-use Rattle.memory_layout.proofs.MarketRead.{market-most}
 use Rattle.memory_layout.specs.View.{marketOf, rosterOf, linesOf, balancesOf, blocksOf, openOrders, bookOf, tradingOf, view}
 use Rattle.memory_layout.specs.Stores.{storeFrom, joinedFirst, rank}
 use Rattle.memory_layout.specs.Judged.{judged}
 use Rattle.memory_layout.proofs.GuardedTables.{stateOf}
 use Rattle.memory_layout.proofs.FirstRecord.{joined-small}
 use Rattle.memory_layout.proofs.ViewStores.{view-balance, view-mark}
-use Rattle.memory_layout.proofs.ViewBlocks.{view-block-account, view-block-instrument, view-block-group}
-use Rattle.memory_layout.proofs.ViewLimits.{view-own, view-default, view-of-group}
 use Rattle.memory_layout.proofs.ViewOrders.{view-orders, bounds-orders, roster-orders}
 use Rattle.memory_soundness.specs.SoundMemory.{SoundMemory}
 use Rattle.memory_soundness.proofs.Bounded.{balance-small}
 use Rattle.memory_working.specs.Working.{firstAfter, recordsChanged, worked}
 use Rattle.memory_working.proofs.AcceptedFacts.{laid, accepted-facts}
 use Rattle.memory_working.proofs.FirstRecord.{after-small}
+use Rattle.memory_working.proofs.SettingWorked.{setting-shown}
 use Rattle.memory_working.proofs.Writes.{few-after}
 use Rattle.memory_working.proofs.Filling.{fill-one}
-use Rattle.memory_working.proofs.Small.{Sized, small-line, small-group-line, small-after}
+use Rattle.memory_working.proofs.Small.{Sized, small-after}
 
 -- a fill moves the balance of its order's account and instrument alone
 fill-moves : (unit : Order → ℕ) (o : Order) (n : ℕ) (S : ℕ → ℕ → ℤ)
@@ -129,32 +125,13 @@ module _ (m : List ℕ) (bytes : Bytes m) (held : SoundMemory m) where
         after-filled c o,
         magnitude-sum (balancesOf m a i) (fillMoves unit a i o n),
       ))
-      ∙ ap (λ (k : State). work k (Balance a i z)) (orders-shown f inside e tt passes)
+      ∙ ap (λ (k : State). work k (Set (Balance a i z))) (orders-shown f inside e tt passes)
       ∙ ap (λ s. stateOf (marketOf m) (rosterOf m) s (linesOf m) (blocksOf m) os (tradingOf m)) (fill-moves unit o n (balancesOf m)))
 
   pub view-worked : (e : Event) → Sized e → judged m e ≡ 0
       → view (worked m e) ≡ work (view m) e
   unfolding worked bookAfter bookOf mark
-  view-worked (Limit a (Own i f)) id-word passes =
-      let t = accepted-facts m held (Limit a (Own i f)) passes in
-      view-own m (laid m held) a i f (small-line (market-most m) (lineOf f) (line-fits _ f (t .2))) (t .0) (t .1)
-  view-worked (Limit a (Default c f)) id-word passes =
-      let t = accepted-facts m held (Limit a (Default c f)) passes in
-      view-default m (laid m held) a c f (small-line (market-most m) (lineOf f) (line-fits _ f (t .2))) (t .0) (t .1)
-  view-worked (Limit a (OfGroup g x y)) id-word passes =
-      let t = accepted-facts m held (Limit a (OfGroup g x y)) passes in
-      view-of-group m (laid m held) a g x y (small-group-line (market-most m) (groupLineOf x y) (group-line-fits _ x y (t .2))) (t .0)
-      (t .1)
-  view-worked (Balance a i z) id-word passes =
-      let t = accepted-facts m held (Balance a i z) passes in
-      view-balance m (laid m held) a i z (t .0) (t .1) (omega (sized, market-most m))
-  view-worked (Block (Account a) z) id-word passes =
-      view-block-account m (laid m held) z a (accepted-facts m held (Block (Account a) z) passes)
-  view-worked (Block (Instrument i) z) id-word passes =
-      view-block-instrument m (laid m held) z i (accepted-facts m held (Block (Instrument i) z) passes)
-  view-worked (Block (GroupFor a g) z) id-word passes =
-      let t = accepted-facts m held (Block (GroupFor a g) z) passes in
-      view-block-group m (laid m held) z a g (t .0) (t .1)
+  view-worked (Set x) id-word passes = setting-shown m held x (accepted-facts m held (Set x) passes)
   view-worked (New s a i id n) id-word passes = new-shown s a i id n id-word passes
   view-worked (Change id c) id-word passes = change-shown id c passes
   view-worked Junk id-word passes = refl

@@ -12,9 +12,11 @@ use Rattle.book.specs.declared.LimitLine.{LimitLine}
 use Rattle.book.specs.declared.LimitLine.the-variants.{Own, Default, OfGroup}
 use Rattle.book.specs.declared.Blocked.{Blocked}
 use Rattle.book.specs.declared.Blocked.the-variants.{Account, Instrument, GroupFor}
+use Rattle.book.specs.declared.Setting.{Setting}
+use Rattle.book.specs.declared.Setting.the-variants.{Limit, Balance, Block}
 use Rattle.book.specs.declared.Event.{Event}
 use Rattle.book.specs.declared.OrderChange.{OrderChange}
-use Rattle.book.specs.declared.Event.the-variants.{Limit, Balance, Block, New, Change, Junk}
+use Rattle.book.specs.declared.Event.the-variants.{Set, New, Change, Junk}
 use Rattle.book.specs.OpenOrders.{find, insert, change}
 use Rattle.book.specs.Books.{lineOf, groupLineOf, newOrder, changed, filledIn}
 use Rattle.book.specs.Table.{figuresOfLineFit, changeInRange, fitsOrder}
@@ -63,6 +65,12 @@ blockStored m (Account a) on = blockAccount m a on
 blockStored m (Instrument i) on = blockInstrument m i on
 blockStored m (GroupFor a g) on = blockGroup m a g on
 
+-- the memory after a setting
+abbrev pub settingStored : List ℕ → Setting → List ℕ
+settingStored m (Limit a l) = lineStored m a l
+settingStored m (Balance a i z) = storeBalance m a i z
+settingStored m (Block what z) = blockStored m what (not (isZero z))
+
 -- where the first record stands when the order found at a place leaves
 abbrev pub goneFirst : List ℕ → Found → ℕ
 goneFirst m Nothing = firstOf m
@@ -93,9 +101,7 @@ orderChanged m id c (some o) =
 
 -- the memory after the event
 unfoldable pub worked : List ℕ → Event → List ℕ
-worked m (Limit a l) = lineStored m a l
-worked m (Balance a i z) = storeBalance m a i z
-worked m (Block what z) = blockStored m what (not (isZero z))
+worked m (Set x) = settingStored m x
 worked m (New s a i id n) =
     storeMark (storeFrom m (joinedFirst m (rank id (openOrders m))) (insert (newOrder s a i id n) (openOrders m))) a
 worked m (Change id c) = orderChanged m id c (find id (openOrders m))

@@ -10,9 +10,7 @@ ghost use Rattle.memory_soundness.specs.Cells.{Sums};
 ghost use Rattle.memory_working.specs.Working.{Ready, worked};
 use crate::orders::change_order;
 use crate::orders::enter;
-use crate::settings::work_balance;
-use crate::settings::work_block;
-use crate::settings::work_limit;
+use crate::settings::work_setting;
 use book::Event;
 use ledger::detail::Detail;
 
@@ -24,13 +22,7 @@ pub fn work(m: &mut [u8], cells: &mut [u64], e: Event, place: usize, w: Detail)
     ensures sums { λ r. ⌜ Sums (now (cells .exit)) (openOrders (now (m .exit))) ⌝ }
 {
     match e {
-        Event::Limit { account, line } => work_limit(m, account, line),
-        Event::Balance {
-            account,
-            instrument,
-            balance,
-        } => work_balance(m, account, instrument, balance),
-        Event::Block { what, on } => work_block(m, what, on),
+        Event::Set { setting } => work_setting(m, setting),
         Event::New {
             side,
             account,

@@ -1,10 +1,11 @@
-// Working LIMIT, BALANCE and BLOCK: the figures become that line, S or block.
+// Working a setting, LIMIT, BALANCE or BLOCK: the figures become that line, S or block.
 ghost use mathlib.Core.Path.{_≡_};
 ghost use mathlib.Core.Bool.{false};
 ghost use mathlib.Core.Option.{some};
 ghost use Prim.Native.Nat.{_+_, _*_, _≤_};
 ghost use lib.ListN.{length};
-ghost use Rattle.book.specs.declared.Event.the-variants.{Limit, Balance, Block};
+ghost use Rattle.book.specs.declared.Setting.the-variants.{Limit, Balance, Block};
+ghost use Rattle.book.specs.declared.Event.the-variants.{Set};
 ghost use Rattle.book.specs.declared.LimitLine.the-variants.{OfGroup};
 ghost use Rattle.book.specs.Books.{unsets, lineOf, groupLineOf};
 ghost use Rattle.memory_layout.specs.FieldStores.{storeLine, storeOfGroup, lineWith};
@@ -12,6 +13,7 @@ ghost use Rattle.memory_working.specs.Working.{AcceptedEvent, LineStorab
 use book::Blocked;
 use book::Figures;
 use book::LimitLine;
+use book::Setting;
 use book::is_minus_one;
 use memory_layout::stores::LineWords;
 use memory_layout::stores::block_account;
@@ -60,7 +62,7 @@ fn work_line(m: &mut [u8], at: LineWords, figures: Figures)
 
 // A group's line: an accepted LCC of −1 stands beside an LVC of −1, and the line is set no more.
 fn work_of_group(m: &mut [u8], account: u64, group: u64, lcc: i64, lvc: i64)
-    requires { ⌜ AcceptedEvent (now m) (Limit account (OfGroup group lcc lvc)) ⌝ }
+    requires { ⌜ AcceptedEvent (now m) (Set (Limit account (OfGroup group lcc lvc))) ⌝ }
     ensures { λ r. ⌜ now (m .exit) ≡ storeOfGroup (now (m .entry)) account group (groupLineOf lcc lvc) ⌝ }
 {
     let a = account as usize;
@@ -74,8 +76,8 @@ fn work_of_group(m: &mut [u8], account: u64, group: u64, lcc: i64, lvc: i64)
 
 // LIMIT: the line of each level.
 pub fn work_limit(m: &mut [u8], account: u64, line: LimitLine)
-    requires { ⌜ AcceptedEvent (now m) (Limit account line) ⌝ }
-    ensures { λ r. ⌜ now (m .exit) ≡ worked (now (m .entry)) (Limit account line) ⌝ }
+    requires { ⌜ AcceptedEvent (now m) (Set (Limit account line)) ⌝ }
+    ensures { λ r. ⌜ now (m .exit) ≡ worked (now (m .entry)) (Set (Limit account line)) ⌝ }
 {
     let a = account as usize;
     match line {
@@ -94,16 +96,16 @@ pub fn work_limit(m: &mut [u8], account: u64, line: LimitLine)
 
 // BALANCE: sets S.
 pub fn work_balance(m: &mut [u8], account: u64, instrument: u64, balance: i64)
-    requires { ⌜ AcceptedEvent (now m) (Balance account instrument balance) ⌝ }
-    ensures { λ r. ⌜ now (m .exit) ≡ worked (now (m .entry)) (Balance account instrument balance) ⌝ }
+    requires { ⌜ AcceptedEvent (now m) (Set (Balance account instrument balance)) ⌝ }
+    ensures { λ r. ⌜ now (m .exit) ≡ worked (now (m .entry)) (Set (Balance account instrument balance)) ⌝ }
 {
     set_balance(m, account as usize, instrument as usize, balance);
 }
 
 // BLOCK: 1 to block, 0 to lift.
 pub fn work_block(m: &mut [u8], what: Blocked, on: i64)
-    requires { ⌜ AcceptedEvent (now m) (Block what on) ⌝ }
-    ensures { λ r. ⌜ now (m .exit) ≡ worked (now (m .entry)) (Block what on) ⌝ }
+    requires { ⌜ AcceptedEvent (now m) (Set (Block what on)) ⌝ }
+    ensures { λ r. ⌜ now (m .exit) ≡ worked (now (m .entry)) (Set (Block what on)) ⌝ }
 {
     let blocks = on != 0;
     match what {
@@ -115,5 +117,21 @@ pub fn work_block(m: &mut [u8], what: Blocked, on: i64)
             group as usize,
             blocks,
         ),
+    }
+}
+
+// Any setting.
+pub fn work_setting(m: &mut [u8], setting: Setting)
+    requires { ⌜ AcceptedEvent (now m) (Set setting) ⌝ }
+    ensures { λ r. ⌜ now (m .exit) ≡ worked (now (m .entry)) (Set setting) ⌝ }
+{
+    match setting {
+        Setting::Limit { account, line } => work_limit(m, account, line),
+        Setting::Balance {
+            account,
+            instrument,
+            balance,
+        } => work_balance(m, account, instrument, balance),
+        Setting::Block { what, on } => work_block(m, what, on),
     }
 }

@@ -12,7 +12,7 @@ returns c =
     simp (
       start .pre .0,
       start .pre .1,
-      level .before .listed .ensures,
+      level .before .is-kind .ensures,
       ← level .u8-at .ensures,
       ← c .before .named .ensures,
       c .fields-fit .ensures,

@@ -1,6 +1,7 @@
 -- BALANCE is asked 7, 8, 9 and 10: each return is the first that fails; 10 reads the mark of an account that 7 has found known.
-use Rattle.integers.specs.Basics.{_≡_, refl, _∙_, sym, Bool, true, false, not, cond, pos, negℤ, needs}
-use Rattle.book.specs.declared.Event.the-variants.{Balance}
+use Rattle.integers.specs.Basics.{_≡_, refl, _∙_, sym, ap, Bool, true, false, not, cond, pos, negℤ, needs}
+use Rattle.book.specs.declared.Setting.the-variants.{Balance}
+use Rattle.book.specs.declared.Event.the-variants.{Set}
 use Rattle.limits.specs.Answers.{numberOf}
 use Rattle.book.specs.Decoding.{between}
 use Rattle.book.specs.Table.{betweenℤ}
@@ -10,7 +11,7 @@ use Rattle.memory_layout.specs.Judged.{judged}
 use Rattle.memory_soundness.proofs.Bounded.{sound-readable}
 use Rattle.memory_soundness.proofs.Asked.{answered-no, answered-yes}
 use Rattle.memory_judging.proofs.HandedOn.{test-handed-on}
-use Rattle.memory_judging.proofs.ByKind.{balance-answer}
+use Rattle.memory_judging.proofs.ByKind.{set-answer}
 use Rattle.memory_judging.proofs.settings.judge_balance.Statement.{statement}
 use Rattle.memory_judging.proofs.settings.judge_balance.Tie as tie
 
@@ -31,7 +32,7 @@ ranged c z e = rw (c .before .market .ensures) at e
 returns-2 : tie.Need-returns-2
 unfolding numberOf
 returns-2 c =
-    sym (balance-answer _ _ _ _ true false _ _ (known (c .before .before))
+    sym (set-answer _ _ true false _ _ (known (c .before .before))
     (answered-no _ _ (c .before .instrument-known .ensures) (c .if2 .taken)) refl refl)
 
 -- what `is_balance` says is of the balance itself
@@ -47,7 +48,7 @@ returns-3 : tie.Need-returns-3
 unfolding numberOf
 returns-3 c =
     let two = c .before .before .before in
-    sym (balance-answer _ _ _ _ true true false _ (known (two .before .before)) (listed two)
+    sym (set-answer _ _ true true false _ (known (two .before .before)) (listed two)
     (ranged (c .before) false (answered-no _ _ (said (c .before)) (c .if3 .taken))) refl)
 
 is-trading-requires : tie.Need-is-trading-requires
@@ -59,18 +60,19 @@ is-trading-requires c κs =
 -- the three tests are passed, and t says whether the account trades
 answered : (c : tie.After-is-trading) (t : Bool)
     → let a = c .before .before .before .before .before .before .before .before .before .args in
-    tradingOf (a .m .now) (a .account) ≡ t → judged (a .m .now) (Balance (a .account) (a .instrument) (a .balance)) ≡ cond (not t) 0 10
+    tradingOf (a .m .now) (a .account) ≡ t
+    → judged (a .m .now) (Set (Balance (a .account) (a .instrument) (a .balance))) ≡ cond (not t) 0 10
 answered c t e =
     let three = c .before in
     let two = three .before .before .before in
-    balance-answer _ _ _ _ true true true t (known (two .before .before)) (listed two)
-    (ranged (three .before) true (answered-yes _ _ (said (three .before)) (three .if3 .left))) e
+    set-answer _ _ true true true (not t) (known (two .before .before)) (listed two)
+    (ranged (three .before) true (answered-yes _ _ (said (three .before)) (three .if3 .left))) (ap not e)
 
 pub judge-balance-spec : {M : Type 1} → statement M
 unfolding numberOf
 judge-balance-spec =
     tie.close (tie.spec (λ c κs. search needs)
-    (λ c. sym (balance-answer _ _ _ _ false _ _ _ (answered-no _ _ (c .before .account-known .ensures) (c .if1 .taken)) refl refl refl))
+    (λ c. sym (set-answer _ _ false _ _ _ (answered-no _ _ (c .before .account-known .ensures) (c .if1 .taken)) refl refl refl))
     (λ c κs. search needs) returns-2 (λ c κs. search needs) (λ c κs. search needs) returns-3 is-trading-requires
     (λ c. sym (answered (c .before) true (sym (c .before .is-trading .ensures) ∙ c .if4 .taken)))
     (λ c. sym (answered (c .before) false (sym (c .before .is-trading .ensures) ∙ c .if4 .left))))

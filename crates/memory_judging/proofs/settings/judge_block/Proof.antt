@@ -1,15 +1,16 @@
 -- BLOCK is asked 7, 8 and 9 in this order: each return is the first of these tests that fails, or 0 where all pass.
 use Rattle.integers.specs.Basics.{_≡_, refl, sym, Bool, true, false, cond, pos, needs}
-use Rattle.book.specs.declared.Event.the-variants.{Block}
+use Rattle.book.specs.declared.Setting.the-variants.{Block}
+use Rattle.book.specs.declared.Event.the-variants.{Set}
 use Rattle.limits.specs.Answers.{numberOf}
 use Rattle.book.specs.Table.{whereSome, isListed, betweenℤ}
 use Rattle.book.specs.Decoding.{between}
-use Rattle.book.specs.Names.{blockedAccount, blockedItem}
+use Rattle.book.specs.Settings.{blockedAccount, blockedItem}
 use Rattle.memory_layout.specs.View.{rosterOf}
 use Rattle.memory_layout.specs.Judged.{judged}
 use Rattle.memory_soundness.proofs.Asked.{answered-no, answered-yes}
 use Rattle.memory_judging.proofs.HandedOn.{test-handed-on}
-use Rattle.memory_judging.proofs.ByKind.{block-answer}
+use Rattle.memory_judging.proofs.ByKind.{set-answer}
 use Rattle.memory_judging.proofs.settings.judge_block.Statement.{statement}
 use Rattle.memory_judging.proofs.settings.judge_block.Tie as tie
 
@@ -26,12 +27,12 @@ returns-2 : tie.Need-returns-2
 unfolding numberOf
 returns-2 c =
     let unlisted = answered-no _ _ (c .before .blocked-item-known .ensures) (c .if2 .taken) in
-    sym (block-answer _ _ _ true false _ (known (c .before .before)) unlisted refl)
+    sym (set-answer _ _ true false _ _ (known (c .before .before)) unlisted refl refl)
 
 -- the account and the item are known, and z says whether the block's figure fits
 answered : (c : tie.After-in-range) (z : Bool) → let a = c .before .before .before .before .before .before .args in
-    betweenℤ (pos 0) (pos 1) (a .on) ≡ z → judged (a .m .now) (Block (a .what) (a .on)) ≡ cond z 0 9
-answered c z e = block-answer _ _ _ true true z (known (c .before .before .before)) (listed (c .before)) e
+    betweenℤ (pos 0) (pos 1) (a .on) ≡ z → judged (a .m .now) (Set (Block (a .what) (a .on))) ≡ cond z 0 9
+answered c z e = set-answer _ _ true true z true (known (c .before .before .before)) (listed (c .before)) e refl
 
 fits : (c : tie.After-in-range) → let a = c .before .before .before .before .before .before .args in
     c .in-range .result ≡ betweenℤ (pos 0) (pos 1) (a .on)
@@ -41,7 +42,7 @@ pub judge-block-spec : {M : Type 1} → statement M
 unfolding numberOf
 judge-block-spec =
     tie.close (tie.spec (λ c κs. search needs)
-    (λ c. sym (block-answer _ _ _ false _ _ (answered-no _ _ (c .before .blocked-account-known .ensures) (c .if1 .taken)) refl refl))
+    (λ c. sym (set-answer _ _ false _ _ _ (answered-no _ _ (c .before .blocked-account-known .ensures) (c .if1 .taken)) refl refl refl))
     (λ c κs. search needs) returns-2 (λ c κs. search needs)
     (λ c. sym (answered (c .before) false (answered-no _ _ (fits (c .before)) (c .if3 .taken))))
     (λ c. sym (answered (c .before) true (answered-yes _ _ (fits (c .before)) (c .if3 .left)))))
