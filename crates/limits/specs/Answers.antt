@@ -8,29 +8,33 @@ use Rattle.limits.specs.declared.answer.Answer.the-variants.{AccountBloc
 use Rattle.limits.specs.declared.answer.Answer.the-variants.{NoPlaceFree, BuyTooLarge, SellTooLarge, InstrumentTooLong}
 use Rattle.limits.specs.declared.answer.Answer.the-variants.{InstrumentTooShort, GroupTooLong, GroupTooShort}
 
+abbrev pub documentNumber : Answer → ℕ
+documentNumber Accepted = 0
+documentNumber MemoryTooShort = 1
+documentNumber WrongSizes = 2
+documentNumber UnknownName = 3
+documentNumber WeightOutOfRange = 4
+documentNumber NoSoundDesk = 5
+documentNumber NoEvent = 6
+documentNumber UnknownAccount = 7
+documentNumber UnknownItem = 8
+documentNumber FigureOutOfRange = 9
+documentNumber AlreadyTrading = 10
+documentNumber OrderNotFound = 11
+documentNumber QuantityOutOfRange = 12
+documentNumber DuplicateOrder = 13
+documentNumber AccountBlocked = 14
+documentNumber InstrumentBlocked = 15
+documentNumber GroupBlocked = 16
+documentNumber NoLimitsConfigured = 17
+documentNumber NoPlaceFree = 18
+documentNumber BuyTooLarge = 19
+documentNumber SellTooLarge = 20
+documentNumber InstrumentTooLong = 21
+documentNumber InstrumentTooShort = 22
+documentNumber GroupTooLong = 23
+documentNumber GroupTooShort = 24
+
+-- the same, shut where no proof opens it
 unfoldable pub numberOf : Answer → ℕ
-numberOf Accepted = 0
-numberOf MemoryTooShort = 1
-numberOf WrongSizes = 2
-numberOf UnknownName = 3
-numberOf WeightOutOfRange = 4
-numberOf NoSoundDesk = 5
-numberOf NoEvent = 6
-numberOf UnknownAccount = 7
-numberOf UnknownItem = 8
-numberOf FigureOutOfRange = 9
-numberOf AlreadyTrading = 10
-numberOf OrderNotFound = 11
-numberOf QuantityOutOfRange = 12
-numberOf DuplicateOrder = 13
-numberOf AccountBlocked = 14
-numberOf InstrumentBlocked = 15
-numberOf GroupBlocked = 16
-numberOf NoLimitsConfigured = 17
-numberOf NoPlaceFree = 18
-numberOf BuyTooLarge = 19
-numberOf SellTooLarge = 20
-numberOf InstrumentTooLong = 21
-numberOf InstrumentTooShort = 22
-numberOf GroupTooLong = 23
-numberOf GroupTooShort = 24
+numberOf a = documentNumber a
