@@ -1,35 +1,15 @@
--- The table of an event: its numbers in document 01's order, and the order that its later questions are asked of.
-use Rattle.integers.specs.Basics.{ℕ, _<_, _≡_, refl, sym, ap, _⊎_, inl, inr, ⊎-elim, _↔_, Bool, List, [], _∷_, Option, none, some, ℤ}
-use Rattle.integers.specs.Basics.{natAbs, lt-ltb}
+-- The order that the later questions of an event's table are asked of.
+use Rattle.integers.specs.Basics.{ℕ, _<_, _≡_, sym, ap, _⊎_, inl, inr, ⊎-elim, _↔_, some, ℤ, natAbs, lt-ltb}
 use Rattle.ledger.specs.declared.order.Order.{Order}
 use Rattle.ledger.specs.Orders.{replacedTotal}
-use Rattle.limits.specs.Questions.{numbersOf}
-use Rattle.limits.specs.Asked.{positionQuestions}
 use Rattle.limits.proofs.LineLaws.{none-some}
 use Rattle.book.specs.declared.Event.{Event}
 use Rattle.book.specs.declared.OrderChange.the-variants.{Replace}
 use Rattle.book.specs.declared.Event.the-variants.{Set, New, Change, Junk}
 use Rattle.book.specs.OpenOrders.{find}
 use Rattle.book.specs.Books.{Book, newOrder}
-use Rattle.book.specs.States.{State, work}
-use Rattle.book.specs.Table.{entered, questionsBefore, positionsAfter, limitQuestions, questions}
+use Rattle.book.specs.Table.{entered}
 use Rattle.book.proofs.OrderChanges.{raised-found}
-
--- 21 to 24 are asked where an order is entered or raised
-abbrev pub positionNumbers : Option Order → List ℕ
-positionNumbers none = []
-positionNumbers (some o) = 21 ∷ 22 ∷ 23 ∷ 24 ∷ []
-
--- "Questions, in order": 5 to 20, and then 21 to 24 of a NEW and of "a REPLACE whose total rises"
-pub numbers-in-order : (sound : Bool) (k : State) (e : Event)
-    → numbersOf (questions sound k e) ≡ 5 ∷ 6 ∷ 7 ∷ 8 ∷ 9 ∷ 10 ∷ 11 ∷ 12 ∷ 13 ∷ 14 ∷ 15 ∷ 16 ∷ 17 ∷ 18 ∷ 19 ∷ 20
-    ∷ positionNumbers (entered (k .book) e)
-unfolding questions questionsBefore limitQuestions positionQuestions
-numbers-in-order sound k e = rw (at-the-end (entered (k .book) e))
-  where
-    at-the-end : (x : Option Order) → numbersOf (positionsAfter (work k e) x) ≡ positionNumbers x
-    at-the-end none = refl
-    at-the-end (some o) = refl
 
 -- ---- "The rest is for NEW, and for a REPLACE whose total rises": the order that such an event enters or raises to, and no other event
 -- does either

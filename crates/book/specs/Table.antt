@@ -129,6 +129,17 @@ placeFree b e = whereSome (λ o. ltb (length (b .orders)) 256) (newOrderOf e)
 abbrev pub q : ℕ → Bool → Question
 q n test = record { number = n; passes = test }
 
+-- 14 to 17, of the order entered or raised: are account, instrument and group unblocked, and are the limits set? The judge of an order has
+-- the same list
+abbrev pub admissionQuestions : State → Option Order → List Question
+admissionQuestions k x =
+    let b = k .book in
+    q 14 (whereSome (λ o. not (b .blocks .account (o .account))) x)
+    ∷ q 15 (whereSome (λ o. not (b .blocks .instrument (o .instrument))) x)
+    ∷ q 16 (whereSome (λ o. not (b .blocks .group (o .account) (groupOfInstrument (k .roster) (o .instrument)))) x)
+    ∷ q 17 (whereSome (λ o. limitsSet (k .roster) (b .linesOf (o .account)) o) x)
+    ∷ []
+
 -- the questions before the position limits, 5 left aside, asked of what the desk holds
 unfoldable pub questionsBefore : State → Event → List Question
 questionsBefore k e =
@@ -141,14 +152,11 @@ questionsBefore k e =
     ∷ q 11 (idOpen b e)
     ∷ q 12 (quantityFits b e)
     ∷ q 13 (idFree b e)
-    ∷ q 14 (whereSome (λ o. not (b .blocks .account (o .account))) (entered b e))
-    ∷ q 15 (whereSome (λ o. not (b .blocks .instrument (o .instrument))) (entered b e))
-    ∷ q 16 (whereSome (λ o. not (b .blocks .group (o .account) (groupOfInstrument (k .roster) (o .instrument)))) (entered b e))
-    ∷ q 17 (whereSome (λ o. limitsSet (k .roster) (b .linesOf (o .account)) o) (entered b e))
-    ∷ q 18 (placeFree b e)
+    ∷ (admissionQuestions k (entered b e)
+    ++ (q 18 (placeFree b e)
     ∷ q 19 (whereSome (λ o. sizeFits (k .market .unit) (k .roster) (b .linesOf (o .account)) o Buy) (entered b e))
     ∷ q 20 (whereSome (λ o. sizeFits (k .market .unit) (k .roster) (b .linesOf (o .account)) o Sell) (entered b e))
-    ∷ []
+    ∷ []))
 
 -- questions 21 to 24, of a state with the event applied
 abbrev pub positionsAfter : State → Option Order → List Question

@@ -7,13 +7,14 @@ use lib.ListN.{length-append, length-map}
 use Rattle.ledger.specs.declared.order.Order.{Order}
 use Rattle.limits.specs.Lines.{isSet}
 use Rattle.limits.specs.Questions.{Question, numbersOf}
+use Rattle.limits.specs.Asked.{positionQuestions}
+use Rattle.book.specs.declared.Event.{Event}
 use Rattle.book.specs.Market.{derivatives}
 use Rattle.book.specs.Decoding.{decode}
-use Rattle.book.specs.Table.{q, entered}
-use Rattle.book.specs.States.{State}
+use Rattle.book.specs.Table.{q, entered, questionsBefore, positionsAfter, limitQuestions, questions}
+use Rattle.book.specs.States.{State, work}
 use Rattle.book.specs.EventLists.{RawEvent, asEvent, keep, memoryAfter, stateAfter}
 use Rattle.book.specs.Demand3.{RefusedExactly, NotPast}
-use Rattle.book.proofs.TableLaws.{positionNumbers, numbers-in-order}
 use Rattle.memory_layout.specs.View.{bookOf, view}
 use Rattle.memory_soundness.specs.Soundness.{soundDesk}
 use Rattle.memory_opening.specs.Questions.{rosterFrom, openingQuestions}
@@ -29,15 +30,20 @@ use Rattle.claim.specs.Claim.{askedFirst, askedLast, FirstNo, Demand1, D
 use Rattle.claim.proofs.Held.{held-kept, held-after, held-from-opening, named, by-name, none-on-the-line}
 
 -- ---- the numbers of an event's questions
-event-numbers : (m e : List ℕ) → numbersOf (eventQuestions m e) ≡ askedFirst ++ cond (isSet (entered (bookOf m) (decode e))) askedLast []
-unfolding eventQuestions
-event-numbers m e =
-    rw (← at-the-end (entered (bookOf m) (decode e)))
-    (numbers-in-order (soundDesk m) (view m) (decode e))
+-- "Questions, in order": of any desk's table and any event those that the claim lists, the last of them "for NEW, and for a REPLACE whose
+-- total rises"
+pub numbers-in-order : (sound : Bool) (k : State) (e : Event)
+    → numbersOf (questions sound k e) ≡ askedFirst ++ cond (isSet (entered (k .book) e)) askedLast []
+unfolding questions questionsBefore limitQuestions positionQuestions
+numbers-in-order sound k e = rw (at-the-end (entered (k .book) e))
   where
-    at-the-end : (x : Option Order) → positionNumbers x ≡ cond (isSet x) askedLast []
+    at-the-end : (x : Option Order) → numbersOf (positionsAfter (work k e) x) ≡ cond (isSet x) askedLast []
     at-the-end none = refl
     at-the-end (some o) = refl
+
+event-numbers : (m e : List ℕ) → numbersOf (eventQuestions m e) ≡ askedFirst ++ cond (isSet (entered (bookOf m) (decode e))) askedLast []
+unfolding eventQuestions
+event-numbers m e = numbers-in-order (soundDesk m) (view m) (decode e)
 
 -- ---- demand 1
 listed : (n : ℕ) (ns : List ℕ) → OneOf n ns → List·Memᴰ n ns

@@ -1,23 +1,19 @@
 -- Questions 14 to 17 and 19 to 24 of an order that a NEW enters or a REPLACE raises, asked of a desk's memory.
-use Rattle.integers.specs.Basics.{ℕ, _≤_, _≡_, true, not, List, [], _∷_, _++_}
+use Rattle.integers.specs.Basics.{ℕ, _≤_, _≡_, true, List, _++_, some}
 use Rattle.ledger.specs.declared.order.Order.{Order}
-use Rattle.ledger.specs.Roster.{Numbered, groupOfInstrument}
+use Rattle.ledger.specs.Roster.{Numbered}
 use Rattle.limits.specs.Questions.{Question, firstNo}
 use Rattle.limits.specs.Raised.{Raised}
 use Rattle.limits.specs.Asked.{limitsSet, positionQuestions}
 use Rattle.limits.specs.Numbers.{sizeQuestions}
-use Rattle.book.specs.Table.{q}
-use Rattle.memory_layout.specs.View.{marketOf, rosterOf, linesOf, blocksOf, balancesOf, openOrders}
+use Rattle.book.specs.Table.{admissionQuestions}
+use Rattle.memory_layout.specs.View.{marketOf, rosterOf, linesOf, balancesOf, openOrders, bookOf, view}
 use Rattle.memory_soundness.specs.SoundMemory.{SoundMemory}
 
 -- 14 to 17: account, instrument and group unblocked, limits set
 unfoldable pub admission : List ℕ → Order → List Question
-admission m o =
-    q 14 (not (blocksOf m .account (o .account)))
-    ∷ q 15 (not (blocksOf m .instrument (o .instrument)))
-    ∷ q 16 (not (blocksOf m .group (o .account) (groupOfInstrument (rosterOf m) (o .instrument))))
-    ∷ q 17 (limitsSet (rosterOf m) (linesOf m (o .account)) o)
-    ∷ []
+unfolding bookOf
+admission m o = admissionQuestions (view m) (some o)
 
 -- 19 to 24: the order's size, and the positions with the event applied, `after` being the open orders then
 unfoldable pub withinLimits : List ℕ → List Order → Order → List Question
