@@ -19,7 +19,6 @@ use Rattle.desk.proofs.Gate.{answer-sound, after-refused}
 module _ (m : List ℕ) (e : Event) (a : Answer) (told : numberOf a ≡ judged m e) where
   -- is accepted
   pub is-zero : a ≡ Accepted → judged m e ≡ 0
-  unfolding numberOf
   is-zero accepts = sym told ∙ rw accepts
 
   pub stepped-worked : a ≡ Accepted → worked m e ≡ stepped m e

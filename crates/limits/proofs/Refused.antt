@@ -40,7 +40,7 @@ zeroAccepts : Choice parts → Bool
 zeroAccepts c = not (eqb (numberOf (make c)) 0) || eqb (tag (rowss parts) (intoss parts c)) (tagOf the-type Accepted)
 
 pub not-zero : (a : Answer) → Refusal a → numberOf a ≢ 0
-unfolding numberOf zeroAccepts
+unfolding zeroAccepts
 not-zero a h z =
     let v = as-values a in
     let e = asked-true (eqb (numberOf (make v)) 0) (eqb (tagOf the-type a) (tagOf the-type Accepted)) (of-each parts zeroAccepts refl v)

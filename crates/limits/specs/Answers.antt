@@ -8,7 +8,7 @@ use Rattle.limits.specs.declared.answer.Answer.the-variants.{AccountBloc
 use Rattle.limits.specs.declared.answer.Answer.the-variants.{NoPlaceFree, BuyTooLarge, SellTooLarge, InstrumentTooLong}
 use Rattle.limits.specs.declared.answer.Answer.the-variants.{InstrumentTooShort, GroupTooLong, GroupTooShort}
 
-unfoldable pub numberOf : Answer → ℕ
+abbrev pub numberOf : Answer → ℕ
 numberOf Accepted = 0
 numberOf MemoryTooShort = 1
 numberOf WrongSizes = 2

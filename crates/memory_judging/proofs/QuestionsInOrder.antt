@@ -20,7 +20,7 @@ module _ (m : List ℕ) (o : Order) (a : Answer) (e : numberOf a ≡ firstNo (ad
   -- they pass
   module _ (accepts : a ≡ Accepted) where
     pass : allPass (admission m o) ≡ true
-    unfolding admission numberOf
+    unfolding admission
     pass =
         zero-pass (admission m o) (omega arith) (sym e ∙ rw accepts)
 

@@ -11,6 +11,7 @@ ghost use Rattle.limits.specs.Questions.{firstNo};
 ghost use Rattle.limits.specs.Answers.{numberOf};
 ghost use Rattle.book.specs.declared.OrderChange.the-variants.{Replace};
 ghost use Rattle.book.specs.declared.Event.the-variants.{Change};
+ghost use Rattle.book.specs.Table.{changeInRange};
 ghost use Rattle.memory_layout.specs.View.{openOrders};
 ghost use Rattle.memory_layout.specs.Judged.{judged, NamedAt};
 ghost use Rattle.memory_soundness.specs.Cells.{Sums};
@@ -21,7 +22,7 @@ use crate::order_checks::admitted;
 use crate::order_checks::underlying_of;
 use crate::order_checks::within_limits;
 use crate::plain;
-use crate::ranges::change_in_range;
+use crate::ranges::is_quantity;
 use book::OrderChange;
 use ledger::detail::Detail;
 use ledger::find::Found;
@@ -29,6 +30,17 @@ use ledger::order::Order;
 use limits::answer::Answer;
 use memory_layout::orders::detail_at;
 use memory_layout::search::find_order;
+
+// 9: is the figure of a change in range?
+fn change_in_range(change: OrderChange) -> bool
+    ensures { λ r. ⌜ r ≡ changeInRange change ⌝ }
+{
+    match change {
+        OrderChange::Replace { total } => is_quantity(total),
+        OrderChange::Cancel => true,
+        OrderChange::Fill { quantity } => is_quantity(quantity),
+    }
+}
 
 // 14 to 24 of a REPLACE that raises order `o` to `total`.
 fn raised(m: &[u8], cells: &[u64], o: Order, total: u64) -> Answer

@@ -3,10 +3,9 @@ ghost use mathlib.Core.Path.{_≡_};
 ghost use mathlib.Core.Bool.{_&&_, _||_};
 ghost use lib.IntN.{pos, negℤ};
 ghost use Rattle.book.specs.Books.{isMinusOne};
-ghost use Rattle.book.specs.Table.{betweenℤ, isLimit, isQuantity, figuresOfLineFit, lineFits, changeInRange};
+ghost use Rattle.book.specs.Table.{betweenℤ, isLimit, isQuantity, figuresOfLineFit, lineFits};
 use book::Figures;
 use book::LimitLine;
-use book::OrderChange;
 use book::is_minus_one;
 
 // From `low` to `high`?
@@ -97,16 +96,5 @@ pub fn limit_fits(largest: u64, line: LimitLine) -> bool
         } => line_fits(largest, figures),
         LimitLine::Default { contract, figures } => line_fits(largest, figures),
         LimitLine::OfGroup { group, lcc, lvc } => group_fits(largest, lcc, lvc),
-    }
-}
-
-// The figure of a REPLACE, CANCEL or FILL.
-pub fn change_in_range(change: OrderChange) -> bool
-    ensures { λ r. ⌜ r ≡ changeInRange change ⌝ }
-{
-    match change {
-        OrderChange::Replace { total } => is_quantity(total),
-        OrderChange::Cancel => true,
-        OrderChange::Fill { quantity } => is_quantity(quantity),
     }
 }

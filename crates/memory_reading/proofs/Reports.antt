@@ -68,7 +68,6 @@ allowed m a item = all-yes m (itemsOf m item) a (numberIn item)
 module _ {answer : ℕ} (r : Answer) (told : numberOf r ≡ answer) where
   -- is accepted
   pub is-zero : r ≡ Accepted → answer ≡ 0
-  unfolding numberOf
   is-zero h = sym told ∙ rw h
 
   pub accepts : r ≡ Accepted → (report before now : List ℤ) → now ≡ report → (0 ≡ answer) × (now ≡ reported answer report before)

@@ -1,7 +1,6 @@
 -- Questions 1 to 4 in turn, each return being the first that fails with the memory untouched; past them the cleared words, the kind and
 -- the roster are what an accepted opening leaves (`accepted`).
 use Rattle.integers.specs.Basics.{_≤_, _≡_, _∙_, sym, true, length, arith, needs, leb-true, not-true, not-false}
-use Rattle.limits.specs.Answers.{numberOf}
 use Rattle.memory_layout.specs.Layout.{memoryBytes}
 use Rattle.memory_layout.specs.Rosters.{longEnough}
 use Rattle.memory_opening.proofs.Answers.{too-short, wrong-sizes, unknown-name, weight-out, accepted}
@@ -17,7 +16,6 @@ unfolding longEnough
 room c = leb-true _ _ (long c)
 
 returns-4 : tie.Need-returns-4
-unfolding numberOf
 returns-4 c =
     let three = c .before .before in
     let two = three .before .before in
@@ -26,7 +24,6 @@ returns-4 c =
     (sym (c .before .weights-fit .ensures) ∙ not-true _ (c .if4 .taken))
 
 returns-5 : tie.Need-returns-5
-unfolding numberOf
 returns-5 c =
     let put = c .before .before in
     let set = put .before .before .before .before in
@@ -40,7 +37,6 @@ returns-5 c =
     _ _ _ (bare .clear .ensures) (set .set-kind .ensures) (put .put-roster .ensures)
 
 pub open-desk-spec : {M : Type 1} → statement M
-unfolding numberOf
 open-desk-spec =
     tie.close (tie.spec (λ c κs. search needs) (λ c. search needs)
     (λ c. too-short _ _ (sym (c .before .is-long-enough .ensures) ∙ not-true _ (c .if1 .taken))) (λ c κs. search needs)

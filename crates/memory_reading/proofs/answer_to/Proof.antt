@@ -1,6 +1,5 @@
 -- Each question that is answered no ends with its number; what was answered yes on the way is known where the next is asked.
 use Rattle.integers.specs.Basics.{_≡_, true, needs}
-use Rattle.limits.specs.Answers.{numberOf}
 use Rattle.book.specs.Decoding.{between}
 use Rattle.memory_layout.specs.View.{rosterOf}
 use Rattle.memory_soundness.specs.Soundness.{soundDesk}
@@ -20,22 +19,22 @@ known c =
     answered-yes _ _ (c .before .account-known .ensures) (c .if2 .left)
 
 returns : tie.Need-returns
-unfolding numberOf itemAnswer
+unfolding itemAnswer
 returns c = unsound _ _ _ _ (answered-no _ _ (c .before .is-sound .ensures) (c .if1 .taken))
 
 returns-2 : tie.Need-returns-2
-unfolding numberOf itemAnswer
+unfolding itemAnswer
 returns-2 c =
     no-account _ _ _ _ (sound (c .before .before)) (answered-no _ _ (c .before .account-known .ensures) (c .if2 .taken))
 
 returns-3 : tie.Need-returns-3
-unfolding numberOf itemAnswer
+unfolding itemAnswer
 returns-3 c =
     let two = c .before .before in
     no-item _ _ _ _ (sound (two .before .before)) (known two) (answered-no _ _ (c .before .on-roster .ensures) (c .if3 .taken))
 
 returns-4 : tie.Need-returns-4
-unfolding numberOf itemAnswer
+unfolding itemAnswer
 returns-4 c =
     let two = c .before .before in
     answered _ _ _ _ (sound (two .before .before)) (known two) (answered-yes _ _ (c .before .on-roster .ensures) (c .if3 .left))

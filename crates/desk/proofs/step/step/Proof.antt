@@ -1,6 +1,5 @@
 -- An acceptance works the event, which is ready because the judge hands on the order that it names; a refusal changes nothing.
 use Rattle.integers.specs.Basics.{_∙_, sym, needs}
-use Rattle.limits.specs.Answers.{numberOf}
 use Rattle.desk.proofs.Stepped.{is-zero, stepped-worked, stepped-same}
 use Rattle.desk.proofs.step.step.Statement.{statement}
 use Rattle.desk.proofs.step.step.Tie as tie
@@ -13,7 +12,6 @@ work-requires c κs =
     (record { held = start .pre .0; accepted = zero; named = judged .judge .ensures .1 zero }, start .pre .1)
 
 returns : tie.Need-returns
-unfolding numberOf
 returns c =
     let done = c .before .before .before .before in
     let accepts = done .before .before .before in
@@ -26,7 +24,7 @@ returns-2 : tie.Need-returns-2
 returns-2 c =
     let judged = c .before .before in
     let told = judged .judge .ensures .0 in
-    (told, (stepped-same _ _ _ told (c .match .keys2), judged .before .before .before .before .before .pre .1))
+    (told, (stepped-same _ _ (judged .judge .result .answer) told (c .match .keys2), judged .before .before .before .before .before .pre .1))
 
 pub step-spec : {M : Type 1} → statement M
 step-spec =

@@ -5,7 +5,6 @@ use Rattle.ledger.specs.Roster.{Roster}
 use Rattle.ledger.specs.Derivatives.{one}
 use Rattle.limits.specs.Lines.{Lines}
 use Rattle.limits.specs.Questions.{firstNo}
-use Rattle.limits.specs.Answers.{numberOf}
 use Rattle.limits.specs.Numbers.{orderNumber, sizeQuestions}
 use Rattle.limits.specs.Bounds.{InForce}
 use Rattle.limits.proofs.InOrder.{by-size}
@@ -20,19 +19,16 @@ sized c r ls o in-force side whole t e =
     sym (by-size r ls o _ _ _ _ in-force side whole (c .before .largest-order .ensures) t (sym (c .at-most .ensures) ∙ e))
 
 returns-2 : tie.Need-returns-2
-unfolding numberOf
 returns-2 c r ls o in-force side whole =
     let at = c .before .before in
     sym (ap orderNumber (c .enum-told .given .1)) ∙ sized (at .before) r ls o in-force side whole false (at .if1 .left)
 
 returns-3 : tie.Need-returns-3
-unfolding numberOf
 returns-3 c r ls o in-force side whole =
     let at = c .before .before in
     sym (ap orderNumber (c .enum-told2 .given .1)) ∙ sized (at .before) r ls o in-force side whole false (at .if1 .left)
 
 pub order-size-spec : {M : Type 1} → statement M
-unfolding numberOf
 order-size-spec =
     tie.close (tie.spec (λ c κs. search needs) (λ c κs. search needs)
     (λ c r ls o in-force side whole. sized (c .before) r ls o in-force side whole true (c .if1 .taken)) (λ c. search needs)

@@ -11,7 +11,6 @@ use Rattle.limits.specs.Lines.{Lines}
 use Rattle.limits.specs.Questions.{firstNo}
 use Rattle.limits.specs.Asked.{positionQuestions}
 use Rattle.limits.specs.Raised.{Raised}
-use Rattle.limits.specs.Answers.{numberOf}
 use Rattle.limits.specs.Numbers.{groupNumber}
 use Rattle.limits.specs.Bounds.{InForce, OfGroup}
 use Rattle.limits.proofs.LinesRead.{group-figure-small}
@@ -56,7 +55,6 @@ weight : (c : tie.After-weight-in) → let a =
 weight c = toZ-ofZ w64 (c .weight-in .result) (record { sfits = c .weight-in .ok }) ∙ c .weight-in .ensures
 
 returns-2 : tie.Need-returns-2
-unfolding numberOf
 returns-2 c ls n before after more gathered in-force of-group raised =
     let at = c .before .before in
     sym (no-group _ ls before after _ _ _ _ _ in-force of-group raised _ _ (instrument-found (at .before .before) n before more gathered)
@@ -121,7 +119,6 @@ returns-4 c ls n before after more gathered in-force of-group raised =
     (c .before .if3 .left))
 
 pub positions-within-spec : {M : Type 1} → statement M
-unfolding numberOf
 positions-within-spec =
     tie.close (tie.spec (λ c κs. search needs) instrument-with-requires (λ c κs. search needs) (λ c κs. search needs) returns
     (λ c κs. search needs) returns-2 (λ c κs. search needs) (λ c κs. search needs) times-requires group-with-requires (λ c κs. search needs)

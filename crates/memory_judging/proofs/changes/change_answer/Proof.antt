@@ -2,7 +2,6 @@
 use Rattle.integers.specs.Basics.{_≡_, _∙_, sym, ap, true, w64, SFits, toZ-ofZ, needs}
 use Rattle.ledger.specs.Records.{orderOf}
 use Rattle.limits.specs.Questions.{firstNo}
-use Rattle.limits.specs.Answers.{numberOf}
 use Rattle.book.specs.declared.OrderChange.{OrderChange}
 use Rattle.book.specs.Table.{isQuantity, changeInRange}
 use Rattle.memory_judging.specs.QuestionsLeft.{changeFrom12}
@@ -40,7 +39,7 @@ returns c =
     ∙ sym (ap (λ (x : OrderChange). firstNo (changeFrom12 (a .m .now) (orderOf (a .id) (a .w .0)) x)) (told .before .change .given .1))
 
 returns-2 : tie.Need-returns-2
-unfolding changeFrom12 firstNo numberOf
+unfolding changeFrom12 firstNo
 returns-2 c =
     let a = c .before .before .before .before .args in
     sym (ap (λ (x : OrderChange). firstNo (changeFrom12 (a .m .now) (orderOf (a .id) (a .w .0)) x)) (c .enum-told .given .1))

@@ -4,7 +4,6 @@ use Rattle.ledger.specs.declared.find.Found.the-variants.{At}
 use Rattle.ledger.specs.Orders.{placeFrom}
 use Rattle.ledger.specs.Records.{orderOf}
 use Rattle.limits.specs.declared.answer.Answer.the-variants.{FigureOutOfRange, OrderNotFound}
-use Rattle.limits.specs.Answers.{numberOf}
 use Rattle.book.specs.Table.{changeInRange}
 use Rattle.memory_layout.specs.View.{openOrders}
 use Rattle.memory_layout.specs.Stores.{orderIn}
@@ -26,7 +25,6 @@ found : (c : tie.After-p)
 found c = sym (c .before .before .find-order .ensures) ∙ c .p .given .1
 
 returns : tie.Need-returns
-unfolding numberOf
 returns c =
     refused FigureOutOfRange (c .plain .ensures) (change-figure _ _ _
     (answered-no _ _ (c .before .before .change-in-range .ensures) (c .before .if1 .taken))) (omega arith)
@@ -55,7 +53,6 @@ returns-2 c =
     )
 
 returns-3 : tie.Need-returns-3
-unfolding numberOf
 returns-3 c =
     let find = c .before .before .before in
     refused OrderNotFound (c .plain2 .ensures) (change-none _ _ _ (whole (find .before))

@@ -45,4 +45,4 @@ pub raised-spec : {M : Type 1} → statement M
 raised-spec =
     tie.close (tie.spec (λ c κs. search needs) (λ c κs. after-on c) (λ c κs. (after-on (c .before), c .underlying-of .ensures))
     (λ c. search needs) (λ c. search needs) within-limits-requires returns
-    (λ c. first-refuses _ _ _ (asked (c .before)) (c .match .keys2) _))
+    (λ c. first-refuses _ _ (c .before .admitted .result) (asked (c .before)) (c .match .keys2) _))

@@ -1,7 +1,6 @@
 -- 7, 8 and 9 in turn, then `new_order` on an order that they put on the roster, with the id's rank as the place where it joins.
 use Rattle.integers.specs.Basics.{_≡_, refl, _∙_, sym, true, false, w64, toZ-ofZ, arith, needs}
 use Rattle.limits.specs.declared.answer.Answer.the-variants.{UnknownAccount, UnknownItem, FigureOutOfRange}
-use Rattle.limits.specs.Answers.{numberOf}
 use Rattle.book.specs.Books.{newOrder}
 use Rattle.book.specs.Decoding.{between}
 use Rattle.book.specs.Table.{isQuantity}
@@ -29,21 +28,18 @@ whole c =
     answered-yes _ _ (test-handed-on isQuantity (s .fits .quantity) (c .before .is-quantity .ensures)) (c .if3 .left)
 
 returns : tie.Need-returns
-unfolding numberOf
 returns c =
     let asked = c .before in
     refused UnknownAccount (c .plain .ensures) (new-answer _ _ _ _ _ _ false _ _
     (answered-no _ _ (asked .before .account-known .ensures) (asked .if1 .taken)) refl refl) (omega arith)
 
 returns-2 : tie.Need-returns-2
-unfolding numberOf
 returns-2 c =
     let asked = c .before in
     refused UnknownItem (c .plain2 .ensures) (new-answer _ _ _ _ _ _ true false _ (known (asked .before .before))
     (answered-no _ _ (asked .before .instrument-known .ensures) (asked .if2 .taken)) refl) (omega arith)
 
 returns-3 : tie.Need-returns-3
-unfolding numberOf
 returns-3 c =
     let asked = c .before in
     let two = asked .before .before in

@@ -2,7 +2,6 @@
 use Rattle.integers.specs.Basics.{_≡_, _∙_, sym, false, needs}
 use Rattle.limits.specs.Lines.{isSet}
 use Rattle.limits.specs.Questions.{firstNo}
-use Rattle.limits.specs.Answers.{numberOf}
 use Rattle.book.specs.OpenOrders.{find}
 use Rattle.memory_layout.specs.View.{openOrders}
 use Rattle.memory_judging.specs.QuestionsLeft.{newFrom13}
@@ -43,10 +42,11 @@ unfolding newFrom13 firstNo
 returns-3 c =
     let asked = c .before in
     let a = asked .before .before .before .before .before .before .args in
-    rw (free (asked .before .before)) (first-refuses (a .m .now) (a .o) _ (asked .admitted .ensures) (c .match .keys2) _)
+    rw (free (asked .before .before))
+    (first-refuses (a .m .now) (a .o) (asked .admitted .result) (asked .admitted .ensures) (c .match .keys2) _)
 
 pub new-order-spec : {M : Type 1} → statement M
-unfolding newFrom13 firstNo numberOf
+unfolding newFrom13 firstNo
 new-order-spec =
     tie.close (tie.spec (λ c κs. let pre = c .before .before .pre in (pre .0 .on .held, pre .2))
     (λ c. rw (sym (c .before .is-open .ensures) ∙ c .if1 .taken)) (λ c κs. search needs) (λ c κs. search needs) (λ c. search needs)

@@ -1,7 +1,6 @@
 -- A NEW is refused by 18 where 256 orders are open; else 19 to 24 decide, the order raising the sums by its whole total.
 use Rattle.integers.specs.Basics.{length, arith, needs, lt-ltb, le-ltb}
 use Rattle.limits.specs.Questions.{firstNo}
-use Rattle.limits.specs.Answers.{numberOf}
 use Rattle.memory_layout.specs.View.{openOrders}
 use Rattle.memory_judging.specs.QuestionsLeft.{newFrom18}
 use Rattle.memory_judging.proofs.Rises.{entered-raises}
@@ -9,7 +8,7 @@ use Rattle.memory_judging.proofs.entries.new_within.Statement.{statemen
 use Rattle.memory_judging.proofs.entries.new_within.Tie as tie
 
 returns : tie.Need-returns
-unfolding newFrom18 firstNo numberOf
+unfolding newFrom18 firstNo
 returns c =
     let m = c .before .before .before .before .args .m .now in
     rw (le-ltb (length (openOrders m)) 256 (omega (arith, c .before .count .ensures)))

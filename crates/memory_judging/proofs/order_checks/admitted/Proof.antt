@@ -3,7 +3,6 @@ use Rattle.integers.specs.Basics.{_≡_, _∙_, sym, false, needs}
 use Rattle.ledger.specs.Roster.{groupOfInstrument}
 use Rattle.limits.specs.Questions.{firstNo}
 use Rattle.limits.specs.Numbers.{existenceQuestions}
-use Rattle.limits.specs.Answers.{numberOf}
 use Rattle.memory_layout.specs.View.{rosterOf, blocksOf}
 use Rattle.memory_judging.specs.OrderQuestions.{admission}
 use Rattle.memory_judging.proofs.order_checks.admitted.Statement.{statement}
@@ -29,7 +28,7 @@ returns-4 c =
     c .configured .ensures ∙ rw (account (two .before .before), instrument two, sym (group (three .before)) ∙ three .if3 .left)
 
 pub admitted-spec : {M : Type 1} → statement M
-unfolding numberOf firstNo admission
+unfolding firstNo admission
 admitted-spec =
     tie.close (tie.spec (λ c κs. search needs) (λ c. rw (sym (c .before .account-is-blocked .ensures) ∙ c .if1 .taken))
     (λ c κs. search needs) (λ c. rw (account (c .before .before), sym (c .before .instrument-is-blocked .ensures) ∙ c .if2 .taken))

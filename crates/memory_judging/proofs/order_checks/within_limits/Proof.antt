@@ -20,7 +20,6 @@ size c =
     c .order-size .ensures _ _ _ (read .line-in-force .ensures .line (both-set _ _ (s .pre .0 .set) .0)) refl (sym (c .before .of .ensures))
 
 returns : tie.Need-returns
-unfolding numberOf
 returns c after raised =
     let told = c .before .before in
     (rw (c .before .of2 .ensures) at (c .positions-of .ensures)) after raised
@@ -34,4 +33,4 @@ within-limits-spec =
     rw (c .of2 .ensures) (s .pre .0, refl, s .pre .1, s .pre .2, read .line-in-force .ensures))
     returns
     (λ c after raised. let sized = size (c .before) in
-    sized ∙ sym (size-refuses _ after _ (λ z. not-zero _ (c .match .keys2) (sized ∙ z)))))
+    sized ∙ sym (size-refuses _ after _ (λ z. not-zero (c .before .order-size .result) (c .match .keys2) (sized ∙ z)))))

@@ -2,7 +2,6 @@
 use Rattle.integers.specs.Basics.{_≡_, refl, _∙_, sym, ap, Bool, true, false, not, cond, pos, negℤ, needs}
 use Rattle.book.specs.declared.Setting.the-variants.{Balance}
 use Rattle.book.specs.declared.Event.the-variants.{Set}
-use Rattle.limits.specs.Answers.{numberOf}
 use Rattle.book.specs.Decoding.{between}
 use Rattle.book.specs.Table.{betweenℤ}
 use Rattle.book.proofs.Tables.{between-numbered}
@@ -30,7 +29,6 @@ ranged : (c : tie.After-is-balance) (z : Bool) → let a = c .before .before .be
 ranged c z e = rw (c .before .market .ensures) at e
 
 returns-2 : tie.Need-returns-2
-unfolding numberOf
 returns-2 c =
     sym (set-answer _ _ true false _ _ (known (c .before .before))
     (answered-no _ _ (c .before .instrument-known .ensures) (c .if2 .taken)) refl refl)
@@ -45,7 +43,6 @@ said c =
     test-handed-on (betweenℤ (negℤ (pos most)) (pos most)) (s .fits .balance) (c .is-balance .ensures)
 
 returns-3 : tie.Need-returns-3
-unfolding numberOf
 returns-3 c =
     let two = c .before .before .before in
     sym (set-answer _ _ true true false _ (known (two .before .before)) (listed two)
@@ -69,7 +66,6 @@ answered c t e =
     (ranged (three .before) true (answered-yes _ _ (said (three .before)) (three .if3 .left))) (ap not e)
 
 pub judge-balance-spec : {M : Type 1} → statement M
-unfolding numberOf
 judge-balance-spec =
     tie.close (tie.spec (λ c κs. search needs)
     (λ c. sym (set-answer _ _ false _ _ _ (answered-no _ _ (c .before .account-known .ensures) (c .if1 .taken)) refl refl refl))

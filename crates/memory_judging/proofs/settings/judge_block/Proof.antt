@@ -2,7 +2,6 @@
 use Rattle.integers.specs.Basics.{_≡_, refl, sym, Bool, true, false, cond, pos, needs}
 use Rattle.book.specs.declared.Setting.the-variants.{Block}
 use Rattle.book.specs.declared.Event.the-variants.{Set}
-use Rattle.limits.specs.Answers.{numberOf}
 use Rattle.book.specs.Table.{whereSome, isListed, betweenℤ}
 use Rattle.book.specs.Decoding.{between}
 use Rattle.book.specs.Settings.{blockedAccount, blockedItem}
@@ -24,7 +23,6 @@ listed : (c : tie.Else2) → let a = c .before .before .before .before .before .
 listed c = answered-yes _ _ (c .before .blocked-item-known .ensures) (c .if2 .left)
 
 returns-2 : tie.Need-returns-2
-unfolding numberOf
 returns-2 c =
     let unlisted = answered-no _ _ (c .before .blocked-item-known .ensures) (c .if2 .taken) in
     sym (set-answer _ _ true false _ _ (known (c .before .before)) unlisted refl refl)
@@ -39,7 +37,6 @@ fits : (c : tie.After-in-range) → let a = c .before .before .before .before .b
 fits c = test-handed-on (betweenℤ (pos 0) (pos 1)) (c .before .before .before .before .before .before .fits .on) (c .in-range .ensures)
 
 pub judge-block-spec : {M : Type 1} → statement M
-unfolding numberOf
 judge-block-spec =
     tie.close (tie.spec (λ c κs. search needs)
     (λ c. sym (set-answer _ _ false _ _ _ (answered-no _ _ (c .before .blocked-account-known .ensures) (c .if1 .taken)) refl refl refl))

@@ -2,7 +2,6 @@
 use Rattle.integers.specs.Basics.{_≡_, refl, sym, Bool, true, false, cond, needs}
 use Rattle.book.specs.declared.Setting.the-variants.{Limit}
 use Rattle.book.specs.declared.Event.the-variants.{Set}
-use Rattle.limits.specs.Answers.{numberOf}
 use Rattle.book.specs.Decoding.{between}
 use Rattle.book.specs.Settings.{limitedItem}
 use Rattle.book.specs.Table.{isListed, lineFits}
@@ -28,7 +27,6 @@ answered c z e =
     set-answer _ _ true true z true (known (two .before .before)) (listed two) (rw (c .before .market .ensures) at e) refl
 
 pub judge-limit-spec : {M : Type 1} → statement M
-unfolding numberOf
 judge-limit-spec =
     tie.close (tie.spec (λ c κs. search needs)
     (λ c. sym (set-answer _ _ false _ _ _ (answered-no _ _ (c .before .account-known .ensures) (c .if1 .taken)) refl refl refl))

@@ -2,8 +2,8 @@
 use Rattle.integers.specs.Basics.{_∙_, sym, ap, needs}
 use Rattle.book.specs.Table.{isQuantity, changeInRange}
 use Rattle.memory_judging.proofs.HandedOn.{test-handed-on}
-use Rattle.memory_judging.proofs.ranges.change_in_range.Statement.{statement}
-use Rattle.memory_judging.proofs.ranges.change_in_range.Tie as tie
+use Rattle.memory_judging.proofs.changes.change_in_range.Statement.{statement}
+use Rattle.memory_judging.proofs.changes.change_in_range.Tie as tie
 
 returns : tie.Need-returns
 returns c =
