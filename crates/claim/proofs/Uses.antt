@@ -1,12 +1,12 @@
 -- What follows from the demands alone.
-use Rattle.integers.specs.Basics.{ℕ, _≤_, _<_, _≡_, refl, _∙_, sym, ap, _⊎_, inl, inr, ⊎-elim, _↔_, _≢_, Bool, true, false, not, _&&_, _||_}
+use Rattle.integers.specs.Basics.{ℕ, _≤_, _<_, _≡_, refl, _∙_, sym, ap, _⊎_, inl, inr, ⊎-elim, _↔_, _≢_, Bool, true, false, not, _&&_}
 use Rattle.integers.specs.Basics.{cond, List, [], _∷_, _++_, List·Memᴰ, List·Memᴰ·head, List·Memᴰ·tail, leb, eqb, length, getD, arith}
-use Rattle.integers.specs.Basics.{not-true, leb-true, eqb-true, eqb-false, lt-leb}
+use Rattle.integers.specs.Basics.{not-true, leb-true, eqb-false, lt-leb}
 use Rattle.limits.specs.Lines.{isSet}
 use Rattle.limits.specs.Questions.{Question, firstNo, allPass, numbersOf}
 use Rattle.limits.proofs.Answers.{both-true, pass-zero}
 use Rattle.book.specs.declared.Event.the-variants.{Junk}
-use Rattle.book.specs.Decoding.{between, decode}
+use Rattle.book.specs.Decoding.{decode}
 use Rattle.book.specs.Table.{q, isEvent, entered, questionsBefore, questions}
 use Rattle.book.specs.EventLists.{RawEvent, memoryAfter}
 use Rattle.book.specs.Written.{written}
@@ -19,7 +19,7 @@ use Rattle.memory_reading.specs.Reading.{readingQuestions, instrumentAnswer, gr
 use Rattle.desk.specs.Step.{eventQuestions, answerTo, afterEvent}
 use Rattle.desk.specs.Demands.{gate}
 use Rattle.claim.specs.Claim.{askedFirst, askedLast, FirstNo}
-use Rattle.claim.specs.Uses.{NumbersAndBytes, Determined, Refusals, Acceptances, Examples, StaysSound}
+use Rattle.claim.specs.Uses.{isOneOf, NumbersAndBytes, Determined, Refusals, Acceptances, Examples, StaysSound}
 use Rattle.claim.proofs.Demands.{demand-1, demand-2, demand-3, run}
 
 -- ---- demand 1
@@ -32,18 +32,6 @@ pub listed-passes : {A : Type 0} (test : A → Bool) (n : A) (ns : List A) → L
 listed-passes test n (k ∷ ks) (List·Memᴰ·head e) h = ap test e ∙ both-true (test k) (allOf test ks) h .0
 listed-passes test n (k ∷ ks) (List·Memᴰ·tail m) h = listed-passes test n ks m (both-true (test k) (allOf test ks) h .1)
 
-abbrev isNumber : ℕ → Bool
-isNumber n = eqb n 0 || between 5 24 n
-
-number-told : (n : ℕ) → isNumber n ≡ true → (n ≡ 0) ⊎ ((5 ≤ n) × (n ≤ 24))
-number-told n = by (eqb n 0) refl
-  where
-    by : (t : Bool) → eqb n 0 ≡ t → t || between 5 24 n ≡ true → (n ≡ 0) ⊎ ((5 ≤ n) × (n ≤ 24))
-    by true z h = inl (eqb-true n 0 z)
-    by false z h =
-        let b = both-true (leb 5 n) (leb n 24) h in
-        inr (leb-true 5 n (b .0), leb-true n 24 (b .1))
-
 behind-events : (m : List ℕ) (events : List RawEvent) (k : ℕ) → 65536 ≤ k → getD (memoryAfter gate m events) k 0 ≡ getD m k 0
 unfolding memoryAfter
 behind-events m [] k h = refl
@@ -53,7 +41,7 @@ pub numbers-and-bytes : NumbersAndBytes
 numbers-and-bytes =
     record {
       roster = λ m s. leb-true (openingAnswer m s) 4 (listed-passes (λ n. leb n 4) _ _ (demand-1 .roster m s) refl);
-      event = λ m e. number-told (answerTo m e) (listed-passes isNumber _ _ (demand-1 .event m e) refl);
+      event = λ m e. listed-passes (isOneOf (0 ∷ (askedFirst ++ askedLast))) _ _ (demand-1 .event m e) refl;
       refused-roster = λ m s k other. ap (λ l. getD l k 0) (demand-1 .roster-refused m s other);
       refused-event = λ m e k other. ap (λ l. getD l k 0) (demand-1 .event-refused m e other);
       behind = λ m s events k h. behind-events (afterOpening m s) events k h ∙ demand-1 .behind-roster m s k h;

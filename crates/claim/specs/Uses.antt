@@ -1,5 +1,5 @@
 -- What follows from the demands alone, of any memory and any bytes: each of their clauses is used.
-use Rattle.integers.specs.Basics.{ℕ, _≤_, _<_, _≡_, _⊎_, _≢_, true, false, List, [], _∷_, List·Memᴰ, ℤ, length, getD}
+use Rattle.integers.specs.Basics.{ℕ, _≤_, _<_, _≡_, _≢_, Bool, true, false, _||_, List, [], _∷_, _++_, List·Memᴰ, ℤ, eqb, length, getD}
 use Rattle.words.specs.Bytes.{Bytes}
 use Rattle.limits.specs.Questions.{firstNo}
 use Rattle.book.specs.declared.Event.the-variants.{Junk}
@@ -15,12 +15,18 @@ use Rattle.memory_reading.specs.Reading.{readingQuestions, instrumentAnswer, gr
 use Rattle.desk.specs.Step.{eventQuestions, answerTo, afterEvent}
 use Rattle.desk.specs.Days.{answersOver, memoryOver}
 use Rattle.desk.specs.Demands.{gate}
+use Rattle.claim.specs.Claim.{askedFirst, askedLast}
 
 -- ---- demand 1
+-- is n one of the list?
+abbrev pub isOneOf : List ℕ → ℕ → Bool
+isOneOf [] n = false
+isOneOf (k ∷ ks) n = eqb n k || isOneOf ks n
+
 pub record NumbersAndBytes : Type 0 where
   -- no number but those of the list
   pub roster : (m s : List ℕ) → openingAnswer m s ≤ 4
-  pub event : (m e : List ℕ) → (answerTo m e ≡ 0) ⊎ ((5 ≤ answerTo m e) × (answerTo m e ≤ 24))
+  pub event : (m e : List ℕ) → isOneOf (0 ∷ (askedFirst ++ askedLast)) (answerTo m e) ≡ true
   -- every byte, after any roster and any events
   pub refused-roster : (m s : List ℕ) (k : ℕ) → openingAnswer m s ≢ 0 → getD (afterOpening m s) k 0 ≡ getD m k 0
   pub refused-event : (m e : List ℕ) (k : ℕ) → answerTo m e ≢ 0 → getD (afterEvent m e) k 0 ≡ getD m k 0
