@@ -24,7 +24,8 @@ returns-2 : tie.Need-returns-2
 returns-2 c =
     let judged = c .before .before in
     let told = judged .judge .ensures .0 in
-    (told, (stepped-same _ _ (judged .judge .result .answer) told (c .match .keys2), judged .before .before .before .before .before .pre .1))
+    let start = judged .before .before .before .before .before in
+    (told, (stepped-same _ _ (judged .judge .result .answer) told (c .match .keys2), start .pre .1))
 
 pub step-spec : {M : Type 1} → statement M
 step-spec =
