@@ -1,4 +1,4 @@
--- What a change makes of an order, case by case. Every law that goes by the cases of a change stands here; all others take these.
+-- What a change makes of an order, case by case. Laws that go through all the cases of a change stand here, and the others take them.
 use Rattle.integers.specs.Basics.{_+_, _-_, _≤_, _<_, _≡_, refl, _∙_, sym, ap, true, Option, none, some, ℤ, natAbs, ltb, arith}
 use Rattle.integers.specs.Basics.{leb-true, ltb-true, ltb-false}
 use Rattle.ledger.specs.declared.order.Order.{Order}
@@ -45,7 +45,16 @@ after-filled (Replace n) o = omega arith
 after-filled Cancel o = omega arith
 after-filled (Fill n) o = refl
 
--- of a FILL by no more than remains, what remains and is filled is what remained
+-- what remains by each: after a REPLACE the new total less what is filled, after a CANCEL nothing; of a FILL by no more than remains, what
+-- remains and is filled is what remained
+pub replace-remains : (o : Order) (n : ℤ) → remaining (orderAfter (Replace n) o) ≡ natAbs n - o .filled
+unfolding orderAfter replacedTotal remaining
+replace-remains o n = refl
+
+pub cancel-remains : (o : Order) → remaining (orderAfter Cancel o) ≡ 0
+unfolding orderAfter replacedTotal remaining
+cancel-remains o = omega arith
+
 pub fill-remains : (o : Order) (n : ℤ) → natAbs n ≤ remaining o → remaining (orderAfter (Fill n) o) + natAbs n ≡ remaining o
 unfolding orderAfter filledBy remaining
 fill-remains o n most = omega arith

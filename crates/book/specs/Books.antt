@@ -87,8 +87,8 @@ unfoldable pub newOrder : Side → ℕ → ℕ → ℕ → ℤ → Order
 newOrder s a i id n =
     record { id = id; account = a; instrument = i; side = s; total = natAbs n; filled = 0 }
 
--- what an order becomes by a change. REPLACE: it gets the new total. CANCEL: no more of it than is filled. FILL: its filled rises by the
--- quantity
+-- what an order becomes by a change. REPLACE: it gets the new total. CANCEL: nothing of it remains, so that it leaves. FILL: its filled
+-- rises by the quantity
 unfoldable pub orderAfter : OrderChange → Order → Order
 orderAfter (Replace n) o = replacedTotal o (natAbs n)
 orderAfter Cancel o = replacedTotal o (o .filled)

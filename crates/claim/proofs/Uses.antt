@@ -42,6 +42,7 @@ numbers-and-bytes =
     record {
       roster = λ m s. leb-true (openingAnswer m s) 4 (listed-passes (λ n. leb n 4) _ _ (demand-1 .roster m s) refl);
       event = λ m e. listed-passes (isOneOf (0 ∷ (askedFirst ++ askedLast))) _ _ (demand-1 .event m e) refl;
+      no-other = (refl, refl);
       refused-roster = λ m s k other. ap (λ l. getD l k 0) (demand-1 .roster-refused m s other);
       refused-event = λ m e k other. ap (λ l. getD l k 0) (demand-1 .event-refused m e other);
       behind = λ m s events k h. behind-events (afterOpening m s) events k h ∙ demand-1 .behind-roster m s k h;

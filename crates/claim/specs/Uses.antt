@@ -27,6 +27,8 @@ pub record NumbersAndBytes : Type 0 where
   -- no number but those of the list
   pub roster : (m s : List ℕ) → openingAnswer m s ≤ 4
   pub event : (m e : List ℕ) → isOneOf (0 ∷ (askedFirst ++ askedLast)) (answerTo m e) ≡ true
+  -- so none of an opening's, and not 25
+  pub no-other : (isOneOf (0 ∷ (askedFirst ++ askedLast)) 4 ≡ false) × (isOneOf (0 ∷ (askedFirst ++ askedLast)) 25 ≡ false)
   -- every byte, after any roster and any events
   pub refused-roster : (m s : List ℕ) (k : ℕ) → openingAnswer m s ≢ 0 → getD (afterOpening m s) k 0 ≡ getD m k 0
   pub refused-event : (m e : List ℕ) (k : ℕ) → answerTo m e ≢ 0 → getD (afterEvent m e) k 0 ≡ getD m k 0

@@ -31,7 +31,7 @@ pub enum Answer {
 }
 
 // An answer and its number.
-pub struct AnswerNumber(pub Answer, pub u8);
+struct AnswerNumber(Answer, u8);
 
 // The table of answers and numbers. The answer is named again beside its number, so that the prover finds each line by itself.
 fn with_number(a: Answer) -> AnswerNumber
