@@ -131,6 +131,25 @@ module _ (m : List ℕ) (id : ℕ) where
           (λ last. let e : q ≡ p - 1 = omega arith in other (omega arith) (read ∙ ap (λ r. orderIn m r .id) (sym e) ∙ same))
           (λ earlier. omega (arith, earlier, rank-behind q high (omega arith))))
 
+-- ---- what the search finds from `from` on, just before the place p of the first larger id, is what there is to find
+module _ (m : List ℕ) (id : ℕ) (up : Ascending 0 (openOrders m)) (from p k : ℕ) (is : p ≡ rank id (openOrders m)) (one : (0 < p → k ≡ 1)
+    × (p ≤ 0 → k ≡ 0) × (k ≤ 1)) (starts : from ≡ p - k) where
+  none-earlier : NotIn (recordsOf m) id 0 from
+  none-earlier q low high same =
+      let some : k ≡ 1 = one .0 (omega arith) in
+      omega (arith, rank-behind m id up q (omega (arith, rank-open m id)) (omega arith))
+
+  none-later : NotIn (recordsOf m) id p (wordAt m countWord)
+  none-later q low high same = omega (arith, at-other m id q _ high refl up (omega arith))
+
+  pub found-at-rank : (f : Found) (s : List ℕ) → s ≡ recordsOf m → f ≡ placeFrom from id (ordersFrom s from (p - from))
+      → f ≡ placeFrom 0 id (openOrders m)
+  unfolding openOrders seek
+  found-at-rank f s same found =
+      rw same at found
+      ∙ seek-between (recordsOf m) id (wordAt m countWord) p (omega (arith, rank-open m id)) none-later from (omega arith) none-earlier
+      ∙ seek-all (recordsOf m) (wordAt m countWord) id
+
 -- ---- the block that is searched: it stands behind the first r blocks, which end with a smaller id, and ends at `to`
 pub record Block (m : List ℕ) (id r to : ℕ) : Type 0 where
   pub inside : r * 16 ≤ wordAt m countWord
@@ -156,26 +175,7 @@ block-told m id r to n is few end =
     }
 
 module _ (m : List ℕ) (id r to : ℕ) (up : Ascending 0 (openOrders m)) (b : Block m id r to) where
-  -- no order before it or behind it has the id
-  none-before : NotIn (recordsOf m) id 0 (r * 16)
-  none-before q low high =
-      none-upto m id up (r * 16 - 1) (omega (arith, b .inside)) (b .small (omega arith)) q low (omega arith)
-
-  none-after : NotIn (recordsOf m) id to (wordAt m countWord)
-  none-after q low high =
-      let e = b .ends (omega arith) in
-      none-behind m id up (r * 16 + 15) (b .large (omega arith)) q (omega arith) high
-
-  -- so what the search finds in it, in records s, is what there is to find
-  pub found-in-block : (f : Found) (s : List ℕ) → s ≡ recordsOf m
-      → f ≡ placeFrom (r * 16) id (ordersFrom s (r * 16) (to - r * 16)) → f ≡ placeFrom 0 id (openOrders m)
-  unfolding openOrders seek
-  found-in-block f s is found =
-      rw is at found
-      ∙ seek-between (recordsOf m) id (wordAt m countWord) to (b .high) none-after (r * 16) (b .low) none-before
-      ∙ seek-all (recordsOf m) (wordAt m countWord) id
-
-  -- and the place of the first larger id is in it, or at its end
+  -- the place of the first larger id is in it, or at its end
   pub rank-from : r * 16 ≤ rank id (openOrders m)
   rank-from =
       by-cases (decLe 1 r)

@@ -1,6 +1,6 @@
-// The search of an open order by its id, and the place of a new id among the records, whose ids ascend. Both pass over whole blocks of
-// sixteen records by the last id of each, and count these blocks without a branch: which block it is cannot be foretold, and a branch that
-// is taken wrongly costs more than the count.
+// The search of an open order by its id, and the place of a new id among the records, whose ids ascend. Whole blocks of sixteen records are
+// passed over by the last id of each, and these blocks, and the records of one block, are counted without a branch: where an id stands cannot
+// be foretold, and a branch that is taken wrongly costs more than the count.
 ghost use mathlib.Core.Path.{_≡_};
 ghost use Prim.Native.Nat.{_+_, _*_, _-_, _≤_, _<_};
 ghost use Rattle.words.specs.Words.{wordAt};
@@ -52,16 +52,6 @@ fn block_end(from: usize, n: usize) -> usize
     if from + 16 <= n { from + 16 } else { n }
 }
 
-// The place of the open order with that id: in the first block that does not end with a smaller id, or behind the last whole block.
-pub fn find_order(m: &[u8], id: u64) -> Found
-    requires { ⌜ Ranked (now m) ⌝ }
-    ensures { λ r. ⌜ r ≡ placeFrom 0 id (openOrders (now (m .entry))) ⌝ }
-{
-    let n = word(m, COUNT) as usize;
-    let from = blocks_before(m, n / 16, id) * 16;
-    find(records(m), from, block_end(from, n), id)
-}
-
 // How many of the records from `from` on, and before `to`, have an id that is not larger, the place being among them or at `to`.
 fn records_before(m: &[u8], from: usize, to: usize, id: u64) -> usize
     requires { ⌜ Ranked (now m)
@@ -77,6 +67,24 @@ fn records_before(m: &[u8], from: usize, to: usize, id: u64) -> usize
     before
 }
 
+// The place of the first larger id: in the first block that does not end with a smaller one, or behind the last whole block.
+fn place_among(m: &[u8], n: usize, id: u64) -> usize
+    requires { ⌜ Ranked (now m) × (n ≡ wordAt (now m) countWord) ⌝ }
+    ensures { λ r. ⌜ r ≡ rank id (openOrders (now (m .entry))) ⌝ }
+{
+    let from = blocks_before(m, n / 16, id) * 16;
+    from + records_before(m, from, block_end(from, n), id)
+}
+
+// The place of the open order with that id, which stands just before the first larger one.
+pub fn find_order(m: &[u8], id: u64) -> Found
+    requires { ⌜ Ranked (now m) ⌝ }
+    ensures { λ r. ⌜ r ≡ placeFrom 0 id (openOrders (now (m .entry))) ⌝ }
+{
+    let p = place_among(m, word(m, COUNT) as usize, id);
+    find(records(m), p - smaller(0, p as u64), p, id)
+}
+
 // The place of the first open order with a larger id, else behind the last.
 pub fn place(m: &[u8], id: u64) -> usize
     requires { ⌜ Ranked (now m) ⌝ }
@@ -86,6 +94,5 @@ pub fn place(m: &[u8], id: u64) -> usize
     if 0 < n && id_at(m, n - 1) < id {
         return n;
     }
-    let from = blocks_before(m, n / 16, id) * 16;
-    from + records_before(m, from, block_end(from, n), id)
+    place_among(m, n, id)
 }

@@ -1,7 +1,7 @@
--- An id above the last one has its place at the end, any other in the first block that does not end with a smaller id, or at its end.
+-- An id above the last one has its place at the end, any other among the records.
 use Rattle.integers.specs.Basics.{arith, needs, ltb-true}
 use Rattle.memory_layout.proofs.Lengths.{rank-open}
-use Rattle.memory_layout.proofs.Ranking.{at-other, block-told, rank-from, rank-upto}
+use Rattle.memory_layout.proofs.Ranking.{at-other}
 use Rattle.memory_layout.proofs.search.place.Statement.{statement}
 use Rattle.memory_layout.proofs.search.place.Tie as tie
 
@@ -17,17 +17,7 @@ returns c =
     let reached = at-other m id _ _ (omega (arith, n, some)) (last .ensures) (start .pre .1) (omega (arith, above)) in
     omega (arith, n, some, reached, rank-open m id)
 
-records-before-requires : tie.Need-records-before-requires
-records-before-requires c κs =
-    let start = c .before .before .before .before .before in
-    let n = c .before .before .before .word .ensures in
-    let end = c .block-end .ensures in
-    let block = block-told _ _ _ _ _ n (c .before .blocks-before .ensures) end in
-    (start .pre, rank-from _ _ _ _ (start .pre .1) block, rank-upto _ _ _ _ (start .pre .1) block, omega (arith, n, end))
-
 pub place-spec : {M : Type 1} → statement M
 place-spec =
-    tie.close (tie.spec (λ c κs. search needs) (λ c. search needs) (λ c κs. search needs) returns (λ c κs. search needs) (λ c. search needs)
-    (λ c κs. search needs) records-before-requires
-    (λ c. let start = c .before .before .before .before .before .before in
-    omega (arith, c .records-before .ensures, rank-open (start .args .m .now) (start .args .id))) (λ c. search needs))
+    tie.close (tie.spec (λ c κs. search needs) (λ c. search needs) (λ c κs. search needs) returns (λ c κs. search needs)
+    (λ c. search needs))
