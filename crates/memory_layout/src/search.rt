@@ -1,6 +1,6 @@
-// The search of an open order by its id, and the place of a new id among the records, whose ids ascend. Whole blocks of sixteen records are
-// passed over by the last id of each, and these blocks, and the records of one block, are counted without a branch: where an id stands cannot
-// be foretold, and a branch that is taken wrongly costs more than the count.
+// The search of an open order by its id, and the place of a new id among the records, whose ids ascend. Whole blocks of sixteen records
+// are passed over by the last id of each; these blocks, and then the records of one block, are counted without a branch: where an id stands
+// cannot be foretold, and a branch that is taken wrongly costs more than the count.
 ghost use mathlib.Core.Path.{_≡_};
 ghost use Prim.Native.Nat.{_+_, _*_, _-_, _≤_, _<_};
 ghost use Rattle.words.specs.Words.{wordAt};
