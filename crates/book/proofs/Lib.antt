@@ -11,6 +11,7 @@ pub mod Ids
 pub mod Accepted
 pub mod Tables
 pub mod Settings
+pub mod SettingsNamed
 pub mod TableLaws
 pub mod Marks
 pub mod Shifts

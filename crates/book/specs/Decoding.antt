@@ -109,7 +109,7 @@ fieldsFit n e =
     && (ltb 2 (n .figures) || isZero (figureField e 2))
     && (ltb 3 (n .figures) || isZero (figureField e 3))
 
--- the kinds
+-- is it a kind of event?
 abbrev pub isKind : ℕ → Bool
 isKind k = between 1 7 k
 

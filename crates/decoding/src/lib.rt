@@ -232,7 +232,7 @@ fn event_of(kind: u8, e: &[u8]) -> Event
     }
 }
 
-// The kinds, 1 to 7.
+// Is it a kind of event, 1 to 7?
 fn is_kind(kind: u8) -> bool
     ensures { λ r. ⌜ r ≡ isKind kind ⌝ }
 {

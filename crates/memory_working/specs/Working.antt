@@ -42,7 +42,7 @@ pub record Ready (m : List ℕ) (e : Event) (p w : ℕ) : Type 0 where
 abbrev pub newOf : ℕ → ℕ → Event
 newOf id w = let o = orderOf id w in New (o .side) (o .account) (o .instrument) id (pos (o .total))
 
--- a change that has passed 9 and 12 of the order of an id and detail w, which is in range
+-- a change that has passed 9 and 12 of an order in range, which an id and detail w make
 pub record Fitting (c : OrderChange) (w : ℕ) : Type 0 where
   pub id : ℕ
   pub figures : changeInRange c ≡ true
