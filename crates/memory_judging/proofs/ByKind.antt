@@ -1,92 +1,61 @@
--- The table kind by kind: the first no of the questions that a kind is asked, by their tests.
-use Rattle.integers.specs.Basics.{ℕ, _≡_, refl, _∙_, Bool, true, false, not, cond, List, Option, none, some, ℤ}
+-- The table's first no: of any event by its answers to 7 to 9, of a change of an open order by its answer to 11 too.
+use Rattle.integers.specs.Basics.{ℕ, _≡_, refl, Bool, true, false, cond, List, Option, some, ℤ}
 use Rattle.ledger.specs.declared.order.Order.{Order}
 use Rattle.ledger.specs.declared.order.Side.{Side}
+use Rattle.limits.specs.Lines.{isSet}
 use Rattle.limits.specs.Questions.{firstNo}
-use Rattle.limits.specs.Numbers.{sizeQuestions}
 use Rattle.book.specs.declared.Setting.{Setting}
-use Rattle.book.specs.declared.Event.{Event}
 use Rattle.book.specs.declared.OrderChange.{OrderChange}
+use Rattle.book.specs.declared.Event.{Event}
 use Rattle.book.specs.declared.Event.the-variants.{Set, New, Change, Junk}
-use Rattle.book.specs.Settings.{settingAccount, settingItem, asBalance}
+use Rattle.book.specs.Settings.{settingAccount, settingItem}
 use Rattle.book.specs.Decoding.{between}
 use Rattle.book.specs.OpenOrders.{find}
-use Rattle.book.specs.Books.{newOrder, bookAfter}
-use Rattle.book.specs.Names.{balanceOwner}
-use Rattle.book.specs.Table.{isEvent, accountKnown, isListed, itemKnown, settingInRange, changeInRange, isQuantity, figuresFit}
-use Rattle.book.specs.Table.{notYetTrading, idOpen, quantityFits, whereSome, raised, entered, idFree, placeFree, questionsBefore}
-use Rattle.book.specs.Table.{limitQuestions, answer}
-use Rattle.book.proofs.Cuts.{standing}
-use Rattle.book.proofs.OrderChanges.{raised-fills}
-use Rattle.book.proofs.Shifts.{none-filled}
-use Rattle.memory_layout.specs.View.{marketOf, rosterOf, balancesOf, openOrders, bookOf, tradingOf}
+use Rattle.book.specs.Table.{isEvent, accountKnown, isListed, itemKnown, settingInRange, changeInRange, isQuantity, figuresFit, whereSome}
+use Rattle.book.specs.Table.{notYetTrading, idOpen, fitsOrder, quantityFits, questionsBefore, answer}
+use Rattle.memory_layout.specs.View.{marketOf, rosterOf, openOrders, bookOf}
 use Rattle.memory_layout.specs.Judged.{judged}
-use Rattle.memory_judging.specs.OrderQuestions.{admission, withinLimits}
-use Rattle.memory_judging.specs.QuestionsLeft.{newFrom18, newFrom13, changeFrom12}
+use Rattle.memory_judging.specs.QuestionsLeft.{leftAfter}
 
 module _ (m : List ℕ) where
-  -- the first no of an event, but for a change of an open order, of which three lemmas below tell
-  abbrev tested : Event → ℕ
-  tested (Set x) =
-      cond (whereSome (between 1 (rosterOf m .accounts)) (settingAccount x))
-      (cond (whereSome (isListed (rosterOf m)) (settingItem x))
-      (cond (settingInRange (marketOf m) x) (cond (whereSome (λ a. not (tradingOf m a)) (balanceOwner (asBalance x))) 0 10) 9)
-      8)
-      7
-  tested (New s a i id n) =
-      cond (between 1 (rosterOf m .accounts) a)
-      (cond (between 1 (rosterOf m .instruments) i) (cond (isQuantity n) (firstNo (newFrom13 m (newOrder s a i id n))) 9) 8)
-      7
-  tested (Change id c) = judged m (Change id c)
-  tested Junk = 6
+  by-figures : (e : Event) (x y z : Bool) → isEvent e ≡ true → accountKnown (rosterOf m) e ≡ x → itemKnown (rosterOf m) e ≡ y
+      → figuresFit (marketOf m) e ≡ z → judged m e ≡ cond x (cond y (cond z (firstNo (leftAfter 9 m e)) 9) 8) 7
+  unfolding judged answer questionsBefore firstNo leftAfter
+  by-figures e x y z is d f g = rw (is, d, f, g)
 
-  by-kind : (e : Event) → judged m e ≡ tested e
-  unfolding judged answer questionsBefore limitQuestions isEvent accountKnown itemKnown figuresFit notYetTrading idOpen
-      quantityFits entered idFree placeFree firstNo bookOf bookAfter newOrder newFrom13 newFrom18 admission withinLimits
-      sizeQuestions
-  by-kind (Set x) = refl
-  by-kind (New s a i id n) = refl
-  by-kind (Change id c) = refl
-  by-kind Junk = refl
-
-  pub set-answer : (x : Setting) (p q r t : Bool) → whereSome (between 1 (rosterOf m .accounts)) (settingAccount x) ≡ p
+  pub set-answer : (x : Setting) (p q r : Bool) → whereSome (between 1 (rosterOf m .accounts)) (settingAccount x) ≡ p
       → whereSome (isListed (rosterOf m)) (settingItem x) ≡ q → settingInRange (marketOf m) x ≡ r
-      → whereSome (λ a. not (tradingOf m a)) (balanceOwner (asBalance x)) ≡ t
-      → judged m (Set x) ≡ cond p (cond q (cond r (cond t 0 10) 9) 8) 7
-  set-answer x p q r t d e f g = by-kind (Set x) ∙ rw (d, e, f, g)
+      → judged m (Set x) ≡ cond p (cond q (cond r (firstNo (leftAfter 9 m (Set x))) 9) 8) 7
+  unfolding isEvent accountKnown itemKnown figuresFit
+  set-answer x p q r d e f = by-figures (Set x) p q r refl d e f
 
-  pub junk-answer : judged m Junk ≡ 6
-  junk-answer = by-kind Junk
-
-  -- ---- NEW and the changes: what is left once the tests before it have passed
+  -- a NEW is asked none of 10 to 12
   pub new-answer : (s : Side) (a i id : ℕ) (n : ℤ) (x y z : Bool)
       → between 1 (rosterOf m .accounts) a ≡ x → between 1 (rosterOf m .instruments) i ≡ y → isQuantity n ≡ z
-      → judged m (New s a i id n) ≡ cond x (cond y (cond z (firstNo (newFrom13 m (newOrder s a i id n))) 9) 8) 7
-  new-answer s a i id n x y z d e f = by-kind (New s a i id n) ∙ rw (d, e, f)
+      → judged m (New s a i id n) ≡ cond x (cond y (cond z (firstNo (leftAfter 12 m (New s a i id n))) 9) 8) 7
+  unfolding isEvent accountKnown itemKnown figuresFit notYetTrading idOpen quantityFits questionsBefore firstNo leftAfter
+  new-answer s a i id n x y z d e f = by-figures (New s a i id n) x y z refl d e f
+
+  pub junk-answer : judged m Junk ≡ 6
+  unfolding judged answer questionsBefore isEvent firstNo
+  junk-answer = refl
 
   module _ (id : ℕ) (c : OrderChange) where
     pub change-figure : changeInRange c ≡ false → judged m (Change id c) ≡ 9
-    unfolding judged answer questionsBefore isEvent accountKnown itemKnown figuresFit firstNo
-    change-figure d = rw d
+    unfolding isEvent accountKnown itemKnown figuresFit
+    change-figure d = by-figures (Change id c) true true false refl refl refl d
 
-    pub change-none : changeInRange c ≡ true → find id (openOrders m) ≡ none → judged m (Change id c) ≡ 11
-    unfolding judged answer questionsBefore isEvent accountKnown itemKnown figuresFit notYetTrading idOpen firstNo bookOf
-    change-none d e = rw (d, e)
+    -- question 11, of what is found
+    change-open : (x : Option Order) → find id (openOrders m) ≡ x → idOpen (bookOf m) (Change id c) ≡ isSet x
+    unfolding idOpen bookOf
+    change-open x e = rw e
 
-  pub change-found : (id : ℕ) (c : OrderChange) (o : Order) → changeInRange c ≡ true → find id (openOrders m) ≡ some o
-      → judged m (Change id c) ≡ firstNo (changeFrom12 m o c)
-  unfolding judged answer questionsBefore limitQuestions isEvent accountKnown itemKnown figuresFit notYetTrading idOpen
-      quantityFits entered idFree placeFree firstNo bookOf bookAfter changeFrom12 admission withinLimits sizeQuestions
-  change-found id c o d e = by (raised c (some o)) refl
-    where
-      by : (x : Option Order) → raised c (some o) ≡ x → judged m (Change id c) ≡ firstNo (changeFrom12 m o c)
-      by none h = rw (d, e, h)
-      by (some y) h =
-          rw (
-            d,
-            e,
-            h,
-            raised-fills c o y h,
-            none-filled (marketOf m .unit) (some o) (balancesOf m) (y .account),
-            ← standing id (openOrders m) o e .named,
-          )
+    pub change-answer : (x : Option Order) → changeInRange c ≡ true → find id (openOrders m) ≡ x
+        → judged m (Change id c) ≡ cond (isSet x) (firstNo (leftAfter 11 m (Change id c))) 11
+    unfolding isEvent accountKnown itemKnown figuresFit notYetTrading questionsBefore firstNo leftAfter
+    change-answer x d e = rw (change-open x e) at (by-figures (Change id c) true true true refl refl refl d)
+
+    -- question 12, of the order found
+    pub change-fits : (o : Order) → find id (openOrders m) ≡ some o → quantityFits (bookOf m) (Change id c) ≡ fitsOrder c o
+    unfolding quantityFits bookOf
+    change-fits o e = rw e

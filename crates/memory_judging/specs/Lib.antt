@@ -1,3 +1,4 @@
 pub mod OrderQuestions
 pub mod OrderFields
 pub mod QuestionsLeft
+pub mod Entries

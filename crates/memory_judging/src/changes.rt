@@ -1,11 +1,10 @@
 // The judge of REPLACE, CANCEL and FILL. The cells hold B and V of all accounts, or there are none.
 ghost use mathlib.Core.Path.{_≡_};
 ghost use mathlib.Core.Bool.{cond};
-ghost use mathlib.Core.Option.{some};
-ghost use Prim.Native.Nat.{ℕ, _<_};
+ghost use Prim.Native.Nat.{ℕ};
 ghost use lib.Dec.{leb};
 ghost use lib.IntN.{pos};
-ghost use Rattle.ledger.specs.Orders.{remaining, replacedTotal};
+ghost use Rattle.ledger.specs.Orders.{remaining};
 ghost use Rattle.ledger.specs.Records.{orderOf};
 ghost use Rattle.limits.specs.Questions.{firstNo};
 ghost use Rattle.limits.specs.Answers.{numberOf};
@@ -16,11 +15,11 @@ ghost use Rattle.memory_layout.specs.View.{openOrders};
 ghost use Rattle.memory_layout.specs.Judged.{judged, NamedAt};
 ghost use Rattle.memory_soundness.specs.Cells.{Sums};
 ghost use Rattle.memory_soundness.specs.SoundMemory.{SoundMemory};
-ghost use Rattle.memory_judging.specs.QuestionsLeft.{raisedFrom14, changeFrom12, Changeable};
+ghost use Rattle.memory_judging.specs.QuestionsLeft.{leftAfter};
+ghost use Rattle.memory_judging.specs.Entries.{Changeable};
 use crate::Verdict;
-use crate::order_checks::admitted;
-use crate::order_checks::underlying_of;
-use crate::order_checks::within_limits;
+use crate::entries::Entry;
+use crate::entries::order_answer;
 use crate::plain;
 use crate::ranges::is_quantity;
 use book::OrderChange;
@@ -42,33 +41,21 @@ fn change_in_range(change: OrderChange) -> bool
     }
 }
 
-// 14 to 24 of a REPLACE that raises order `o` to `total`.
-fn raised(m: &[u8], cells: &[u64], o: Order, total: u64) -> Answer
-    requires { ⌜ Changeable (now m) o (Replace (pos total)) × (o .filled < total) × (o .total < total)
-        × Sums (now cells) (openOrders (now m)) ⌝ }
-    ensures { λ r. ⌜ numberOf r ≡ firstNo (raisedFrom14 (now (m .entry)) (o .id) (Replace (pos total)) (some (replacedTotal o total))) ⌝ }
-{
-    let before = o.total;
-    let after = o.replaced_total(total);
-    let under = underlying_of(m, after);
-    match admitted(m, after, under) {
-        Answer::Accepted => within_limits(m, cells, after, total - before, under),
-        no => no,
-    }
-}
-
 // 12 to 24 of a REPLACE of order `o`.
 fn replaced(m: &[u8], cells: &[u64], o: Order, total: u64) -> Answer
     requires { ⌜ Changeable (now m) o (Replace (pos total)) × Sums (now cells) (openOrders (now m)) ⌝ }
-    ensures { λ r. ⌜ numberOf r ≡ firstNo (changeFrom12 (now (m .entry)) o (Replace (pos total))) ⌝ }
+    ensures { λ r. ⌜ numberOf r ≡ firstNo (leftAfter 11 (now (m .entry)) (Change (o .id) (Replace (pos total)))) ⌝ }
 {
     if total <= o.filled {
         return Answer::QuantityOutOfRange;
     }
-    if total <= o.total {
-        return Answer::Accepted;
-    }
-    raised(m, cells, o, total)
+    let former = o.total;
+    order_answer(
+        m,
+        cells,
+        o.replaced_total(total),
+        Entry::Replaces { total: former },
+    )
 }
 
 // 12 of a FILL of the order of a detail.
@@ -85,7 +72,7 @@ fn filled(w: Detail, quantity: u64) -> Answer
 // 12 to 24 of a change of the order of that id and detail.
 fn change_answer(m: &[u8], cells: &[u64], id: u64, w: Detail, change: OrderChange) -> Answer
     requires { ⌜ Changeable (now m) (orderOf id (w .0)) change × Sums (now cells) (openOrders (now m)) ⌝ }
-    ensures { λ r. ⌜ numberOf r ≡ firstNo (changeFrom12 (now (m .entry)) (orderOf id (w .0)) change) ⌝ }
+    ensures { λ r. ⌜ numberOf r ≡ firstNo (leftAfter 11 (now (m .entry)) (Change id change)) ⌝ }
 {
     match change {
         OrderChange::Replace { total } => replaced(m, cells, w.order(id), total as u64),

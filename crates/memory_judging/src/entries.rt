@@ -1,18 +1,21 @@
-// The judge of NEW. The cells hold B and V of all accounts, or there are none.
+// The judge of NEW, and of what a NEW and a REPLACE make of an order. The cells hold B and V of all accounts, or there are none.
 ghost use mathlib.Core.Path.{_≡_};
+ghost use Prim.Native.Nat.{_-_, _<_};
 ghost use Rattle.limits.specs.Lines.{isSet};
 ghost use Rattle.limits.specs.Questions.{firstNo};
 ghost use Rattle.book.specs.declared.Event.the-variants.{New};
 ghost use Rattle.limits.specs.Answers.{numberOf};
 ghost use Rattle.book.specs.OpenOrders.{find};
-ghost use Rattle.memory_layout.specs.View.{openOrders};
+ghost use Rattle.book.specs.Table.{idFree, placeFree};
+ghost use Rattle.memory_layout.specs.View.{openOrders, bookOf};
 ghost use Rattle.memory_layout.specs.Stores.{rank};
 ghost use Rattle.memory_layout.specs.Judged.{judged, NamedAt};
 ghost use Rattle.memory_soundness.specs.Cells.{Sums};
 ghost use Rattle.memory_soundness.specs.SoundMemory.{SoundMemory};
 ghost use Rattle.memory_judging.specs.OrderFields.{Under};
 ghost use Rattle.memory_judging.specs.OrderQuestions.{Sizable};
-ghost use Rattle.memory_judging.specs.QuestionsLeft.{newFrom18, newFrom13, Fresh};
+ghost use Rattle.memory_judging.specs.QuestionsLeft.{leftAfter};
+ghost use Rattle.memory_judging.specs.Entries.{entryEvent, formerTotal, Enters};
 use crate::Verdict;
 use crate::order_checks::Underlying;
 use crate::order_checks::admitted;
@@ -30,6 +33,22 @@ use memory_layout::roster::instrument_known;
 use memory_layout::search::id_at;
 use memory_layout::search::place;
 
+// How an order comes to be as it is: a NEW's joins the open orders at a place; a REPLACE's had another total.
+pub enum Entry {
+    Joins { place: usize },
+    Replaces { total: u64 },
+}
+
+// The total that an order had.
+fn former_total(how: Entry) -> u64
+    ensures { λ r. ⌜ r ≡ formerTotal how ⌝ }
+{
+    match how {
+        Entry::Joins { place } => 0,
+        Entry::Replaces { total } => total,
+    }
+}
+
 // Whether an order with that id is open, `p` being the place of the first larger id. Ids ascend, so that it stands just before `p`: one
 // comparison, and no search.
 fn is_open(m: &[u8], p: usize, id: u64) -> bool
@@ -39,28 +58,62 @@ fn is_open(m: &[u8], p: usize, id: u64) -> bool
     0 < p && id_at(m, p - 1) == id
 }
 
-// 18 to 24 of a NEW.
-fn new_within(m: &[u8], cells: &[u64], o: Order, under: Underlying) -> Answer
-    requires { ⌜ Fresh (now m) o × Sizable (now m) o (o .total) × Sums (now cells) (openOrders (now m)) × Under (now m) o under ⌝ }
-    ensures { λ r. ⌜ numberOf r ≡ firstNo (newFrom18 (now (m .entry)) o) ⌝ }
+// 13: is the id of a new order not open?
+fn id_is_free(m: &[u8], o: Order, how: Entry) -> bool
+    requires { ⌜ Enters (now m) o how ⌝ }
+    ensures { λ r. ⌜ r ≡ idFree (bookOf (now (m .entry))) (entryEvent how o) ⌝ }
 {
-    if 256 <= count(m) {
-        return Answer::NoPlaceFree;
+    match how {
+        Entry::Joins { place } => !is_open(m, place, o.id),
+        Entry::Replaces { total } => true,
     }
-    within_limits(m, cells, o, o.total, under)
 }
 
-// 13 to 24 of a NEW. Its order would join at place `p`.
-fn new_order(m: &[u8], cells: &[u64], o: Order, p: usize) -> Answer
-    requires { ⌜ Fresh (now m) o × Sums (now cells) (openOrders (now m)) × (p ≡ rank (o .id) (openOrders (now m))) ⌝ }
-    ensures { λ r. ⌜ numberOf r ≡ firstNo (newFrom13 (now (m .entry)) o) ⌝ }
+// 18: are fewer than 256 orders open, where one would join?
+fn place_is_free(m: &[u8], o: Order, how: Entry) -> bool
+    requires { ⌜ Enters (now m) o how ⌝ }
+    ensures { λ r. ⌜ r ≡ placeFree (bookOf (now (m .entry))) (entryEvent how o) ⌝ }
 {
-    if is_open(m, p, o.id) {
+    match how {
+        Entry::Joins { place } => count(m) < 256,
+        Entry::Replaces { total } => true,
+    }
+}
+
+// 18 to 24 of an order that is entered or raised by `added`.
+fn order_within(
+    m: &[u8],
+    cells: &[u64],
+    o: Order,
+    how: Entry,
+    added: u64,
+    under: Underlying,
+) -> Answer
+    requires { ⌜ Enters (now m) o how × (formerTotal how < o .total) × (added ≡ o .total - formerTotal how) × Sizable (now m) o added
+        × Sums (now cells) (openOrders (now m)) × Under (now m) o under ⌝ }
+    ensures { λ r. ⌜ numberOf r ≡ firstNo (leftAfter 17 (now (m .entry)) (entryEvent how o)) ⌝ }
+{
+    if !place_is_free(m, o, how) {
+        return Answer::NoPlaceFree;
+    }
+    within_limits(m, cells, o, added, under)
+}
+
+// 13 to 24 of the order that a NEW enters or a REPLACE makes of an open one. Where its total does not rise, no more is asked.
+pub fn order_answer(m: &[u8], cells: &[u64], o: Order, how: Entry) -> Answer
+    requires { ⌜ Enters (now m) o how × Sums (now cells) (openOrders (now m)) ⌝ }
+    ensures { λ r. ⌜ numberOf r ≡ firstNo (leftAfter 12 (now (m .entry)) (entryEvent how o)) ⌝ }
+{
+    if !id_is_free(m, o, how) {
         return Answer::DuplicateOrder;
+    }
+    let former = former_total(how);
+    if o.total <= former {
+        return Answer::Accepted;
     }
     let under = underlying_of(m, o);
     match admitted(m, o, under) {
-        Answer::Accepted => new_within(m, cells, o, under),
+        Answer::Accepted => order_within(m, cells, o, how, o.total - former, under),
         no => no,
     }
 }
@@ -99,7 +152,7 @@ pub fn judge_new(
     };
     let p = place(m, id);
     Verdict {
-        answer: new_order(m, cells, o, p),
+        answer: order_answer(m, cells, o, Entry::Joins { place: p }),
         place: p,
         detail: Detail::of(o),
     }

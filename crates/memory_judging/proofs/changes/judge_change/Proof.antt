@@ -11,7 +11,7 @@ use Rattle.memory_layout.proofs.ViewOrders.{found-order, found-id}
 use Rattle.memory_soundness.proofs.Asked.{answered-no, answered-yes}
 use Rattle.memory_soundness.proofs.SoundDesk.{sound-records}
 use Rattle.memory_judging.proofs.Verdicts.{refused}
-use Rattle.memory_judging.proofs.ByKind.{change-figure, change-none, change-found}
+use Rattle.memory_judging.proofs.ByKind.{change-figure, change-answer}
 use Rattle.memory_judging.proofs.Places.{sound-ranked, place-small, no-order}
 use Rattle.memory_judging.proofs.changes.judge_change.Statement.{statement}
 use Rattle.memory_judging.proofs.changes.judge_change.Tie as tie
@@ -48,14 +48,14 @@ returns-2 : tie.Need-returns-2
 returns-2 c =
     let p = c .before .before .before in
     let one = p .before .before .before in (
-      rw (loaded (c .before)) at (c .change-answer .ensures) ∙ sym (change-found _ _ _ _ (whole one) (found-order _ _ _ (found p))),
+      c .change-answer .ensures ∙ sym (change-answer _ _ _ _ (whole one) (found-order _ _ _ (found p))),
       λ z. (found p, loaded (c .before)),
     )
 
 returns-3 : tie.Need-returns-3
 returns-3 c =
     let find = c .before .before .before in
-    refused OrderNotFound (c .plain2 .ensures) (change-none _ _ _ (whole (find .before))
+    refused OrderNotFound (c .plain2 .ensures) (change-answer _ _ _ _ (whole (find .before))
     (no-order _ _ (sym (find .find-order .ensures) ∙ c .before .enum-told .given .1))) (omega arith)
 
 pub judge-change-spec : {M : Type 1} → statement M

@@ -1,4 +1,4 @@
--- 7, 8 and 9 in turn, then `new_order` on an order that they put on the roster, with the id's rank as the place where it joins.
+-- 7, 8 and 9 in turn, then `order_answer` on an order that they put on the roster, with the id's rank as the place where it joins.
 use Rattle.integers.specs.Basics.{_≡_, refl, _∙_, sym, true, false, w64, toZ-ofZ, arith, needs}
 use Rattle.limits.specs.declared.answer.Answer.the-variants.{UnknownAccount, UnknownItem, FigureOutOfRange}
 use Rattle.book.specs.Books.{newOrder}
@@ -7,7 +7,8 @@ use Rattle.book.specs.Table.{isQuantity}
 use Rattle.book.proofs.Tables.{between-numbered, quantity-numbered}
 use Rattle.memory_layout.specs.View.{rosterOf}
 use Rattle.memory_soundness.proofs.Asked.{answered-no, answered-yes}
-use Rattle.memory_judging.proofs.HandedOn.{test-handed-on, quantity-cast}
+use Rattle.memory_judging.specs.Entries.{entryEvent}
+use Rattle.memory_judging.proofs.HandedOn.{test-handed-on, whole-quantity, quantity-cast}
 use Rattle.memory_judging.proofs.Verdicts.{refused}
 use Rattle.memory_judging.proofs.ByKind.{new-answer}
 use Rattle.memory_judging.proofs.Places.{sound-ranked}
@@ -49,8 +50,8 @@ returns-3 c =
     (answered-no _ _ (test-handed-on isQuantity (s .fits .quantity) (asked .before .is-quantity .ensures)) (asked .if3 .taken)))
     (omega arith)
 
-new-order-requires : tie.Need-new-order-requires
-new-order-requires c κs =
+order-answer-requires : tie.Need-order-answer-requires
+order-answer-requires c κs =
     let three = c .before in
     let two = three .before .before in
     let one = two .before .before in
@@ -63,21 +64,23 @@ new-order-requires c κs =
           account = between-numbered (r .accounts) (a .account) (known one);
           instrument = between-numbered (r .instruments) (a .instrument) (listed two);
         };
-        small = rw (toZ-ofZ w64 (a .quantity) (s .fits .quantity)) (quantity-numbered (a .quantity) (whole three) .1);
+        least = rw (toZ-ofZ w64 (a .quantity) (s .fits .quantity)) (quantity-numbered (a .quantity) (whole three) .0);
+        most = rw (toZ-ofZ w64 (a .quantity) (s .fits .quantity)) (quantity-numbered (a .quantity) (whole three) .1);
         unfilled = refl;
+        place = c .place .ensures;
       },
       s .pre .1,
-      c .place .ensures,
     )
 
 returns-4 : tie.Need-returns-4
-unfolding newOrder
+unfolding newOrder entryEvent
 returns-4 c =
     let three = c .before .before .before in
     let two = three .before .before in
     let one = two .before .before in
     let s = one .before .before .before .before in (
-      rw (toZ-ofZ w64 (s .args .quantity) (s .fits .quantity)) at (c .before .new-order .ensures)
+      rw (toZ-ofZ w64 (s .args .quantity) (s .fits .quantity), ← whole-quantity (s .args .quantity) (whole three))
+          at (c .before .order-answer .ensures)
           ∙ sym (new-answer _ _ _ _ _ _ true true true (known one) (listed two) (whole three)),
       λ z. (c .before .before .place .ensures, c .of .ensures ∙ rw (toZ-ofZ w64 (s .args .quantity) (s .fits .quantity))),
     )
@@ -87,5 +90,5 @@ judge-new-spec =
     tie.close (tie.spec (λ c κs. search needs) (λ c κs. search needs) returns (λ c κs. search needs) (λ c κs. search needs) returns-2
     (λ c κs. search needs) (λ c κs. search needs) returns-3
     (λ c. quantity-cast _ (c .before .before .before .before .before .before .before .before .fits .quantity) (whole c))
-    (λ c κs. sound-ranked _ (c .before .before .before .before .before .before .before .before .pre .0)) new-order-requires
-    (λ c κs. fresh-storable _ _ (new-order-requires (c .before) (c .new-order .lifetimes) .0)) returns-4)
+    (λ c κs. sound-ranked _ (c .before .before .before .before .before .before .before .before .pre .0)) order-answer-requires
+    (λ c κs. fresh-storable _ _ _ (order-answer-requires (c .before) (c .order-answer .lifetimes) .0)) returns-4)
