@@ -4,6 +4,7 @@ use Rattle.ledger.specs.declared.order.Order.{Order}
 use Rattle.ledger.specs.Orders.{remaining, replacedTotal}
 use Rattle.ledger.specs.Records.{Storable}
 use Rattle.limits.specs.Questions.{firstNo}
+use Rattle.limits.specs.Asked.{positionQuestions}
 use Rattle.limits.specs.Numbers.{sizeQuestions}
 use Rattle.limits.specs.Raised.{Raised}
 use Rattle.limits.proofs.Raising.{raised-by-new, raised-by-replace}
@@ -27,8 +28,10 @@ use Rattle.memory_judging.specs.Entries.{entryEvent, formerTotal, Fresh,
 pub record Rising (m : List ℕ) (o : Order) (how : Entry) : Type 0 where
   pub after : List Order
   pub raises : Raised (o .total - formerTotal how) o (openOrders m) after
+  pub entered : entered (bookOf m) (entryEvent how o) ≡ some o
   pub from-14 : leftAfter 13 m (entryEvent how o) ≡ admission m o ++ leftAfter 17 m (entryEvent how o)
-  pub from-18 : leftAfter 17 m (entryEvent how o) ≡ q 18 (placeFree (bookOf m) (entryEvent how o)) ∷ withinLimits m after o
+  pub from-18 : leftAfter 17 m (entryEvent how o)
+      ≡ q 18 (placeFree (bookOf m) (entryEvent how o)) ∷ (withinLimits m after o ++ leftAfter 24 m (entryEvent how o))
 
 -- ---- of a NEW: nothing of it is filled, all of it is added
 module _ (m : List ℕ) (o : Order) (p : ℕ) (f : Fresh m o p) where
@@ -55,11 +58,13 @@ module _ (m : List ℕ) (o : Order) (p : ℕ) (f : Fresh m o p) where
       rw whole at (raised-by-new o (openOrders m) (insert o (openOrders m)) (insert-sums o (openOrders m)))
 
   new-rising : Rising m o (Joins p)
-  unfolding entryEvent leftAfter questionsBefore limitQuestions entered placeFree bookAfter admission withinLimits sizeQuestions bookOf
+  unfolding entryEvent leftAfter questionsBefore limitQuestions entered placeFree bookAfter admission withinLimits sizeQuestions
+      positionQuestions bookOf
   new-rising =
       record {
         after = insert o (openOrders m);
         raises = all-added;
+        entered = ap some is-new;
         from-14 = rw is-new refl;
         from-18 = rw is-new refl;
       }
@@ -84,12 +89,13 @@ module _ (m : List ℕ) (o : Order) (total : ℕ) (r : Changeable m o (Replace (
       (kept-some (replacedTotal o total) (omega arith)))
 
   replaced-rising : o .total < total → Rising m (replacedTotal o total) (Replaces (o .total))
-  unfolding entryEvent leftAfter questionsBefore limitQuestions entered placeFree bookAfter admission withinLimits sizeQuestions bookOf
-      replacedTotal
+  unfolding entryEvent leftAfter questionsBefore limitQuestions entered placeFree bookAfter admission withinLimits sizeQuestions
+      positionQuestions bookOf replacedTotal
   replaced-rising h =
       record {
         after = change (o .id) (changed (Replace (pos total))) (openOrders m);
         raises = rise-added h;
+        entered = rw (r .found, lt-ltb (o .total) total h);
         from-14 = rw (r .found, lt-ltb (o .total) total h) refl;
         from-18 =
             rw (r .found, lt-ltb (o .total) total h, none-filled (marketOf m .unit) (some o) (balancesOf m) (o .account)) refl;

@@ -40,7 +40,7 @@ module _ (m : List ℕ) (held : SoundMemory m) where
   setting-shown (Block (GroupFor a g) z) t = view-block-group m (laid m held) z a g (t .0) (t .1)
 
   pub setting-kept : (x : Setting) → AcceptedFacts m (Set x) → (P : List ℕ → Type 0)
-      → ((l : List ℕ) (k v : ℕ) → Stores m (Set x) k v → P l → P (putWord l k v)) → P m → P (settingStored m x)
+      → ((l : List ℕ) (k v : ℕ) → Stores m k v → P l → P (putWord l k v)) → P m → P (settingStored m x)
   setting-kept (Limit a (Own i f)) t P keeps p =
       let sized = laid m held .sized in
       keeps-line _ P keeps m (market-most m) (ownSetRow a + i) (ownRow a + i * 2) (λ v h. omega arith) p (λ j v low high h. omega arith)
@@ -53,7 +53,7 @@ module _ (m : List ℕ) (held : SoundMemory m) where
       let sized = laid m held .sized in
       keeps-group-line _ P keeps m (market-most m) (groupSetRow a + g) (groupRow a + g) (λ v h. omega arith) p
       (λ j v low high h. omega arith) (groupLineOf x y) (group-line-fits (marketOf m .largest) x y (t .2))
-  setting-kept (Balance a i z) t P keeps p = keeps-balance m (Set (Balance a i z)) P keeps held m a i z (t .0) (t .1) p
+  setting-kept (Balance a i z) t P keeps p = keeps-balance m P keeps held m a i z (t .0) (t .1) p
   setting-kept (Block (Account a) z) t P keeps p =
       let sized = laid m held .sized in
       keeps m (accountBlockWord a) _ (omega arith) p

@@ -30,7 +30,7 @@ put-keeps Q l k v j long inside stored was =
     (λ other. rw (word-put-other l k v j other) was)
 
 module _ (m : List ℕ) (held : SoundMemory m) (e : Event) (passes : judged m e ≡ 0) where
-  word-keeps : (Q : ℕ → Type 0) (j : ℕ) → ((k v : ℕ) → Stores m e k v → k ≡ j → (v < 2 ^ 64) × Q v) → Q (wordAt m j)
+  word-keeps : (Q : ℕ → Type 0) (j : ℕ) → ((k v : ℕ) → Stores m k v → k ≡ j → (v < 2 ^ 64) × Q v) → Q (wordAt m j)
       → Q (wordAt (worked m e) j)
   word-keeps Q j stored was =
       worked-keeps m e (λ l. (65536 ≤ length l) × Q (wordAt l j))

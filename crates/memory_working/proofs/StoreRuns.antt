@@ -5,8 +5,6 @@ use Rattle.words.specs.Words.{putWord, lower, upper, putSigned, putWords}
 use Rattle.ledger.specs.declared.order.Order.{Order}
 use Rattle.ledger.specs.Roster.{Numbered}
 use Rattle.limits.specs.Lines.{Line, GroupLine}
-use Rattle.book.specs.declared.Event.{Event}
-use Rattle.book.specs.declared.Event.the-variants.{Set, New, Change, Junk}
 use Rattle.book.specs.Sound.{LineFits, GroupLineFits}
 use Rattle.memory_layout.specs.Layout.{balanceRow}
 use Rattle.memory_layout.specs.View.{marketOf, rosterOf}
@@ -15,23 +13,15 @@ use Rattle.memory_layout.specs.FieldStores.{lineWords, groupLineWords, storeLin
 use Rattle.memory_soundness.specs.SoundMemory.{SoundMemory}
 use Rattle.memory_working.proofs.AcceptedFacts.{laid}
 
--- no event of an order
-abbrev pub NoOrder : Event → Type 0
-NoOrder (Set x) = Unit
-NoOrder (New s a i id n) = ⊥
-NoOrder (Change id c) = ⊥
-NoOrder Junk = Unit
-
 -- both figures of a word are in range
 abbrev pub FiguresFit : ℕ → ℕ → Type 0
 FiguresFit largest v = (lower v ≤ largest) × (upper v ≤ largest)
 
--- what a store of v in word k of a memory m is: behind the roster, inside the desk, of a setting behind the count, of the first record's
--- place inside the region, and of a line with its figures in range
-pub record Stores (m : List ℕ) (e : Event) (k v : ℕ) : Type 0 where
+-- what a store of v in word k of a memory m is: behind the roster, inside the desk, of the first record's place inside the region, and of
+-- a line with its figures in range
+pub record Stores (m : List ℕ) (k v : ℕ) : Type 0 where
   pub low : 112 ≤ k
   pub high : k < 8192
-  pub aside : NoOrder e → 128 ≤ k
   pub first : k ≡ 113 → v ≤ 256
   pub figures : 1536 ≤ k → k < 2880 → FiguresFit (marketOf m .largest) v
 
@@ -94,10 +84,10 @@ module _ (S : ℕ → ℕ → Type 0) (P : List ℕ → Type 0) (keeps : (l : Li
         (keeps-words (groupLineWords l) m k (λ j h. ok (k + j) _ (omega arith) (omega arith) (group-words-fit most l (fits l refl) j)) p)
 
 -- a balance
-module _ (m : List ℕ) (e : Event) (P : List ℕ → Type 0) (keeps : (l : List ℕ) (k v : ℕ) → Stores m e k v → P l → P (putWord l k v))
+module _ (m : List ℕ) (P : List ℕ → Type 0) (keeps : (l : List ℕ) (k v : ℕ) → Stores m k v → P l → P (putWord l k v))
     (held : SoundMemory m) where
   pub keeps-balance : (l : List ℕ) (a i : ℕ) (z : ℤ) → Numbered (rosterOf m .accounts) a → Numbered (rosterOf m .instruments) i → P l
       → P (storeBalance l a i z)
   keeps-balance l a i z on-a on-i =
       let sized = laid m held .sized in
-      keeps-signed (Stores m e) P keeps l (balanceRow a + i) z (λ v. omega arith)
+      keeps-signed (Stores m) P keeps l (balanceRow a + i) z (λ v. omega arith)

@@ -20,7 +20,7 @@ use Rattle.memory_soundness.specs.SoundMemory.{SoundMemory}
 use Rattle.memory_working.specs.Working.{worked}
 use Rattle.memory_working.proofs.AcceptedFacts.{sound, laid, passed, accepted-facts}
 use Rattle.memory_working.proofs.FirstRecord.{after-small}
-use Rattle.memory_working.proofs.StoreRuns.{NoOrder, Stores, keeps-orders, keeps-balance}
+use Rattle.memory_working.proofs.StoreRuns.{Stores, keeps-orders, keeps-balance}
 use Rattle.memory_working.proofs.SettingWorked.{setting-kept}
 
 -- at most 256 orders are open afterwards
@@ -28,35 +28,35 @@ pub few-after : (m : List ℕ) → SoundMemory m → (e : Event) → judged m e 
 few-after m held e passes = count-after (view m) (sound m held) e (passed m e passes)
 
 -- ---- the memory after an accepted event
-module _ (m : List ℕ) (e : Event) (P : List ℕ → Type 0) (keeps : (l : List ℕ) (k v : ℕ) → Stores m e k v → P l → P (putWord l k v))
+module _ (m : List ℕ) (e : Event) (P : List ℕ → Type 0) (keeps : (l : List ℕ) (k v : ℕ) → Stores m k v → P l → P (putWord l k v))
     (held : SoundMemory m) where
-  -- a word behind the roster, of an event of an order
-  of-order : (NoOrder e → ⊥) → (k v : ℕ) → 112 ≤ k → k < 8192 → (k ≡ 113 → v ≤ 256) → (1536 ≤ k → k < 2880 → ⊥) → Stores m e k v
-  of-order an-order k v low high first apart =
-      record { low = low; high = high; aside = λ s. absurd (an-order s); first = first; figures = λ a b. absurd (apart a b) }
+  -- a word behind the roster and of no line
+  of-order : (k v : ℕ) → 112 ≤ k → k < 8192 → (k ≡ 113 → v ≤ 256) → (1536 ≤ k → k < 2880 → ⊥) → Stores m k v
+  of-order k v low high first apart =
+      record { low = low; high = high; first = first; figures = λ a b. absurd (apart a b) }
 
-  keeps-list : (NoOrder e → ⊥) → (f : ℕ) → f ≤ 256 → judged m e ≡ 0 → P m
+  keeps-list : (f : ℕ) → f ≤ 256 → judged m e ≡ 0 → P m
       → P (storeFrom m f (work (view m) e .book .orders))
-  keeps-list an-order f inside passes =
-      keeps-orders (Stores m e) P keeps
-      (λ j v low high. of-order an-order j v (omega arith) (omega arith) (λ same. omega arith) (λ a b. omega arith))
-      (λ v. of-order an-order 112 v (omega arith) (omega arith) (λ same. omega arith) (λ a b. omega arith))
-      (λ v small. of-order an-order 113 v (omega arith) (omega arith) (λ same. small) (λ a b. omega arith))
+  keeps-list f inside passes =
+      keeps-orders (Stores m) P keeps
+      (λ j v low high. of-order j v (omega arith) (omega arith) (λ same. omega arith) (λ a b. omega arith))
+      (λ v. of-order 112 v (omega arith) (omega arith) (λ same. omega arith) (λ a b. omega arith))
+      (λ v small. of-order 113 v (omega arith) (omega arith) (λ same. small) (λ a b. omega arith))
       m f _ inside (few-after m held e passes)
 
-pub worked-keeps : (m : List ℕ) (e : Event) (P : List ℕ → Type 0) → ((l : List ℕ) (k v : ℕ) → Stores m e k v → P l → P (putWord l k v))
+pub worked-keeps : (m : List ℕ) (e : Event) (P : List ℕ → Type 0) → ((l : List ℕ) (k v : ℕ) → Stores m k v → P l → P (putWord l k v))
     → SoundMemory m → judged m e ≡ 0 → P m → P (worked m e)
 unfolding worked bookAfter bookOf
 worked-keeps m (Set x) P keeps held passes p = setting-kept m held x (accepted-facts m held (Set x) passes) P keeps p
 worked-keeps m (New s a i id n) P keeps held passes p =
     let t = accepted-facts m held (New s a i id n) passes in
     let sized = laid m held .sized in
-    keeps _ (markWord a) 1 (omega arith) (keeps-list m (New s a i id n) P keeps held (λ x. x) _ (joined-small m _ (held .first)) passes p)
+    keeps _ (markWord a) 1 (omega arith) (keeps-list m (New s a i id n) P keeps held _ (joined-small m _ (held .first)) passes p)
 worked-keeps m (Change id c) P keeps held passes p =
     let f = accepted-facts m held (Change id c) passes .0 in
     let o = f .order in
-    rw (f .found) (keeps-balance m (Change id c) P keeps held _ (o .account) (o .instrument) _ (f .fits .account) (f .fits .instrument)
-    (keeps-list m (Change id c) P keeps held (λ x. x) _ (after-small m (held .first) (placeFrom 0 id (openOrders m)) (changed c o)) passes
+    rw (f .found) (keeps-balance m P keeps held _ (o .account) (o .instrument) _ (f .fits .account) (f .fits .instrument)
+    (keeps-list m (Change id c) P keeps held _ (after-small m (held .first) (placeFrom 0 id (openOrders m)) (changed c o)) passes
     p))
 worked-keeps m Junk P keeps held passes p = p
 
