@@ -27,4 +27,5 @@ pub mod ViewBlocks
 pub mod ViewLines
 pub mod ViewLimits
 pub mod ViewOrders
+pub mod NamedOrders
 pub mod Regions

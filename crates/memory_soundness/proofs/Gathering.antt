@@ -1,6 +1,7 @@
 -- The cells in which B and V of all accounts are gathered, order by order.
-use Rattle.integers.specs.Basics.{ℕ, _+_, _*_, _^_, _≤_, _<_, _≡_, _∙_, sym, List, length, getD, replicate, arith}
+use Rattle.integers.specs.Basics.{ℕ, _+_, _*_, _^_, _≤_, _<_, _≡_, _≢_, _∙_, sym, List, length, getD, replicate, inl, inr, arith}
 use lib.ListN.{length-replicate}
+use Rattle.ledger.specs.declared.order.Order.{Order}
 use Rattle.ledger.specs.declared.order.Side.{Side}
 use Rattle.ledger.specs.Orders.{remaining}
 use Rattle.ledger.specs.Roster.{Numbered}
@@ -10,7 +11,7 @@ use Rattle.ledger.proofs.Details.{remaining-of, order-of}
 use Rattle.positions.specs.Gathered.{cell, added}
 use Rattle.positions.proofs.Gathering.{Rows, ownCell, adds-own, cell-inside, empty-at, added-length, added-small, Passed as PassedRows}
 use Rattle.positions.proofs.Gathering.{passed-none as rows-none, passed-all as rows-all, passed-more as rows-more}
-use Rattle.memory_soundness.specs.Cells.{row, Empty, AllSums}
+use Rattle.memory_soundness.specs.Cells.{row, Empty, AllSums, Sums}
 use Rattle.memory_soundness.proofs.Details.{cell-detail}
 
 -- the rows of two accounts do not meet
@@ -23,6 +24,11 @@ row-inside s a i h l = omega (arith, cell-inside s i l)
 -- all cells are 0 at first
 pub empty-cells : (n : ℕ) → n ≡ 1089 → Empty (replicate n 0)
 empty-cells n e = record { size = length-replicate n 0 ∙ e; zero = empty-at n }
+
+-- where cells are kept, they hold B and V of each account and instrument
+pub kept-sums : {cells : List ℕ} {orders : List Order} → Sums cells orders → length cells ≢ 0 → AllSums cells orders
+kept-sums (inl none) kept = absurd (kept none)
+kept-sums (inr sums) kept = sums
 
 -- ---- the records below p: what is gathered and what is left make the whole
 pub record Summed (s : List ℕ) (n : ℕ) (cells : List ℕ) (p : ℕ) : Type 0 where

@@ -17,7 +17,8 @@ use Rattle.memory_layout.specs.Layout.{countWord}
 use Rattle.memory_layout.specs.View.{rosterOf, firstOf, openOrders}
 use Rattle.memory_layout.specs.Stores.{orderIn, storeFrom, joinedFirst, leftFirst, Records, rank}
 use Rattle.memory_layout.specs.FieldStores.{storeMark}
-use Rattle.memory_layout.proofs.ViewOrders.{found-order, found-below, change-leaves, change-becomes}
+use Rattle.memory_layout.proofs.ViewOrders.{found-below, change-leaves, change-becomes}
+use Rattle.memory_layout.proofs.NamedOrders.{named-joins, named-found}
 use Rattle.memory_working.specs.Working.{Ready, newOf, Fitting, orderKept, recordsChanged, orderChanged, worked}
 use Rattle.memory_working.proofs.AcceptedFacts.{ChangeFacts, records, accepted-facts}
 
@@ -32,9 +33,7 @@ module _ {m : List ℕ} {id w p : ℕ} (ready : Ready m (newOf id w) p w) where
   order-joins l x stored marked =
       marked
       ∙ ap (λ y. storeMark y (packedAccount w))
-      (stored
-      ∙ ap (λ q. storeFrom m (joinedFirst m q) (insert (orderOf id w) (openOrders m))) (ready .named .0)
-      ∙ ap (λ (y : Order). storeFrom m (joinedFirst m (rank id (openOrders m))) (insert y (openOrders m))) (ready .named .1))
+      (stored ∙ named-joins m id p w _ _ _ _ (ready .named))
 
 -- the event is the NEW that enters its order
 pub new-is : {m : List ℕ} {s : Side} {a i id p w : ℕ} {n : ℤ} → Ready m (New s a i id n) p w → New s a i id n ≡ newOf id w
@@ -50,7 +49,7 @@ module _ {m : List ℕ} {id w p : ℕ} {c : OrderChange} (ready : Ready m (Chang
   o = orderOf id w
 
   pub found : find id (openOrders m) ≡ some o
-  found = found-order m id p (ready .named .0) ∙ ap some (sym (ready .named .1))
+  found = named-found m id p w c (ready .named)
 
   pub change-facts : OrderFits (rosterOf m) o × ChangeFacts c o
   change-facts =

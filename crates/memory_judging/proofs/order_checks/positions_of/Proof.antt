@@ -1,12 +1,13 @@
 -- The row of the order's account is gathered where no cells are kept, and else it is a part of those; either way it holds the account's B
 -- and V.
-use Rattle.integers.specs.Basics.{_≡_, refl, _∙_, ⊎-elim, needs}
+use Rattle.integers.specs.Basics.{_≡_, refl, _∙_, needs}
 use Rattle.words.specs.Words.{wordAt}
 use Rattle.positions.proofs.Gathering.{empty-at}
 use Rattle.memory_layout.specs.Layout.{countWord}
 use Rattle.memory_layout.specs.View.{openOrders}
 use Rattle.memory_layout.proofs.Lengths.{length-open}
 use Rattle.memory_soundness.specs.Cells.{AllSums}
+use Rattle.memory_soundness.proofs.Gathering.{kept-sums}
 use Rattle.memory_soundness.proofs.Bounded.{gather-bounds}
 use Rattle.memory_soundness.proofs.SoundDesk.{sound-records}
 use Rattle.memory_judging.proofs.Cells.{gathered-of}
@@ -38,7 +39,7 @@ positions-by-requires c κs =
 
 -- the cells that are kept
 kept : (c : tie.Else1) → let s = c .before .before .before .before in AllSums (s .args .cells .now) (openOrders (s .args .m .now))
-kept c = ⊎-elim (λ none. absurd (c .if1 .left none)) (λ sums. sums) (c .before .before .before .before .pre .2)
+kept c = kept-sums (c .before .before .before .before .pre .2) (c .if1 .left)
 
 positions-by-requires-2 : tie.Need-positions-by-requires-2
 positions-by-requires-2 c κs =

@@ -1,6 +1,7 @@
 -- The order's cell holds B or V, which is small and at least what counted of the order: what counts then is put in and what counted
 -- taken out; no other cell moves.
 use Rattle.integers.specs.Basics.{ℕ, _+_, _-_, _≤_, _<_, _≡_, _∙_, ap, inl, inr, ⊎-elim, pos, _+ℤ_, length, getD, arith, needs, signed}
+use Rattle.memory_soundness.proofs.Gathering.{kept-sums}
 use Rattle.memory_working.specs.SumsChanged.{cellOf, Countable}
 use Rattle.memory_working.proofs.Keeping.{settled, kept}
 use Rattle.memory_working.proofs.sums.recount.Statement.{statement}
@@ -45,7 +46,7 @@ returns-2 : tie.Need-returns-2
 returns-2 c id orders orders′ held changes =
     let less = c .before in
     let placed = less .before .before .before .before .before .before in
-    let sums = ⊎-elim (λ none. absurd (placed .before .if1 .left none)) (λ all. all) held in
+    let sums = kept-sums held (placed .before .if1 .left) in
     inr (rw (c .number .ensures, settled-at less) (kept _ _ _ sums id _ _ _ changes _ (spot placed)))
 
 pub recount-spec : {M : Type 1} → statement M
