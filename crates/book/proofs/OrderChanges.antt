@@ -88,10 +88,6 @@ raised-after c y o e =
     let same : y ≡ h .1 = cc (h .3) in
     h .5 ∙ ap (λ z. replacedTotal z (natAbs (h .0))) (sym same) ∙ sym (ap (λ d. orderAfter d y) (h .2))
 
--- and it fills nothing
-pub raised-fills : (c : OrderChange) (y o : Order) → raised c (some y) ≡ some o → filledIn c ≡ 0
-raised-fills c y o e = ap filledIn (raised-found c (some y) o e .2)
-
 -- where it raises none, no more remains and is filled than remained
 pub not-raised : (c : OrderChange) (o : Order) → raised c (some o) ≡ none → fitsOrder c o ≡ true
     → remaining (orderAfter c o) + filledIn c ≤ remaining o

@@ -23,7 +23,7 @@ namedItem (Change id c) = none
 namedItem Junk = none
 
 -- the account whose balance a BALANCE sets
-abbrev pub balanceOwner : {x : Setting} → Option (IsBalance x) → Option ℕ
+abbrev balanceOwner : {x : Setting} → Option (IsBalance x) → Option ℕ
 balanceOwner none = none
 balanceOwner (some s) = some (s .account)
 

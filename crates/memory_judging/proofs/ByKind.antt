@@ -1,4 +1,4 @@
--- The table's first no: of any event by its answers to 7 to 9, of a change of an open order by its answer to 11 too.
+-- The table's first no: of an event by its answers to 7 to 9, and of a change by that to 11 too; and what 12 asks of the order found.
 use Rattle.integers.specs.Basics.{ℕ, _≡_, refl, Bool, true, false, cond, List, Option, some, ℤ}
 use Rattle.ledger.specs.declared.order.Order.{Order}
 use Rattle.ledger.specs.declared.order.Side.{Side}

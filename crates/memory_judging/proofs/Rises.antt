@@ -1,4 +1,4 @@
--- The order that a NEW enters or a REPLACE makes of an open one: that it is on the roster, and what 13 to 24 ask of it.
+-- The order that a NEW enters or a REPLACE makes of an open one: that it is on the roster, and what 14 to 24 ask of it.
 use Rattle.integers.specs.Basics.{ℕ, _-_, _≤_, _<_, _≡_, refl, sym, ap, List, _∷_, _++_, some, pos, arith, lt-ltb, le-ltb}
 use Rattle.ledger.specs.declared.order.Order.{Order}
 use Rattle.ledger.specs.Orders.{remaining, replacedTotal}

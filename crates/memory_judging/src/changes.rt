@@ -54,7 +54,7 @@ fn replaced(m: &[u8], cells: &[u64], o: Order, total: u64) -> Answer
         m,
         cells,
         o.replaced_total(total),
-        Entry::Replaces { total: former },
+        Entry::Replaces { former },
     )
 }
 

@@ -33,10 +33,10 @@ use memory_layout::roster::instrument_known;
 use memory_layout::search::id_at;
 use memory_layout::search::place;
 
-// How an order comes to be as it is: a NEW's joins the open orders at a place; a REPLACE's had another total.
+// How an order comes to be as it is: a NEW's joins the open orders at a place; a REPLACE's is open, with a total that stood before.
 pub enum Entry {
     Joins { place: usize },
-    Replaces { total: u64 },
+    Replaces { former: u64 },
 }
 
 // The total that an order had.
@@ -45,7 +45,7 @@ fn former_total(how: Entry) -> u64
 {
     match how {
         Entry::Joins { place } => 0,
-        Entry::Replaces { total } => total,
+        Entry::Replaces { former } => former,
     }
 }
 
@@ -65,7 +65,7 @@ fn id_is_free(m: &[u8], o: Order, how: Entry) -> bool
 {
     match how {
         Entry::Joins { place } => !is_open(m, place, o.id),
-        Entry::Replaces { total } => true,
+        Entry::Replaces { former } => true,
     }
 }
 
@@ -76,7 +76,7 @@ fn place_is_free(m: &[u8], o: Order, how: Entry) -> bool
 {
     match how {
         Entry::Joins { place } => count(m) < 256,
-        Entry::Replaces { total } => true,
+        Entry::Replaces { former } => true,
     }
 }
 

@@ -27,21 +27,20 @@ use Rattle.memory_working.proofs.SettingWorked.{setting-kept}
 pub few-after : (m : List ℕ) → SoundMemory m → (e : Event) → judged m e ≡ 0 → length (work (view m) e .book .orders) ≤ 256
 few-after m held e passes = count-after (view m) (sound m held) e (passed m e passes)
 
+-- a store of a word behind the roster and of no line
+no-line : {m : List ℕ} (k v : ℕ) → 112 ≤ k → k < 8192 → (k ≡ 113 → v ≤ 256) → (1536 ≤ k → k < 2880 → ⊥) → Stores m k v
+no-line k v low high first apart = record { low = low; high = high; first = first; figures = λ a b. absurd (apart a b) }
+
 -- ---- the memory after an accepted event
 module _ (m : List ℕ) (e : Event) (P : List ℕ → Type 0) (keeps : (l : List ℕ) (k v : ℕ) → Stores m k v → P l → P (putWord l k v))
     (held : SoundMemory m) where
-  -- a word behind the roster and of no line
-  of-order : (k v : ℕ) → 112 ≤ k → k < 8192 → (k ≡ 113 → v ≤ 256) → (1536 ≤ k → k < 2880 → ⊥) → Stores m k v
-  of-order k v low high first apart =
-      record { low = low; high = high; first = first; figures = λ a b. absurd (apart a b) }
-
   keeps-list : (f : ℕ) → f ≤ 256 → judged m e ≡ 0 → P m
       → P (storeFrom m f (work (view m) e .book .orders))
   keeps-list f inside passes =
       keeps-orders (Stores m) P keeps
-      (λ j v low high. of-order j v (omega arith) (omega arith) (λ same. omega arith) (λ a b. omega arith))
-      (λ v. of-order 112 v (omega arith) (omega arith) (λ same. omega arith) (λ a b. omega arith))
-      (λ v small. of-order 113 v (omega arith) (omega arith) (λ same. small) (λ a b. omega arith))
+      (λ j v low high. no-line j v (omega arith) (omega arith) (λ same. omega arith) (λ a b. omega arith))
+      (λ v. no-line 112 v (omega arith) (omega arith) (λ same. omega arith) (λ a b. omega arith))
+      (λ v small. no-line 113 v (omega arith) (omega arith) (λ same. small) (λ a b. omega arith))
       m f _ inside (few-after m held e passes)
 
 pub worked-keeps : (m : List ℕ) (e : Event) (P : List ℕ → Type 0) → ((l : List ℕ) (k v : ℕ) → Stores m k v → P l → P (putWord l k v))

@@ -6,7 +6,7 @@ use Rattle.book.specs.declared.Event.the-variants.{Set}
 use Rattle.book.specs.Decoding.{between}
 use Rattle.book.specs.Table.{betweenℤ, notYetTrading, idOpen, quantityFits, entered, idFree, placeFree, questionsBefore, limitQuestions}
 use Rattle.book.proofs.Tables.{between-numbered}
-use Rattle.memory_layout.specs.View.{marketOf, rosterOf, tradingOf, bookOf}
+use Rattle.memory_layout.specs.View.{marketOf, rosterOf, tradingOf}
 use Rattle.memory_layout.specs.Judged.{judged}
 use Rattle.memory_soundness.proofs.Bounded.{sound-readable}
 use Rattle.memory_soundness.proofs.Asked.{answered-no, answered-yes}
@@ -61,7 +61,7 @@ answered : (c : tie.After-is-trading) (t : Bool)
     → let a = c .before .before .before .before .before .before .before .before .before .args in
     tradingOf (a .m .now) (a .account) ≡ t
     → judged (a .m .now) (Set (Balance (a .account) (a .instrument) (a .balance))) ≡ cond (not t) 0 10
-unfolding leftAfter questionsBefore limitQuestions notYetTrading idOpen quantityFits entered idFree placeFree firstNo bookOf
+unfolding leftAfter questionsBefore limitQuestions notYetTrading idOpen quantityFits entered idFree placeFree firstNo
 answered c t e =
     let three = c .before in
     let two = three .before .before .before in

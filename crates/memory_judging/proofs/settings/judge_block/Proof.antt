@@ -7,7 +7,7 @@ use Rattle.book.specs.Table.{whereSome, isListed, betweenℤ}
 use Rattle.book.specs.Table.{notYetTrading, idOpen, quantityFits, entered, idFree, placeFree, questionsBefore, limitQuestions}
 use Rattle.book.specs.Decoding.{between}
 use Rattle.book.specs.Settings.{blockedAccount, blockedItem}
-use Rattle.memory_layout.specs.View.{rosterOf, bookOf}
+use Rattle.memory_layout.specs.View.{rosterOf}
 use Rattle.memory_layout.specs.Judged.{judged}
 use Rattle.memory_soundness.proofs.Asked.{answered-no, answered-yes}
 use Rattle.memory_judging.specs.QuestionsLeft.{leftAfter}
@@ -33,7 +33,7 @@ returns-2 c =
 -- the account and the item are known, and z says whether the block's figure fits
 answered : (c : tie.After-in-range) (z : Bool) → let a = c .before .before .before .before .before .before .args in
     betweenℤ (pos 0) (pos 1) (a .on) ≡ z → judged (a .m .now) (Set (Block (a .what) (a .on))) ≡ cond z 0 9
-unfolding leftAfter questionsBefore limitQuestions notYetTrading idOpen quantityFits entered idFree placeFree firstNo bookOf
+unfolding leftAfter questionsBefore limitQuestions notYetTrading idOpen quantityFits entered idFree placeFree firstNo
 answered c z e = set-answer _ _ true true z (known (c .before .before .before)) (listed (c .before)) e
 
 fits : (c : tie.After-in-range) → let a = c .before .before .before .before .before .before .args in

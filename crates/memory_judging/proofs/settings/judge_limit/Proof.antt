@@ -7,7 +7,7 @@ use Rattle.book.specs.Decoding.{between}
 use Rattle.book.specs.Settings.{limitedItem}
 use Rattle.book.specs.Table.{isListed, lineFits}
 use Rattle.book.specs.Table.{notYetTrading, idOpen, quantityFits, entered, idFree, placeFree, questionsBefore, limitQuestions}
-use Rattle.memory_layout.specs.View.{rosterOf, bookOf}
+use Rattle.memory_layout.specs.View.{rosterOf}
 use Rattle.memory_layout.specs.Judged.{judged}
 use Rattle.memory_soundness.proofs.Asked.{answered-no, answered-yes}
 use Rattle.memory_judging.specs.QuestionsLeft.{leftAfter}
@@ -25,7 +25,7 @@ listed c = answered-yes _ _ (c .before .line-known .ensures) (c .if2 .left)
 -- the two questions before the figures are passed, and z says whether those fit
 answered : (c : tie.After-limit-fits) (z : Bool) → let a = c .before .before .before .before .before .before .before .args in
     lineFits (c .before .market .result .largest) (a .line) ≡ z → judged (a .m .now) (Set (Limit (a .account) (a .line))) ≡ cond z 0 9
-unfolding leftAfter questionsBefore limitQuestions notYetTrading idOpen quantityFits entered idFree placeFree firstNo bookOf
+unfolding leftAfter questionsBefore limitQuestions notYetTrading idOpen quantityFits entered idFree placeFree firstNo
 answered c z e =
     let two = c .before .before in
     set-answer _ _ true true z (known (two .before .before)) (listed two) (rw (c .before .market .ensures) at e)
