@@ -1,12 +1,13 @@
 -- What an answer of 0 says: the event passed every question, each by its name.
-use Rattle.integers.specs.Basics.{_≡_, refl, _≢_, true, false, [], _++_, Option, none, some, _≤ℤ_, arith}
+use Rattle.integers.specs.Basics.{ℕ, _≤_, _≡_, refl, _∙_, sym, ap, _≢_, inl, inr, true, false, List, [], _++_, Option, none, some}
+use Rattle.integers.specs.Basics.{_≤ℤ_, arith}
 use Rattle.ledger.specs.declared.order.Order.{Order}
 use Rattle.ledger.specs.Positions.{Way, Scope}
 use Rattle.ledger.specs.Moves.{Moves}
-use Rattle.limits.specs.Questions.{firstNo, allPass}
+use Rattle.limits.specs.Questions.{Question, firstNo, allPass, behind}
 use Rattle.limits.specs.Asked.{limitsSet, positionQuestions}
-use Rattle.limits.proofs.Answers.{passed, append-zero, append-passed, never-answered}
-use Rattle.limits.proofs.Refusals.{accepted-within}
+use Rattle.limits.proofs.Answers.{passed, append-zero, append-passed, first-zero, never-answered}
+use Rattle.limits.proofs.Refusals.{PositionNumber, accepted-within}
 use Rattle.book.specs.declared.Event.{Event}
 use Rattle.book.specs.States.{State, work}
 use Rattle.book.specs.Table.{isEvent, accountKnown, itemKnown, figuresFit, notYetTrading, idOpen, quantityFits, entered, idFree}
@@ -36,11 +37,27 @@ pub record Accepted (k : State) (e : Event) : Type 0 where
       → Moves (k .roster) o p w
       → potentialOf (work k e) (o .account) p w ≤ℤ limitOf (work k e) (o .account) p w
 
--- questions 21 to 24 are asked of the order entered or raised
-pub limits-of : (k : State) (e : Event) (o : Order) → entered (k .book) e ≡ some o
-    → limitQuestions k e ≡ positionsAfter (work k e) (some o)
-unfolding limitQuestions
-limits-of k e o enters = rw enters
+-- the order entered or raised is asked 21 to 24, and then what stands behind 24
+module _ (k : State) (e : Event) (o : Order) (enters : entered (k .book) e ≡ some o) where
+  abbrev pub askedOf : List Question
+  askedOf =
+      let b = work k e .book in
+      positionQuestions (k .market .unit) (k .roster) (b .linesOf (o .account)) (b .orders) (b .balanceOf (o .account)) o
+
+  pub limits-of : limitQuestions k e ≡ askedOf ++ behind 24 (limitQuestions k e)
+  unfolding limitQuestions positionQuestions
+  limits-of = rw enters refl
+
+  -- which is no position limit
+  others : (n : ℕ) → 21 ≤ n → n ≤ 24 → firstNo (behind 24 (limitQuestions k e)) ≢ n
+  unfolding limitQuestions positionQuestions
+  others n low high = rw enters (never-answered n (behind 24 (positionsAfter (work k e) (some o))) (omega arith) (omega arith))
+
+  pub no-position : PositionNumber (firstNo (behind 24 (limitQuestions k e))) → ⊥
+  no-position (inl z) = others 21 (omega arith) (omega arith) z
+  no-position (inr (inl z)) = others 22 (omega arith) (omega arith) z
+  no-position (inr (inr (inl z))) = others 23 (omega arith) (omega arith) z
+  no-position (inr (inr (inr z))) = others 24 (omega arith) (omega arith) z
 
 module _ (k : State) (e : Event) where
   -- past the questions before the position limits, the answer is theirs
@@ -76,7 +93,7 @@ module _ (k : State) (e : Event) where
       inside o enters =
           let b = work k e .book in
           accepted-within (k .market .unit) (k .roster) (b .linesOf (o .account)) (b .orders) (b .balanceOf (o .account)) o
-          (rw (limits-of k e o enters) at (both .1))
+          (first-zero (askedOf k e o enters) (behind 24 (limitQuestions k e)) (sym (ap firstNo (limits-of k e o enters)) ∙ both .1))
 
 -- 5 is asked of the memory alone: the table never answers it
 pub never-5 : (k : State) (e : Event) → answer k e ≢ 5

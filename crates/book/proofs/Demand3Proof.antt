@@ -6,7 +6,7 @@ use Rattle.ledger.specs.Positions.{Scope, Way}
 use Rattle.ledger.specs.Moves.{Moves}
 use Rattle.ledger.proofs.Upper.{upper, upper-standing}
 use Rattle.limits.specs.Lines.{limit}
-use Rattle.limits.proofs.Refusals.{refused-iff}
+use Rattle.limits.proofs.Refusals.{refused-before}
 use Rattle.book.specs.declared.Event.{Event}
 use Rattle.book.specs.States.{State, work}
 use Rattle.book.specs.Positions.{potentialOf}
@@ -16,7 +16,7 @@ use Rattle.book.specs.EventLists.{RawEvent, asEvent, Desk, keep, memoryA
 use Rattle.book.specs.SetAgain.{SetsAgain}
 use Rattle.book.specs.Contract.{Contract}
 use Rattle.book.specs.Demand3.{limitOf, Judged, RefusedExactly, NotSetAgain, NotPast, JudgedSo, Demand3At}
-use Rattle.book.proofs.Accepted.{Passed, accepted, answer-after, limits-of}
+use Rattle.book.proofs.Accepted.{Passed, accepted, answer-after, limits-of, no-position}
 use Rattle.book.proofs.Within.{SetsNoBalance, kept-within}
 use Rattle.book.proofs.Marks.{marks-stay}
 use Rattle.book.proofs.LimitsStay.{limit-stays}
@@ -37,7 +37,8 @@ module _ {D : Desk} (C : Contract D) where
   refused-so m k n o h j =
       let b = work k (asEvent n) .book in
       rw (answers C m k n h, answer-after k (asEvent n) (j .passes), limits-of k (asEvent n) o (j .enters))
-      (refused-iff (k .market .unit) (k .roster) (b .linesOf (o .account)) (b .orders) (b .balanceOf (o .account)) o)
+      (refused-before (k .market .unit) (k .roster) (b .linesOf (o .account)) (b .orders) (b .balanceOf (o .account)) o _
+      (no-position k (asEvent n) o (j .enters)))
 
   -- ---- the second half: a run after N
   -- the account is trading, the limit is still the same, and the potential position is within it

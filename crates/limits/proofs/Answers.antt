@@ -72,6 +72,10 @@ append-zero xs ys c e =
     let z = sym (append-first xs ys) ∙ e in
     by-test (allPass xs) (λ t. (t, rw t at z)) (λ t. absurd (false≢true (sym t ∙ zero-pass xs c (rw t at z))))
 
+-- so that the first list refuses nothing
+pub first-zero : (xs ys : List Question) → firstNo (xs ++ ys) ≡ 0 → firstNo xs ≡ 0
+first-zero xs ys e = by-test (allPass xs) (pass-zero xs) (λ t. rw t at (sym (append-first xs ys) ∙ e))
+
 -- ---- a number that no question has is no answer
 abbrev pub Without : ℕ → List Question → Type 0
 Without n [] = Unit

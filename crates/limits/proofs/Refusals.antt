@@ -1,22 +1,29 @@
 -- Questions 21 to 24 by fillings: an order is refused by one of them exactly when some filling of the open orders passes a
 -- limit on a side to which the order's own fills move the position.
-use Rattle.integers.specs.Basics.{ℕ, _≡_, refl, _⊎_, inl, inr, ⊎-elim, _↔_, Bool, true, false, not, _||_, cond, List, ℤ, _≤ℤ_, _<ℤ_, arith}
-use Rattle.integers.specs.Basics.{signed}
+use Rattle.integers.specs.Basics.{ℕ, _≡_, refl, _≢_, _⊎_, inl, inr, ⊎-elim, _↔_, Bool, true, false, not, _||_, cond, List, _++_, ℤ, _≤ℤ_}
+use Rattle.integers.specs.Basics.{_<ℤ_, arith, signed}
 use Rattle.ledger.specs.declared.order.Order.{Order}
 use Rattle.ledger.specs.Roster.{Roster, groupOfInstrument}
 use Rattle.ledger.specs.Positions.{Way, long, short, Scope, instrument, group, potential, position}
 use Rattle.ledger.specs.Fillings.{Filling, balanceAfter}
 use Rattle.ledger.specs.Moves.{Moves}
+use Rattle.ledger.proofs.Ways.{by-test}
 use Rattle.ledger.proofs.Reached.{past-iff}
 use Rattle.limits.specs.Lines.{Lines, limit}
-use Rattle.limits.specs.Questions.{firstNo}
+use Rattle.limits.specs.Questions.{Question, firstNo, allPass}
 use Rattle.limits.specs.Asked.{movesInstrument, movesGroup, within, positionQuestions}
-use Rattle.limits.proofs.Answers.{passed, zero-pass, asked-true, asked-false}
+use Rattle.limits.proofs.Answers.{passed, zero-pass, asked-true, asked-false, append-first, append-passed, append-refused}
 use Rattle.limits.proofs.Asking.{moves-instrument, moves-group}
 
 -- one of the four numbers, exactly where one of the four tests fails
 abbrev pub PositionNumber : ℕ → Type 0
 PositionNumber n = (n ≡ 21) ⊎ ((n ≡ 22) ⊎ ((n ≡ 23) ⊎ (n ≡ 24)))
+
+position-number : (n : ℕ) → PositionNumber n → n ≢ 0
+position-number n (inl e) = λ z. omega arith
+position-number n (inr (inl e)) = λ z. omega arith
+position-number n (inr (inr (inl e))) = λ z. omega arith
+position-number n (inr (inr (inr e))) = λ z. omega arith
 
 four : Bool → Bool → Bool → Bool → ℕ
 four x y z t = cond x (cond y (cond z (cond t 0 24) 23) 22) 21
@@ -123,3 +130,13 @@ module _ (unit : Order → ℕ) (r : Roster) (ls : Lines) (orders : List Order) 
 
       group-no : (w : Way) → groupPasses w ≡ false → SomePasses
       group-no w e = some-past ownGroup w (no-past (movesGroup r o w) ownGroup w (moves-group r o w .0) e)
+
+  -- so it is whatever else is asked behind them
+  pub refused-before : (ys : List Question) → (PositionNumber (firstNo ys) → ⊥)
+      → PositionNumber (firstNo (positionQuestions unit r ls orders S o ++ ys)) ↔ SomePasses
+  refused-before ys others =
+      let qs = positionQuestions unit r ls orders S o in (
+        λ n. by-test (allPass qs) (λ t. absurd (others (rw (append-passed qs ys t) at n)))
+            (λ t. refused-iff .0 (rw (append-first qs ys, t) at n)),
+        λ h. let n = refused-iff .1 h in rw (append-refused qs ys (position-number (firstNo qs) n)) n,
+      )
