@@ -48,6 +48,7 @@ pub record Replaced (m : List ℕ) (o : Order) (n : ℕ) : Type 0 where
   pub is : o ≡ replacedTotal former total
   pub was : n ≡ former .total
 
+-- what is known of either order when 13 is asked
 abbrev pub Enters : List ℕ → Order → Entry → Type 0
 Enters m o (Joins p) = Fresh m o p
 Enters m o (Replaces n) = Replaced m o n
