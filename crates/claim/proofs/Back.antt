@@ -1,4 +1,4 @@
--- The way back: each demand as the claim says it gives the demand as the crate desk says it, so neither can be weakened alone.
+-- The way back: each demand as the claim says it gives the demand of the gate that it was taken from, so neither can be weakened alone.
 use Rattle.integers.specs.Basics.{ℕ, _≤_, _<_, _≡_, refl, _∙_, sym, ap, subst, inl, inr, _↔_, _≢_, by-cases, Bool, true, false, List, []}
 use Rattle.integers.specs.Basics.{_∷_, _++_, List·Memᴰ, List·Memᴰ·head, List·Memᴰ·tail, length, ℕ-discrete}
 use Rattle.limits.specs.Lines.{isSet}
@@ -14,8 +14,9 @@ use Rattle.memory_opening.specs.Questions.{rosterFrom}
 use Rattle.memory_opening.specs.Opening.{afterOpening}
 use Rattle.desk.specs.Step.{eventQuestions, answerTo, afterEvent}
 use Rattle.desk.specs.Days.{answersOver, memoryOver}
-use Rattle.desk.specs.Run.{Whole, eventsFor, bytesOfEach, concatenated}
-use Rattle.desk.specs.Demands.{OneOf, Answers, gate, keptAfter, Demand1 as DeskDemand1, Demand2 as DeskDemand2, Demand3 as DeskDemand3}
+use Rattle.desk.specs.Run.{eventsFor}
+use Rattle.claim.specs.RunList.{Whole, bytesOfEach, concatenated}
+use Rattle.claim.specs.GateDemands.{OneOf, Answers, gate, keptAfter, GateDemand1, GateDemand2, GateDemand3}
 use Rattle.claim.specs.Claim.{FirstNo, Demand1, Demand2, Demand3, Run}
 use Rattle.claim.proofs.Held.{held-kept, held-after, held-from-opening, named, by-name, none-on-the-line}
 use Rattle.claim.proofs.Demands.{failed-first}
@@ -42,7 +43,7 @@ event-one-of d two m e = by (isSet (entered (bookOf m) (decode e))) refl
     by true asked = rw (two .event-numbers m e, asked) (one-of _ _ (d .event m e))
     by false asked = by-cases (ℕ-discrete (answerTo m e) 0) (λ z. inl z) refused
 
-pub back-1 : Demand1 → Demand2 → DeskDemand1
+pub back-1 : Demand1 → Demand2 → GateDemand1
 back-1 d two =
     record {
       roster = λ m s. rw (two .roster-numbers m s) (one-of _ _ (d .roster m s));
@@ -63,7 +64,7 @@ module _ (qs : List Question) (answer : ℕ) where
         accepted = accepted;
       }
 
-pub back-2 : Demand2 → DeskDemand2
+pub back-2 : Demand2 → GateDemand2
 back-2 d =
     record {
       roster = λ m s. answers-back _ _ (d .roster-refused m s) (d .roster-accepted m s);
@@ -77,7 +78,7 @@ back-2 d =
     }
 
 -- ---- demand 3
-pub back-3 : Demand3 → DeskDemand3
+pub back-3 : Demand3 → GateDemand3
 unfolding derivatives
 back-3 d m s bytes opens =
     let r = rosterFrom s in

@@ -1,4 +1,4 @@
--- The three demands as the claim says them, each taken from the theorem of the same name in the crate desk.
+-- The three demands as the claim says them, each taken from what is proved of the gate.
 use Rattle.integers.specs.Basics.{ℕ, suc, _≤_, _≡_, refl, _∙_, ap, subst, _⊎_, inl, inr, ⊎-elim, _↔_, _≢_, Bool, true, false, cond, List}
 use Rattle.integers.specs.Basics.{[], _∷_, _++_, map, List·Memᴰ, List·Memᴰ·head, List·Memᴰ·tail, List·Memᴰ·not-nil, Option, none, some}
 use Rattle.integers.specs.Basics.{length, arith}
@@ -22,10 +22,11 @@ use Rattle.memory_opening.specs.Opening.{afterOpening}
 use Rattle.memory_reading.specs.Reading.{readingQuestions}
 use Rattle.desk.specs.Step.{eventQuestions, answerTo, afterEvent}
 use Rattle.desk.specs.Days.{answersOver}
-use Rattle.desk.specs.Run.{Whole, answered}
-use Rattle.desk.specs.Demands.{OneOf, FirstFailed, Answers, gate, keptAfter}
-use Rattle.desk.proofs.Demands.{demand-1 as desk-demand-1, demand-2 as desk-demand-2, demand-3 as desk-demand-3}
-use Rattle.desk.proofs.RunList.{run-is-the-list, unsound-run}
+use Rattle.desk.specs.Run.{answered}
+use Rattle.claim.specs.RunList.{Whole}
+use Rattle.claim.specs.GateDemands.{OneOf, FirstFailed, Answers, gate, keptAfter}
+use Rattle.claim.proofs.GateDemands.{gate-demand-1, gate-demand-2, gate-demand-3}
+use Rattle.claim.proofs.RunList.{run-is-the-list, unsound-run}
 use Rattle.claim.specs.Claim.{askedFirst, askedLast, FirstNo, Demand1, Demand2, Demand3, Run}
 use Rattle.claim.proofs.Held.{held-kept, held-after, held-from-opening, named, by-name, none-on-the-line}
 
@@ -60,22 +61,22 @@ with-the-last n xs ys false k =
 event-listed : (m e : List ℕ) → List·Memᴰ (answerTo m e) (0 ∷ (askedFirst ++ askedLast))
 event-listed m e =
     with-the-last (answerTo m e) (0 ∷ askedFirst) askedLast (isSet (entered (bookOf m) (decode e)))
-    (rw (event-numbers m e) at (listed (answerTo m e) (0 ∷ numbersOf (eventQuestions m e)) (desk-demand-1 .event m e)))
+    (rw (event-numbers m e) at (listed (answerTo m e) (0 ∷ numbersOf (eventQuestions m e)) (gate-demand-1 .event m e)))
 
 pub demand-1 : Demand1
 unfolding openingQuestions
 demand-1 =
     record {
-      roster = λ m s. listed _ _ (desk-demand-1 .roster m s);
+      roster = λ m s. listed _ _ (gate-demand-1 .roster m s);
       event = event-listed;
-      roster-refused = desk-demand-1 .roster-refused;
-      event-refused = desk-demand-1 .event-refused;
-      behind-roster = desk-demand-1 .later-opening;
-      behind-event = desk-demand-1 .later-event;
+      roster-refused = gate-demand-1 .roster-refused;
+      event-refused = gate-demand-1 .event-refused;
+      behind-roster = gate-demand-1 .later-opening;
+      behind-event = gate-demand-1 .later-event;
     }
 
 -- ---- demand 2
--- the first that fails, as `desk` says it and as the claim does
+-- the first that fails, as the demand of the gate says it and as the claim does
 pub failed-first : (qs : List Question) (n : ℕ) → FirstFailed qs n ↔ FirstNo qs n
 failed-first qs n = (there, back)
   where
@@ -106,7 +107,7 @@ reading-numbers m items a n = refl
 
 pub demand-2 : Demand2
 demand-2 =
-    let d = desk-demand-2 in
+    let d = gate-demand-2 in
     record {
       roster-refused = λ m s n. first-failed _ _ n (d .roster m s);
       roster-accepted = λ m s. d .roster m s .accepted;
@@ -129,7 +130,7 @@ demand-2 =
 pub demand-3 : Demand3
 unfolding derivatives
 demand-3 m s bytes opens events =
-    let d = desk-demand-3 m s bytes opens in
+    let d = gate-demand-3 m s bytes opens in
     let r = rosterFrom s in
     let held = held-from-opening m s events in (
       λ n o enters passes.

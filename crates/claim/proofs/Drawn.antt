@@ -9,8 +9,8 @@ use Rattle.memory_opening.specs.Opening.{afterOpening}
 use Rattle.memory_reading.specs.Reading.{instrumentReport}
 use Rattle.desk.specs.Step.{answerTo}
 use Rattle.desk.specs.Days.{answersOver, memoryOver}
-use Rattle.desk.specs.Edges.{AllHold, edgeRoster}
-use Rattle.desk.proofs.Edges.{starred-edges}
+use Rattle.claim.specs.Edges.{AllHold, edgeRoster}
+use Rattle.claim.proofs.Edges.{starred-edges}
 use Rattle.claim.specs.Days.{zeroMemory, EdgesHold, Drawn}
 use Rattle.claim.proofs.ListingDay.{listing-day}
 use Rattle.claim.proofs.LongerDay.{longer-day}

@@ -25,7 +25,7 @@ use Rattle.book.proofs.NotSetAgainLaws.{setsNone}
 use Rattle.memory_opening.specs.Questions.{rosterFrom, openingAnswer}
 use Rattle.memory_opening.specs.Opening.{afterOpening}
 use Rattle.desk.specs.Step.{answerTo, afterEvent}
-use Rattle.desk.specs.Demands.{gate}
+use Rattle.claim.specs.GateDemands.{gate}
 use Rattle.claim.specs.Examples.{memoryAt, stateAt, OrderAsked, SomeFillingPast, OrderRefused, NoneSetsAgain, OrderAccepted}
 use Rattle.claim.specs.Examples.{LimitSetAgain}
 use Rattle.claim.proofs.Demands.{demand-1, demand-2, demand-3}

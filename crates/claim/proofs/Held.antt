@@ -1,5 +1,5 @@
--- What is kept from an opening holds the opening's roster and the derivatives market: the claim names them, and the theorem of the crate
--- desk takes them from what is kept.
+-- What is kept from an opening holds the opening's roster and the derivatives market: the claim names them, and the demand of the gate
+-- takes them from what is kept.
 use Rattle.integers.specs.Basics.{ℕ, _≡_, refl, _∙_, sym, subst, _⊎_, inl, inr, ⊎-elim, _↔_, List}
 use Rattle.ledger.specs.Derivatives.{one}
 use Rattle.ledger.specs.Positions.{Scope}
@@ -19,7 +19,7 @@ use Rattle.book.proofs.SetAgainLaws.{set-by-that-limit}
 use Rattle.book.proofs.NotSetAgainLaws.{not-set-again-iff}
 use Rattle.memory_opening.specs.Questions.{rosterFrom}
 use Rattle.memory_opening.specs.Opening.{afterOpening}
-use Rattle.desk.specs.Demands.{gate, keptAfter}
+use Rattle.claim.specs.GateDemands.{gate, keptAfter}
 use Rattle.claim.specs.Examples.{NoneOnTheLine}
 
 module _ (r : Roster) where

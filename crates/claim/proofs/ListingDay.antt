@@ -18,14 +18,15 @@ use Rattle.memory_opening.specs.Opening.{afterOpening}
 use Rattle.memory_reading.specs.Reading.{instrumentAnswer, groupAnswer, instrumentReport, groupReport, positionIn, reported}
 use Rattle.book.specs.Positions.{instrumentIn, groupIn}
 use Rattle.desk.specs.Days.{answersOver, memoryOver}
-use Rattle.desk.specs.Run.{eventsFor, answered, concatenated}
-use Rattle.desk.specs.Listing.{listingRoster}
+use Rattle.desk.specs.Run.{eventsFor, answered}
+use Rattle.claim.specs.RunList.{concatenated}
+use Rattle.claim.specs.Listing.{listingRoster}
 use Rattle.claim.specs.Examples.{memoryAt}
 use Rattle.claim.specs.Days.{order, ListingDay, InEveryMemory}
 use Rattle.claim.proofs.Demands.{demand-2, demand-3, run}
 use Rattle.claim.proofs.Uses.{listed-passes}
 use Rattle.claim.proofs.Plainly.{plainly, answers-plainly}
-use Rattle.claim.proofs.Opened.{opened, opens-long}
+use Rattle.claim.proofs.DaysOpened.{opened, opens-long}
 use Rattle.claim.proofs.Examples.{plainState, state-at, refused, accepted}
 
 -- ---- document 01's listing

@@ -18,7 +18,7 @@ use Rattle.memory_opening.specs.Opening.{afterOpening}
 use Rattle.claim.specs.Examples.{LimitSetAgain}
 use Rattle.claim.specs.Days.{orderOf, order, longerRoster, LongerDay, InEveryMemory}
 use Rattle.claim.proofs.Plainly.{plainly, answers-plainly}
-use Rattle.claim.proofs.Opened.{opened, opens-long}
+use Rattle.claim.proofs.DaysOpened.{opened, opens-long}
 use Rattle.claim.proofs.Examples.{refused, accepted, limit-set-again}
 
 longer-opens : (m : List ℕ) → 65536 ≤ length m → openingAnswer m longerRoster ≡ 0

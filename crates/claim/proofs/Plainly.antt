@@ -16,7 +16,7 @@ use Rattle.memory_opening.specs.Questions.{rosterFrom, openingAnswer}
 use Rattle.memory_opening.specs.Opening.{afterOpening}
 use Rattle.desk.specs.Step.{answerTo, afterEvent}
 use Rattle.desk.specs.Days.{answersOver}
-use Rattle.desk.specs.Demands.{gate}
+use Rattle.claim.specs.GateDemands.{gate}
 use Rattle.claim.specs.Examples.{NoneOnTheLine}
 use Rattle.claim.proofs.Held.{Held, none-on-the-line}
 use Rattle.claim.proofs.Demands.{demand-3}

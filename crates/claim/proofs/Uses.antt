@@ -17,7 +17,7 @@ use Rattle.memory_opening.specs.Questions.{openingQuestions, openingAnswer}
 use Rattle.memory_opening.specs.Opening.{afterOpening}
 use Rattle.memory_reading.specs.Reading.{readingQuestions, instrumentAnswer, groupAnswer}
 use Rattle.desk.specs.Step.{eventQuestions, answerTo, afterEvent}
-use Rattle.desk.specs.Demands.{gate}
+use Rattle.claim.specs.GateDemands.{gate}
 use Rattle.claim.specs.Claim.{askedFirst, askedLast, FirstNo}
 use Rattle.claim.specs.Uses.{isOneOf, NumbersAndBytes, Determined, Refusals, Acceptances, Examples, StaysSound}
 use Rattle.claim.proofs.Demands.{demand-1, demand-2, demand-3, run}

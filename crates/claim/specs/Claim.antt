@@ -31,8 +31,9 @@ use Rattle.memory_reading.specs.Reading.{readingQuestions, instrumentAnswer, gr
 use Rattle.desk.specs.Step.{eventQuestions, answerTo, afterEvent}
 use Rattle.book.specs.Positions.{instrumentIn, groupIn}
 use Rattle.desk.specs.Days.{answersOver, memoryOver}
-use Rattle.desk.specs.Run.{eventsFor, answered, concatenated}
-use Rattle.desk.specs.Demands.{gate}
+use Rattle.desk.specs.Run.{eventsFor, answered}
+use Rattle.claim.specs.RunList.{concatenated}
+use Rattle.claim.specs.GateDemands.{gate}
 
 -- the numbers of an event's questions, in document 01's order: what every event is asked, and what is asked of an order that is entered, or
 -- raised

@@ -16,10 +16,11 @@ use Rattle.memory_opening.specs.Opening.{afterOpening}
 use Rattle.memory_reading.specs.Reading.{instrumentAnswer, groupAnswer, instrumentReport, groupReport, reported}
 use Rattle.desk.specs.Step.{answerTo}
 use Rattle.desk.specs.Days.{answersOver, memoryOver}
-use Rattle.desk.specs.Run.{eventsFor, answered, concatenated}
-use Rattle.desk.specs.Listing.{listingRoster}
+use Rattle.desk.specs.Run.{eventsFor, answered}
+use Rattle.claim.specs.RunList.{concatenated}
+use Rattle.claim.specs.Listing.{listingRoster}
 use Rattle.book.specs.Edges.{starredEdges}
-use Rattle.desk.specs.Edges.{edgeRoster}
+use Rattle.claim.specs.Edges.{edgeRoster}
 use Rattle.claim.specs.Examples.{memoryAt, OrderRefused, OrderAccepted, LimitSetAgain}
 
 abbrev pub orderOf : (account id item : ℕ) → Side → (total filled : ℕ) → Order

@@ -21,7 +21,7 @@ use Rattle.book.specs.Written.{asBytes, written, writtenAll}
 use Rattle.memory_opening.specs.Questions.{rosterFrom}
 use Rattle.memory_opening.specs.Opening.{afterOpening}
 use Rattle.desk.specs.Step.{eventQuestions, answerTo, afterEvent}
-use Rattle.desk.specs.Demands.{gate}
+use Rattle.claim.specs.GateDemands.{gate}
 use Rattle.claim.specs.Claim.{FirstNo}
 
 -- the memory m, opened with roster s, and what is kept of the events, after the events

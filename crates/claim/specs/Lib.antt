@@ -1,3 +1,7 @@
+pub mod GateDemands
+pub mod Edges
+pub mod Listing
+pub mod RunList
 pub mod Claim
 pub mod Examples
 pub mod Days

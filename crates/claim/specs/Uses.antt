@@ -14,7 +14,7 @@ use Rattle.memory_opening.specs.Opening.{afterOpening}
 use Rattle.memory_reading.specs.Reading.{readingQuestions, instrumentAnswer, groupAnswer, instrumentReport, groupReport, reported}
 use Rattle.desk.specs.Step.{eventQuestions, answerTo, afterEvent}
 use Rattle.desk.specs.Days.{answersOver, memoryOver}
-use Rattle.desk.specs.Demands.{gate}
+use Rattle.claim.specs.GateDemands.{gate}
 use Rattle.claim.specs.Claim.{askedFirst, askedLast}
 
 -- ---- demand 1

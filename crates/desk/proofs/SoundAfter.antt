@@ -9,7 +9,7 @@ use Rattle.memory_soundness.proofs.SoundDesk.{sound-out, sound-in}
 use Rattle.memory_working.proofs.Small.{decoded-sized}
 use Rattle.memory_working.proofs.SoundWorked.{sound-worked}
 use Rattle.desk.specs.Step.{answerTo, afterEvent}
-use Rattle.desk.proofs.Gate.{after-refused, after-accepted, answer-sound}
+use Rattle.desk.proofs.Events.{after-refused, after-accepted, answer-sound}
 use Rattle.desk.proofs.Stepped.{unsound-event}
 
 module _ (m e : List ℕ) (bytes : Bytes m) (event-bytes : Bytes e) where

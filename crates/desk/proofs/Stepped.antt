@@ -13,7 +13,7 @@ use Rattle.memory_soundness.specs.Soundness.{soundDesk}
 use Rattle.memory_soundness.proofs.SoundDesk.{sound-out}
 use Rattle.memory_working.specs.Working.{worked}
 use Rattle.desk.specs.Step.{eventQuestions, answerTo, afterEvent, stepped}
-use Rattle.desk.proofs.Gate.{answer-sound, after-refused}
+use Rattle.desk.proofs.Events.{answer-sound, after-refused}
 
 -- ---- a judged event, with answer a
 module _ (m : List ℕ) (e : Event) (a : Answer) (told : numberOf a ≡ judged m e) where

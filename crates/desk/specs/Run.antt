@@ -1,10 +1,6 @@
 -- Many events in one call: the bytes cut into events, and what the room for answers takes of them.
-use Rattle.integers.specs.Basics.{ℕ, zero, suc, _≤_, _≡_, false, List, [], _∷_, _++_, map, length, take, drop, replicate}
-use Rattle.book.specs.EventLists.{RawEvent, memoryAfter}
-use Rattle.memory_soundness.specs.Soundness.{soundDesk}
-use Rattle.desk.specs.Step.{answerTo}
-use Rattle.desk.specs.Days.{answersOver, memoryOver}
-use Rattle.desk.specs.Demands.{gate}
+use Rattle.integers.specs.Basics.{ℕ, zero, suc, List, [], _∷_, _++_, length, take, drop}
+use Rattle.desk.specs.Days.{answersOver}
 
 -- at most n events: the first 48 bytes, then those of the rest; the last may be short
 unfoldable pub cutIn : ℕ → List ℕ → List (List ℕ)
@@ -25,36 +21,3 @@ abbrev pub answered : (m events room : List ℕ) → List ℕ
 answered m events room =
     let answers = answersOver m (eventsFor events room) in
     answers ++ drop (length answers) room
-
--- ---- demand 3's list is the list that a run works
--- 48 bytes each; the last may be shorter, but not empty
-abbrev pub Whole : List RawEvent → Type 0
-Whole [] = Unit
-Whole (e ∷ []) = (1 ≤ length (e .bytes)) × (length (e .bytes) ≤ 48)
-Whole (e ∷ f ∷ es) = (length (e .bytes) ≡ 48) × Whole (f ∷ es)
-
-abbrev pub bytesOfEach : List RawEvent → List (List ℕ)
-bytesOfEach = map (λ e. e .bytes)
-
--- one after the other
-abbrev pub concatenated : List RawEvent → List ℕ
-concatenated [] = []
-concatenated (e ∷ es) = e .bytes ++ concatenated es
-
-pub record RunIsTheList : Type 0 where
-  pub events : (es : List RawEvent) → Whole es → cut (concatenated es) ≡ bytesOfEach es
-  -- with room for their answers, all are worked
-  pub worked : (es : List RawEvent) (room : List ℕ) → Whole es → length es ≤ length room → eventsFor (concatenated es) room ≡ bytesOfEach es
-  pub memory : (m : List ℕ) (es : List RawEvent) → memoryOver m (bytesOfEach es) ≡ memoryAfter gate m es
-  -- N's answer stands behind the list's
-  pub next :
-      (m : List ℕ) (es : List RawEvent) (n : RawEvent)
-      → answersOver m (bytesOfEach (es ++ (n ∷ [])))
-      ≡ answersOver m (bytesOfEach es) ++ (answerTo (memoryAfter gate m es) (n .bytes) ∷ [])
-
--- ---- a short or unsound memory: every event is answered 5, and nothing is written
-abbrev pub UnsoundRun : Type 0
-UnsoundRun =
-    (m : List ℕ) (es : List (List ℕ))
-    → soundDesk m ≡ false
-    → (answersOver m es ≡ replicate (length es) 5) × (memoryOver m es ≡ m)
