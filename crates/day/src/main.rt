@@ -1,19 +1,16 @@
 // The day program: one roster and then events from standard input; the answers, and the positions at the end, to standard output.
-mod answers;
-mod input;
-mod output;
 mod reports;
 
 ghost use Prim.Native.Nat.{_<_, _≤_};
 ghost use lib.ListN.{length};
-use crate::answers::BLOCK_EVENTS;
-use crate::answers::answer_lines;
-use crate::input::fill;
-use crate::output::FAILED;
-use crate::output::flush;
-use crate::output::put_all;
-use crate::output::put_number;
 use crate::reports::position_lines;
+use day_lines::answers::BLOCK_EVENTS;
+use day_lines::answers::answer_lines;
+use day_lines::input::fill;
+use day_lines::output::FAILED;
+use day_lines::output::flush;
+use day_lines::output::put_all;
+use day_lines::output::put_number;
 use desk::desk_open;
 use desk::run::desk_run;
 use words::fields::u16_at;

@@ -1,9 +1,9 @@
 // The positions at the end of a day.
 ghost use Prim.Native.Nat.{_≤_};
 ghost use lib.ListN.{length};
-use crate::output::put_all;
-use crate::output::put_head;
-use crate::output::put_signed;
+use day_lines::output::put_all;
+use day_lines::output::put_head;
+use day_lines::output::put_signed;
 use desk::desk_group_position;
 use desk::desk_instrument_position;
 use words::fields::u16_at;

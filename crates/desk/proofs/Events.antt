@@ -35,4 +35,3 @@ module _ (m e : List ℕ) where
   pub answer-sound : SoundMemory m → answerTo m e ≡ judged m (decode e)
   unfolding answerTo eventQuestions judged
   answer-sound held = rw (sound-in m held) (sound-answer (view m) (decode e))
-

@@ -1,7 +1,7 @@
 -- Safe: a place fits 64 bits, since `before` is below 2^63, and the tens have at most 19 digits, made anew or not, as a line asks.
 use Rattle.integers.specs.Basics.{_-_, _≤_, _≡_, ⊎-elim, length, arith, needs}
-use Rattle.day.proofs.answers.answer_lines.Statement.{statement}
-use Rattle.day.proofs.answers.answer_lines.Tie as tie
+use Rattle.day_lines.proofs.answers.answer_lines.Statement.{statement}
+use Rattle.day_lines.proofs.answers.answer_lines.Tie as tie
 
 abbrev Inv-loop : tie.InvT-loop
 Inv-loop buf₀ used answers count before tens₀ digits₀ at₀ k₀ buf tens digits at k = (length buf ≡ length buf₀) × (digits ≤ 19)

@@ -1,7 +1,7 @@
 -- Every read is between `done` and `end`, and the block reaches to `end`; a turn reads at least a byte and at most what is missing.
 use Rattle.integers.specs.Basics.{_-_, _≤_, _≡_, length, needs}
-use Rattle.day.proofs.input.fill.Statement.{statement}
-use Rattle.day.proofs.input.fill.Tie as tie
+use Rattle.day_lines.proofs.input.fill.Statement.{statement}
+use Rattle.day_lines.proofs.input.fill.Tie as tie
 
 abbrev Inv-loop : tie.InvT-loop
 Inv-loop block₀ start end done₀ block done = (length block ≡ length block₀) × (end ≤ length block)

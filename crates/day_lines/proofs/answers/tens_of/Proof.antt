@@ -2,8 +2,8 @@
 use Rattle.integers.specs.Basics.{ℕ, _-_, _/_, _^_, _≤_, _<_, arith, needs}
 use native.Mathlib.Nat.{lt-of-not-le, pow-le-pow-right}
 use Rattle.io.specs.Digits.{Fewest}
-use Rattle.day.proofs.answers.tens_of.Statement.{statement}
-use Rattle.day.proofs.answers.tens_of.Tie as tie
+use Rattle.day_lines.proofs.answers.tens_of.Statement.{statement}
+use Rattle.day_lines.proofs.answers.tens_of.Tie as tie
 
 -- A number below 10 to the 19th has at most 19 digits.
 at-most-19 : (n digits : ℕ) → n < 10000000000000000000 → Fewest 10 1 n digits → digits < 20

@@ -1,7 +1,7 @@
 -- Each byte of the text is read within it, and the buffer keeps its length through every `put`.
 use Rattle.integers.specs.Basics.{_-_, _≡_, length, needs}
-use Rattle.day.proofs.output.put_all.Statement.{statement}
-use Rattle.day.proofs.output.put_all.Tie as tie
+use Rattle.day_lines.proofs.output.put_all.Statement.{statement}
+use Rattle.day_lines.proofs.output.put_all.Tie as tie
 
 abbrev Inv-loop : tie.InvT-loop
 Inv-loop buf₀ used text at₀ k₀ k-end buf at k = length buf ≡ length buf₀

@@ -1,7 +1,7 @@
 -- All 20 bytes are within the buffer, since it has 20 from `at` on and keeps its length.
 use Rattle.integers.specs.Basics.{_-_, _≡_, length, needs}
-use Rattle.day.proofs.answers.put_tens.Statement.{statement}
-use Rattle.day.proofs.answers.put_tens.Tie as tie
+use Rattle.day_lines.proofs.answers.put_tens.Statement.{statement}
+use Rattle.day_lines.proofs.answers.put_tens.Tie as tie
 
 abbrev Inv-loop : tie.InvT-loop
 Inv-loop buf₀ at tens k₀ buf k = length buf ≡ length buf₀

@@ -1,0 +1,4 @@
+// The day program's input in blocks, and its lines of output.
+pub mod answers;
+pub mod input;
+pub mod output;
