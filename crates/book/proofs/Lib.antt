@@ -2,6 +2,7 @@
 pub mod MarketLaws
 pub mod Edges
 pub mod Rosters
+pub mod Written
 pub mod Listing
 pub mod Puts
 pub mod SetAgainExamples

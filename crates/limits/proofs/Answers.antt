@@ -1,8 +1,8 @@
 -- Laws of a list of questions: the first no, and what an answer of 0 says of each question.
 use Rattle.integers.specs.Basics.{ℕ, _≤_, _≡_, refl, _∙_, sym, _≢_, Bool, true, false, not, _&&_, _||_, cond, true≢false, false≢true, List}
-use Rattle.integers.specs.Basics.{[], _∷_, _++_, eqb, arith}
+use Rattle.integers.specs.Basics.{[], _∷_, _++_, eqb, arith, eq-eqb}
 use Rattle.ledger.proofs.Ways.{by-test, by-number}
-use Rattle.limits.specs.Questions.{Question, firstNo, allPass}
+use Rattle.limits.specs.Questions.{Question, firstNo, behind, allPass}
 
 -- ---- tests joined
 pub both-true : (x y : Bool) → x && y ≡ true → (x ≡ true) × (y ≡ true)
@@ -37,6 +37,10 @@ passed [] e n = refl
 passed (q ∷ qs) e n =
     let h = both-true (q .passes) (allPass qs) e in
     by-number (q .number) n (λ t. cond t (q .passes) (passesAt n qs) ≡ true) (λ _. h .0) (λ _. passed qs (h .1) n)
+
+-- behind a question's number stand those that follow it
+pub follow : (q : Question) (qs : List Question) → behind (q .number) (q ∷ qs) ≡ qs
+follow q qs = rw (eq-eqb (q .number) (q .number) refl)
 
 pub pass-zero : (qs : List Question) → allPass qs ≡ true → firstNo qs ≡ 0
 unfolding firstNo allPass
