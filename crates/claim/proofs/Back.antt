@@ -1,6 +1,6 @@
 -- The way back: each demand as the claim says it gives the demand of the gate that it was taken from, so neither can be weakened alone.
 use Rattle.integers.specs.Basics.{ℕ, _≤_, _<_, _≡_, refl, _∙_, sym, ap, subst, inl, inr, _↔_, _≢_, by-cases, Bool, true, false, List, []}
-use Rattle.integers.specs.Basics.{_∷_, _++_, List·Memᴰ, List·Memᴰ·head, List·Memᴰ·tail, length, ℕ-discrete}
+use Rattle.integers.specs.Basics.{_∷_, _++_, List·Memᴰ, List·Memᴰ·head, List·Memᴰ·tail, length, drop, ℕ-discrete}
 use Rattle.limits.specs.Lines.{isSet}
 use Rattle.limits.specs.Questions.{Question, numbersOf, allPass}
 use Rattle.book.specs.Market.{derivatives}
@@ -14,8 +14,8 @@ use Rattle.memory_opening.specs.Questions.{rosterFrom}
 use Rattle.memory_opening.specs.Opening.{afterOpening}
 use Rattle.desk.specs.Step.{eventQuestions, answerTo, afterEvent}
 use Rattle.desk.specs.Days.{answersOver, memoryOver}
-use Rattle.desk.specs.Run.{eventsFor}
-use Rattle.claim.specs.RunList.{Whole, bytesOfEach, concatenated}
+use Rattle.desk.specs.Run.{eventsFor, answered}
+use Rattle.claim.specs.RunList.{Whole, bytesOfEach, concatenated, UnsoundRun}
 use Rattle.claim.specs.GateDemands.{OneOf, Answers, gate, keptAfter, GateDemand1, GateDemand2, GateDemand3}
 use Rattle.claim.specs.Claim.{FirstNo, Demand1, Demand2, Demand3, Run}
 use Rattle.claim.proofs.Held.{held-kept, held-after, held-from-opening, named, by-name, none-on-the-line}
@@ -120,11 +120,15 @@ last-of (x ∷ y ∷ es) n w = last-of (y ∷ es) n (w .1)
 pub run-back : Run → (m : List ℕ) (es : List RawEvent) (n : RawEvent) (room : List ℕ) → Whole (es ++ (n ∷ [])) → length es < length room
     → (eventsFor (concatenated (es ++ (n ∷ []))) room ≡ bytesOfEach (es ++ (n ∷ [])))
     × (memoryOver m (bytesOfEach (es ++ (n ∷ []))) ≡ memoryAfter gate m (es ++ (n ∷ [])))
+    × (answered m (concatenated (es ++ (n ∷ []))) room
+    ≡ answersOver m (bytesOfEach (es ++ (n ∷ []))) ++ drop (length (es ++ (n ∷ []))) room)
 run-back r m es n room w space =
     let last = last-of es n w in
-    let so = r .events m es n room (full-before es n w) (last .0) (last .1) space in
-    (so .0, so .1)
+    r .events m es n room (full-before es n w) (last .0) (last .1) space
 
 pub next-back : Run → (m : List ℕ) (es : List RawEvent) (n : RawEvent)
     → answersOver m (bytesOfEach (es ++ (n ∷ []))) ≡ answersOver m (bytesOfEach es) ++ (answerTo (memoryAfter gate m es) (n .bytes) ∷ [])
 next-back r = r .next
+
+pub unsound-back : Run → UnsoundRun
+unsound-back r = r .unsound

@@ -3,9 +3,8 @@ use Rattle.integers.specs.Basics.{ℕ, _≤_, _≡_, true, List, length, le-leb
 use Rattle.limits.specs.Questions.{allPass}
 use Rattle.memory_layout.specs.Rosters.{longEnough}
 use Rattle.memory_opening.specs.Questions.{openingQuestions, openingAnswer}
-use Rattle.claim.specs.Listing.{listingRoster}
 use Rattle.claim.proofs.Rosters.{rosterQuestions, reads}
-use Rattle.claim.specs.Days.{longerRoster}
+use Rattle.claim.specs.Days.{listingRoster, longerRoster}
 use Rattle.claim.proofs.Demands.{demand-2}
 
 pub opens-long : (m s : List ℕ) → 65536 ≤ length m → allPass (rosterQuestions s) ≡ true → openingAnswer m s ≡ 0

@@ -6,7 +6,7 @@ use Rattle.book.specs.Edges.{Case, starredEdges, allAccepted}
 use Rattle.book.proofs.Computed.{computes}
 use Rattle.book.proofs.Edges.{starred-answers, starred-positions}
 use Rattle.memory_opening.specs.Opening.{afterOpening}
-use Rattle.memory_reading.specs.Reading.{instrumentReport}
+use Rattle.memory_reading.specs.Reading.{instrumentAnswer, instrumentReport}
 use Rattle.desk.specs.Step.{answerTo}
 use Rattle.desk.specs.Days.{answersOver, memoryOver}
 use Rattle.claim.specs.Edges.{AllHold, edgeRoster}
@@ -49,6 +49,11 @@ module _ (m roster : List ℕ) where
   each-answered [] h = refl
   each-answered (c ∷ cs) h = rw (h .0 .answered, each-answered cs (h .1))
 
+  each-readable : (cs : List Case) → AllHold m roster cs
+      → map (λ c. instrumentAnswer (over (c .events ++ (c .order ∷ []))) 1 (c .instrument)) cs ≡ replicate (length cs) 0
+  each-readable [] h = refl
+  each-readable (c ∷ cs) h = rw (h .0 .readable, each-readable cs (h .1))
+
   each-reported : (cs : List Case) → AllHold m roster cs
       → map (λ c. instrumentReport (over (c .events ++ (c .order ∷ []))) 1 (c .instrument)) cs ≡ map (λ c. c .positions) cs
   each-reported [] h = refl
@@ -66,6 +71,7 @@ edges-hold =
       opens = all .0 .opens;
       accepted = each-accepted zeroMemory edgeRoster starredEdges all ∙ many-accepted;
       answered = each-answered zeroMemory edgeRoster starredEdges all ∙ starred-answers;
+      readable = each-readable zeroMemory edgeRoster starredEdges all;
       reported = each-reported zeroMemory edgeRoster starredEdges all ∙ starred-positions;
     }
 

@@ -9,7 +9,6 @@ pub mod RunList
 pub mod Carried
 pub mod Rosters
 pub mod Edges
-pub mod Listing
 pub mod Held
 pub mod Demands
 pub mod Back

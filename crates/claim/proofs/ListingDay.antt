@@ -20,9 +20,8 @@ use Rattle.book.specs.Positions.{instrumentIn, groupIn}
 use Rattle.desk.specs.Days.{answersOver, memoryOver}
 use Rattle.desk.specs.Run.{eventsFor, answered}
 use Rattle.claim.specs.RunList.{concatenated}
-use Rattle.claim.specs.Listing.{listingRoster}
 use Rattle.claim.specs.Examples.{memoryAt}
-use Rattle.claim.specs.Days.{order, ListingDay, InEveryMemory}
+use Rattle.claim.specs.Days.{order, listingRoster, ListingDay, InEveryMemory}
 use Rattle.claim.proofs.Demands.{demand-2, demand-3, run}
 use Rattle.claim.proofs.Uses.{listed-passes}
 use Rattle.claim.proofs.Plainly.{plainly, answers-plainly}

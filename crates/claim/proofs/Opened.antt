@@ -21,7 +21,7 @@ module _ (m s : List ℕ) (zero : openingAnswer m s ≡ 0) where
   ok : Accepted m s
   ok = accepted-out m s zero
 
-  pub is-opened : afterOpening m s ≡ opened m s
+  is-opened : afterOpening m s ≡ opened m s
   unfolding afterOpening
   is-opened = rw (eq-eqb (openingAnswer m s) 0 zero)
 

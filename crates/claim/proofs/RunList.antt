@@ -46,7 +46,7 @@ answer-behind m (e ∷ es) n =
     ap (λ l. answerTo m (e .bytes) ∷ l) (answer-behind (afterEvent m (e .bytes)) es n)
 
 pub run-is-the-list : RunIsTheList
-run-is-the-list = record { events = cut-joined; worked = all-worked; memory = memory-along; next = answer-behind }
+run-is-the-list = record { worked = all-worked; memory = memory-along; next = answer-behind }
 
 -- ---- an unsound desk
 pub unsound-run : UnsoundRun

@@ -7,7 +7,7 @@ use Rattle.ledger.specs.declared.order.Side.the-variants.{Buy, Sell}
 use Rattle.ledger.specs.Positions.{instrument, group, long, short}
 use Rattle.book.specs.EventBytes.{newBytes, buy, sell}
 use Rattle.book.specs.Rosters.{rosterBytes}
-use Rattle.book.specs.Listing.{listingEvents}
+use Rattle.book.specs.Listing.{listingTables, listingEvents}
 use Rattle.book.specs.LongerDay.{longerTables, morning, tooLong, tooShort, putSold, putBought, raisedTooFar, afternoon, evening}
 use Rattle.book.specs.LongerDay.{putSoldToTheLimit, putBoughtToTheLimit, raisedToTheLimit, noon, late, ownLineSet, elsewhere, secondAccount}
 use Rattle.book.specs.Written.{writtenAll}
@@ -18,7 +18,6 @@ use Rattle.desk.specs.Step.{answerTo}
 use Rattle.desk.specs.Days.{answersOver, memoryOver}
 use Rattle.desk.specs.Run.{eventsFor, answered}
 use Rattle.claim.specs.RunList.{concatenated}
-use Rattle.claim.specs.Listing.{listingRoster}
 use Rattle.book.specs.Edges.{starredEdges}
 use Rattle.claim.specs.Edges.{edgeRoster}
 use Rattle.claim.specs.Examples.{memoryAt, OrderRefused, OrderAccepted, LimitSetAgain}
@@ -32,6 +31,9 @@ abbrev pub order : (id item : ℕ) → Side → ℕ → Order
 order id item side total = orderOf 1 id item side total 0
 
 -- ---- document 01's listing
+unfoldable pub listingRoster : List ℕ
+listingRoster = rosterBytes listingTables
+
 pub record ListingDay (m : List ℕ) : Type 0 where
   pub opens : openingAnswer m listingRoster ≡ 0
   pub answers :
@@ -122,7 +124,7 @@ unfoldable pub zeroMemory : List ℕ
 zeroMemory = replicate 65536 0
 
 -- document 01's starred edges (crates/book/specs/Edges.antt), nine of them: the events before N are accepted, N gets this answer, and S,
--- PCI and PVI are these after it
+-- PCI and PVI are read and are these after it
 abbrev pub edgeMemory : List (List ℕ) → List ℕ
 edgeMemory = memoryOver (afterOpening zeroMemory edgeRoster)
 
@@ -132,6 +134,8 @@ pub record EdgesHold : Type 0 where
       map (λ c. answersOver (afterOpening zeroMemory edgeRoster) (c .events)) starredEdges
       ≡ map (λ n. replicate n 0) (6 ∷ 6 ∷ 6 ∷ 4 ∷ 3 ∷ 3 ∷ 3 ∷ 3 ∷ 3 ∷ [])
   pub answered : map (λ c. answerTo (edgeMemory (c .events)) (c .order)) starredEdges ≡ 20 ∷ 22 ∷ 0 ∷ 0 ∷ 0 ∷ 0 ∷ 21 ∷ 23 ∷ 0 ∷ []
+  pub readable :
+      map (λ c. instrumentAnswer (edgeMemory (c .events ++ (c .order ∷ []))) 1 (c .instrument)) starredEdges ≡ replicate 9 0
   pub reported :
       map (λ c. instrumentReport (edgeMemory (c .events ++ (c .order ∷ []))) 1 (c .instrument)) starredEdges
       ≡ (negℤ (pos 10000) ∷ negℤ (pos 5000) ∷ pos 15000 ∷ [])

@@ -1,6 +1,5 @@
 pub mod GateDemands
 pub mod Edges
-pub mod Listing
 pub mod RunList
 pub mod Claim
 pub mod Examples

@@ -4,7 +4,7 @@ use Rattle.book.specs.EventLists.{RawEvent, memoryAfter}
 use Rattle.memory_soundness.specs.Soundness.{soundDesk}
 use Rattle.desk.specs.Step.{answerTo}
 use Rattle.desk.specs.Days.{answersOver, memoryOver}
-use Rattle.desk.specs.Run.{cut, eventsFor}
+use Rattle.desk.specs.Run.{eventsFor}
 use Rattle.claim.specs.GateDemands.{gate}
 
 -- 48 bytes each; the last may be shorter, but not empty
@@ -22,7 +22,6 @@ concatenated [] = []
 concatenated (e ∷ es) = e .bytes ++ concatenated es
 
 pub record RunIsTheList : Type 0 where
-  pub events : (es : List RawEvent) → Whole es → cut (concatenated es) ≡ bytesOfEach es
   -- with room for their answers, all are worked
   pub worked : (es : List RawEvent) (room : List ℕ) → Whole es → length es ≤ length room → eventsFor (concatenated es) room ≡ bytesOfEach es
   pub memory : (m : List ℕ) (es : List RawEvent) → memoryOver m (bytesOfEach es) ≡ memoryAfter gate m es

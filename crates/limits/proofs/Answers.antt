@@ -1,6 +1,6 @@
 -- Laws of a list of questions: the first no, and what an answer of 0 says of each question.
 use Rattle.integers.specs.Basics.{ℕ, _≤_, _≡_, refl, _∙_, sym, _≢_, Bool, true, false, not, _&&_, _||_, cond, true≢false, false≢true, List}
-use Rattle.integers.specs.Basics.{[], _∷_, _++_, eqb, arith, eq-eqb}
+use Rattle.integers.specs.Basics.{[], _∷_, _++_, eqb, arith, eq-eqb, ne-eqb}
 use Rattle.ledger.proofs.Ways.{by-test, by-number}
 use Rattle.limits.specs.Questions.{Question, firstNo, behind, allPass}
 
@@ -37,10 +37,6 @@ passed [] e n = refl
 passed (q ∷ qs) e n =
     let h = both-true (q .passes) (allPass qs) e in
     by-number (q .number) n (λ t. cond t (q .passes) (passesAt n qs) ≡ true) (λ _. h .0) (λ _. passed qs (h .1) n)
-
--- behind a question's number stand those that follow it
-pub follow : (q : Question) (qs : List Question) → behind (q .number) (q ∷ qs) ≡ qs
-follow q qs = rw (eq-eqb (q .number) (q .number) refl)
 
 pub pass-zero : (qs : List Question) → allPass qs ≡ true → firstNo qs ≡ 0
 unfolding firstNo allPass
@@ -90,3 +86,9 @@ unfolding firstNo
 never-answered n [] some-number w = λ e. some-number (sym e)
 never-answered n (q ∷ qs) some-number w =
     by-test (q .passes) (λ t. rw t (never-answered n qs some-number (w .1))) (λ t. rw t (w .0))
+
+-- ---- behind a question's number stand those that follow it, where none before it has that number
+pub follow : (before : List Question) (q : Question) (qs : List Question) → Without (q .number) before
+    → behind (q .number) (before ++ (q ∷ qs)) ≡ qs
+follow [] q qs h = rw (eq-eqb (q .number) (q .number) refl)
+follow (x ∷ before) q qs h = rw (ne-eqb (x .number) (q .number) (h .0)) (follow before q qs (h .1))
