@@ -1,5 +1,5 @@
 -- The three demands as the claim says them, each taken from what is proved of the gate.
-use Rattle.integers.specs.Basics.{ℕ, suc, _≤_, _≡_, refl, _∙_, ap, subst, _⊎_, inl, inr, ⊎-elim, _↔_, _≢_, Bool, true, false, cond, List}
+use Rattle.integers.specs.Basics.{ℕ, _≤_, _≡_, refl, _∙_, ap, subst, _⊎_, inl, inr, ⊎-elim, _↔_, _≢_, Bool, true, false, cond, List}
 use Rattle.integers.specs.Basics.{[], _∷_, _++_, map, List·Memᴰ, List·Memᴰ·head, List·Memᴰ·tail, List·Memᴰ·not-nil, Option, none, some}
 use Rattle.integers.specs.Basics.{length, arith}
 use mathlib.Core.List.{List·Memᴰ·append-cases, Memᴰ·append-left}
@@ -21,8 +21,8 @@ use Rattle.memory_opening.specs.Questions.{rosterFrom, openingQuestions}
 use Rattle.memory_opening.specs.Opening.{afterOpening}
 use Rattle.memory_reading.specs.Reading.{readingQuestions}
 use Rattle.desk.specs.Step.{eventQuestions, answerTo, afterEvent}
-use Rattle.desk.specs.Days.{answersOver}
 use Rattle.desk.specs.Run.{answered}
+use Rattle.desk.proofs.RunLoop.{length-answers}
 use Rattle.claim.specs.RunList.{Whole}
 use Rattle.claim.specs.GateDemands.{OneOf, FirstFailed, Answers, gate, keptAfter}
 use Rattle.claim.proofs.GateDemands.{gate-demand-1, gate-demand-2, gate-demand-3}
@@ -165,11 +165,6 @@ one-by-one (e ∷ []) last full some-bytes short = (full e (List·Memᴰ·head r
 one-by-one (e ∷ f ∷ es) last full some-bytes short =
     (full e (List·Memᴰ·head refl), one-by-one (f ∷ es) last (λ x there. full x (List·Memᴰ·tail there)) some-bytes short)
 
-answers-count : (m : List ℕ) (es : List (List ℕ)) → length (answersOver m es) ≡ length es
-unfolding answersOver
-answers-count m [] = refl
-answers-count m (e ∷ es) = ap suc (answers-count (afterEvent m e) es)
-
 pub run : Run
 run =
     record {
@@ -179,7 +174,7 @@ run =
           (omega (arith, length-append whole (last ∷ []))) in (
             worked,
             run-is-the-list .memory m es,
-            rw worked (rw (answers-count m (map (λ e. e .bytes) es), length-map es (λ e. e .bytes)) refl),
+            rw worked (rw (length-answers m (map (λ e. e .bytes) es), length-map es (λ e. e .bytes)) refl),
           );
       next = run-is-the-list .next;
       unsound = unsound-run;

@@ -12,7 +12,8 @@ use Rattle.memory_opening.specs.Opening.{afterOpening}
 use Rattle.claim.specs.Edges.{CaseHolds, AllHold, edgeRoster, StarredEdges}
 use Rattle.claim.proofs.Readings.{instrument-read, shown-opened}
 use Rattle.claim.proofs.Carried.{bytes-are, bytes-apart, answer-shown, answers-carried, shown-over, roster-over}
-use Rattle.claim.proofs.Rosters.{roster-read, roster-opens, reads}
+use Rattle.claim.proofs.Rosters.{roster-read, reads}
+use Rattle.claim.proofs.DaysOpened.{opens-long}
 
 -- a memory opened with the roster shows the plain book
 module _ (m s : List ℕ) (bytes : Bytes m) (opens : openingAnswer m s ≡ 0) where
@@ -42,7 +43,7 @@ module _ (m s : List ℕ) (bytes : Bytes m) (opens : openingAnswer m s ≡ 0) wh
 edge-roster : (rosterFrom edgeRoster ≡ rosterOfTables edgeTables)
     × ((m : List ℕ) → 65536 ≤ length m → openingAnswer m edgeRoster ≡ 0)
 unfolding reads edgeRoster
-edge-roster = (roster-read edgeRoster, λ m long. roster-opens m edgeRoster long refl)
+edge-roster = (roster-read edgeRoster, λ m long. opens-long m edgeRoster long refl)
 
 pub starred-edges : StarredEdges
 starred-edges m bytes long =

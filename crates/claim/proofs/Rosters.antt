@@ -1,16 +1,16 @@
--- The roster that bytes say, as tables; and which rosters open a memory. All that a day computes with from its bytes on, as one name.
-use Rattle.integers.specs.Basics.{ℕ, zero, suc, _+_, _*_, _≤_, _≡_, refl, ap, fun-ext, Bool, true, false, cond, List, [], _∷_, ℤ, pos, ltb}
+-- The roster that bytes say, as tables, and the questions that it is asked; all that a day computes with from its bytes on, as one name.
+use Rattle.integers.specs.Basics.{ℕ, zero, suc, _+_, _*_, _≡_, refl, ap, fun-ext, Bool, true, false, cond, List, [], _∷_, ℤ, pos, ltb}
 use Rattle.integers.specs.Basics.{length, getD, arith, ltb-true, ltb-false, le-leb}
 use Prim.Native.Nat.{compare·suc-suc}
 use Rattle.words.specs.Fields.{u8At, u16At, i32At}
 use Rattle.ledger.specs.Roster.{Roster}
-use Rattle.limits.specs.Questions.{Question, firstNo}
+use Rattle.limits.specs.Questions.{Question}
 use Rattle.book.specs.Decoding.{between}
 use Rattle.book.specs.Table.{q}
 use Rattle.book.specs.Rosters.{Tables, rosterOfTables, weightBytes, rosterBytes}
 use Rattle.book.proofs.Computed.{computes}
-use Rattle.memory_layout.specs.Rosters.{listed, every, sizesFit, namesFit, weightsFit, longEnough}
-use Rattle.memory_opening.specs.Questions.{rosterFrom, rosterLength, lengthsFit, openingQuestions, openingAnswer}
+use Rattle.memory_layout.specs.Rosters.{listed, every, sizesFit, namesFit, weightsFit}
+use Rattle.memory_opening.specs.Questions.{rosterFrom, rosterLength, lengthsFit}
 
 module _ {A : Type 0} (none : A) where
   -- the values of f at 0 to n − 1
@@ -78,13 +78,9 @@ roster-read s =
     (table-of 0 instruments (λ i. u8At s (7 + contracts + i)))
     (table-of (pos 0) instruments (λ i. i32At s (4 + contracts + instruments + 4 * i)))
 
--- a roster that passes questions 2 to 4 opens every memory that is long enough
+-- questions 2 to 4
 abbrev pub rosterQuestions : List ℕ → List Question
 rosterQuestions s = q 2 (lengthsFit s) ∷ q 3 (namesFit (rosterFrom s)) ∷ q 4 (weightsFit (rosterFrom s)) ∷ []
-
-pub roster-opens : (m s : List ℕ) → 65536 ≤ length m → firstNo (rosterQuestions s) ≡ 0 → openingAnswer m s ≡ 0
-unfolding openingAnswer openingQuestions longEnough firstNo
-roster-opens m s long rest = rw (le-leb 65536 (length m) long) rest
 
 -- all that a roster and a day of bytes compute with
 unfoldable pub reads : Unit {0}

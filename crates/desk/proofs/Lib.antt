@@ -3,4 +3,4 @@ pub mod Events
 pub mod Stepped
 pub mod Cutting
 mod SoundAfter
-mod RunLoop
+pub mod RunLoop

@@ -8,7 +8,7 @@ use Rattle.desk.specs.Days.{answersOver, memoryOver}
 use Rattle.desk.specs.Run.{cut, eventsFor, answered}
 use Rattle.desk.proofs.Cutting.{cut-none, cut-more, past, event-within}
 
-length-answers : (m : List ℕ) (es : List (List ℕ)) → length (answersOver m es) ≡ length es
+pub length-answers : (m : List ℕ) (es : List (List ℕ)) → length (answersOver m es) ≡ length es
 unfolding answersOver
 length-answers m [] = refl
 length-answers m (e ∷ es) = ap suc (length-answers (afterEvent m e) es)
