@@ -1,17 +1,17 @@
--- What is computed of a plain book holds of a memory that shows it.
-use Rattle.integers.specs.Basics.{ℕ, zero, suc, _≡_, refl, _∙_, true, List, [], _∷_, _++_, ltb, arith, ltb-true}
+-- Events written out, whose bytes are computed to be bytes, as a list of demand 3: what is answered and kept is computed of the plain book.
+use Rattle.integers.specs.Basics.{ℕ, zero, suc, _≡_, refl, _∙_, ap, true, List, [], _∷_, _++_, map, ltb, arith, ltb-true}
 use Rattle.words.specs.Bytes.{Bytes}
 use Rattle.limits.proofs.Answers.{both-true, and-true}
 use Rattle.book.specs.Decoding.{decode}
 use Rattle.book.specs.Table.{answer}
-use Rattle.book.specs.declared.Event.{Event}
 use Rattle.book.specs.States.{State}
-use Rattle.book.specs.EventLists.{RawEvent, keep, memoryAfter, stateAfter}
+use Rattle.book.specs.EventLists.{RawEvent, memoryAfter, stateAfter}
 use Rattle.book.specs.Days.{answersTo, endOf, decoded, areBytes, allBytes}
-use Rattle.book.proofs.StateLaws.{roster-kept}
-use Rattle.desk.specs.Step.{answerTo, afterEvent}
+use Rattle.desk.specs.Step.{answerTo}
 use Rattle.desk.specs.Days.{answersOver, memoryOver}
-use Rattle.claim.proofs.Gate.{Shown, shown-after, answers-table}
+use Rattle.claim.specs.GateDemands.{gate}
+use Rattle.claim.proofs.RunList.{run-is-the-list}
+use Rattle.claim.proofs.Plainly.{asEvents, Plainly, state-plainly, answers-plainly}
 
 -- ---- bytes, computed
 pub bytes-are : (l : List ℕ) → areBytes l ≡ true → Bytes l
@@ -26,43 +26,34 @@ bytes-apart (x ∷ xs) e h =
     let rest = bytes-apart xs e (b .1) in
     (and-true (areBytes x) (allBytes xs) (b .0) (rest .0), rest .1)
 
--- ---- the answers along a list, and the memory at its end
--- one event more
-next-shown : (m : List ℕ) (k : State) (e : List ℕ) → Bytes e → Shown m k
-    → Shown (afterEvent m e) (keep k (decode e) (answer k (decode e)))
-unfolding memoryAfter stateAfter
-next-shown m k e are shown =
-    let raw : RawEvent = record { bytes = e; are = are } in
-    rw (answers-table m k shown [] raw) at (shown-after m k shown (raw ∷ []))
+-- ---- the events of these bytes
+abbrev raw : (e : List ℕ) → areBytes e ≡ true → RawEvent
+raw e are = record { bytes = e; are = bytes-are e are }
 
-pub answer-shown : (m : List ℕ) (k : State) (e : List ℕ) → Bytes e → Shown m k
-    → answerTo m e ≡ answer k (decode e)
-unfolding memoryAfter stateAfter
-answer-shown m k e are shown = answers-table m k shown [] (record { bytes = e; are = are })
+abbrev pub raws : (es : List (List ℕ)) → allBytes es ≡ true → List RawEvent
+raws [] are = []
+raws (e ∷ es) are =
+    let both = both-true (areBytes e) (allBytes es) are in
+    raw e (both .0) ∷ raws es (both .1)
 
-pub answers-carried : (m : List ℕ) (k : State) (es : List (List ℕ)) → allBytes es ≡ true → Shown m k
-    → answersOver m es ≡ answersTo k (decoded es)
-unfolding answersOver
-answers-carried m k [] are shown = refl
-answers-carried m k (e ∷ es) are shown =
-    let h = both-true (areBytes e) (allBytes es) are in
-    let b = bytes-are e (h .0) in
-    rw (
-      answer-shown m k e b shown,
-      answers-carried (afterEvent m e)
-          (keep k (decode e) (answer k (decode e))) es (h .1) (next-shown m k e b shown),
-    )
+same-bytes : (es : List (List ℕ)) (are : allBytes es ≡ true) → map (λ e. e .bytes) (raws es are) ≡ es
+same-bytes [] are = refl
+same-bytes (e ∷ es) are = ap (λ l. e ∷ l) (same-bytes es (both-true (areBytes e) (allBytes es) are .1))
 
-pub shown-over : (m : List ℕ) (k : State) (es : List (List ℕ)) → allBytes es ≡ true → Shown m k
-    → Shown (memoryOver m es) (endOf k (decoded es))
-unfolding memoryOver
-shown-over m k [] are shown = shown
-shown-over m k (e ∷ es) are shown =
-    let h = both-true (areBytes e) (allBytes es) are in
-    shown-over (afterEvent m e) (keep k (decode e) (answer k (decode e))) es (h .1)
-    (next-shown m k e (bytes-are e (h .0)) shown)
+same-events : (es : List (List ℕ)) (are : allBytes es ≡ true) → asEvents (raws es are) ≡ decoded es
+same-events [] are = refl
+same-events (e ∷ es) are = ap (λ l. decode e ∷ l) (same-events es (both-true (areBytes e) (allBytes es) are .1))
 
--- the roster of what is kept is the one that it began with
-pub roster-over : (k : State) (es : List Event) → endOf k es .roster ≡ k .roster
-roster-over k [] = refl
-roster-over k (e ∷ es) = roster-over (keep k e (answer k e)) es ∙ roster-kept k e (answer k e)
+-- ---- the answers along a list, and what is kept at its end
+module _ (m : List ℕ) (k : State) (h : Plainly m k) (es : List (List ℕ)) (are : allBytes es ≡ true) where
+  pub answers-carried : answersOver m es ≡ answersTo k (decoded es)
+  answers-carried = rw (same-bytes es are, same-events es are) at (answers-plainly m k h (raws es are))
+
+  pub memory-carried : memoryOver m es ≡ memoryAfter gate m (raws es are)
+  memory-carried = rw (same-bytes es are) at (run-is-the-list .memory m (raws es are))
+
+  pub state-carried : stateAfter gate m k (raws es are) ≡ endOf k (decoded es)
+  state-carried = state-plainly m k h (raws es are) ∙ ap (endOf k) (same-events es are)
+
+  pub answer-carried : (e : List ℕ) → areBytes e ≡ true → answerTo (memoryOver m es) e ≡ answer (endOf k (decoded es)) (decode e)
+  answer-carried e its = rw memory-carried (h (raws es are) (raw e its) ∙ ap (λ x. answer x (decode e)) state-carried)
