@@ -6,7 +6,8 @@ use Rattle.limits.specs.declared.answer.Answer.the-variants.{NoSoundDesk
 use Rattle.limits.specs.declared.answer.Answer.the-variants.{AlreadyTrading, OrderNotFound, QuantityOutOfRange, DuplicateOrder}
 use Rattle.limits.specs.declared.answer.Answer.the-variants.{AccountBlocked, InstrumentBlocked, GroupBlocked, NoLimitsConfigured}
 use Rattle.limits.specs.declared.answer.Answer.the-variants.{NoPlaceFree, BuyTooLarge, SellTooLarge, InstrumentTooLong}
-use Rattle.limits.specs.declared.answer.Answer.the-variants.{InstrumentTooShort, GroupTooLong, GroupTooShort}
+use Rattle.limits.specs.declared.answer.Answer.the-variants.{InstrumentTooShort, GroupTooLong, GroupTooShort, NoFileOfLimits}
+use Rattle.limits.specs.declared.answer.Answer.the-variants.{WrongCountOrPlace}
 
 abbrev pub numberOf : Answer → ℕ
 numberOf Accepted = 0
@@ -34,3 +35,5 @@ numberOf InstrumentTooLong = 21
 numberOf InstrumentTooShort = 22
 numberOf GroupTooLong = 23
 numberOf GroupTooShort = 24
+numberOf NoFileOfLimits = 25
+numberOf WrongCountOrPlace = 26

@@ -1,4 +1,4 @@
-// What is answered: an acceptance, or the refusal by the question that is answered no. The numbers are document 01's.
+// What is answered: an acceptance, or the refusal by the question that is answered no. The numbers are those of documents 01 and 02.
 ghost use mathlib.Core.Path.{_≡_};
 ghost use Rattle.limits.specs.Answers.{numberOf};
 
@@ -28,6 +28,8 @@ pub enum Answer {
     InstrumentTooShort,
     GroupTooLong,
     GroupTooShort,
+    NoFileOfLimits,
+    WrongCountOrPlace,
 }
 
 // An answer and its number.
@@ -63,6 +65,8 @@ fn with_number(a: Answer) -> AnswerNumber
         Answer::InstrumentTooShort => AnswerNumber(Answer::InstrumentTooShort, 22),
         Answer::GroupTooLong => AnswerNumber(Answer::GroupTooLong, 23),
         Answer::GroupTooShort => AnswerNumber(Answer::GroupTooShort, 24),
+        Answer::NoFileOfLimits => AnswerNumber(Answer::NoFileOfLimits, 25),
+        Answer::WrongCountOrPlace => AnswerNumber(Answer::WrongCountOrPlace, 26),
     }
 }
 

@@ -1,0 +1,21 @@
+-- Laws of the grammar: bytes of a class, names, what a reader finds is written, what is written is found, and files.
+pub mod Tests
+pub mod Places
+pub mod Spans
+pub mod Starts
+pub mod Readings
+pub mod Within
+pub mod Standing
+pub mod Sound
+pub mod Leaving
+pub mod AttributesFound
+pub mod Beginnings
+pub mod Complete
+pub mod Unique
+pub mod Roots
+pub mod Files
+pub mod Counting
+pub mod Values
+pub mod UpToQuote
+pub mod Comparing
+pub mod Openings

@@ -1,0 +1,211 @@
+// What a load has found so far, and how an entry of the file moves it on.
+ghost use mathlib.Core.Path.{_≡_};
+ghost use mathlib.Core.Bool.{true, false, not, _&&_, cond};
+ghost use mathlib.Core.List.{_∷_, []};
+ghost use lib.Dec.{eqb};
+ghost use Rattle.book.specs.declared.Setting.the-variants.{Limit};
+ghost use Rattle.book.specs.declared.Event.the-variants.{Set};
+ghost use Rattle.limits.specs.Answers.{numberOf};
+ghost use Rattle.memory_layout.specs.View.{rosterOf};
+ghost use Rattle.memory_layout.specs.Judged.{judged};
+ghost use Rattle.memory_soundness.specs.SoundMemory.{SoundMemory};
+ghost use Rattle.memory_working.specs.Working.{worked};
+ghost use Rattle.memory_loading.specs.Entries.{Entry, accountEntry, groupEntry, contractEntry, instrumentEntry};
+ghost use Rattle.memory_loading.specs.Loading.{inPlace};
+ghost use Rattle.memory_loading.specs.Passing.{firstOf, twoOf, fourOf, Passed};
+use book::Figures;
+use book::LimitLine;
+use limit_file::figures::Limits;
+use limits::answer::Answer;
+use memory_judging::settings::judge_limit;
+use memory_layout::roster::account_known;
+use memory_layout::roster::contract_known;
+use memory_layout::roster::contract_of;
+use memory_layout::roster::group_of;
+use memory_layout::roster::instrument_known;
+use memory_working::settings::work_limit;
+
+// Whether every count and place is right, and the first no to 7, 8 and 9.
+pub struct Progress {
+    pub right: bool,
+    pub first: Answer,
+}
+
+// The figures of a contract's or an instrument's line in an event's order; −1 throughout where it has no limits.
+fn figures_of(l: Limits) -> Figures
+    ensures { λ r. ⌜ r ≡ figuresOr (fourOf l) ⌝ }
+{
+    if !l.there {
+        return Figures {
+            tci: -1,
+            tvi: -1,
+            lci: -1,
+            lvi: -1,
+        };
+    }
+    Figures {
+        tci: l.bid as i64,
+        tvi: l.offer as i64,
+        lci: l.long as i64,
+        lvi: l.short as i64,
+    }
+}
+
+// The line of a group, likewise.
+fn group_line(group: u64, l: Limits) -> LimitLine
+    ensures { λ r. ⌜ r ≡ groupLineOr group (twoOf l) ⌝ }
+{
+    if !l.there {
+        return LimitLine::OfGroup {
+            group: group,
+            lcc: -1,
+            lvc: -1,
+        };
+    }
+    LimitLine::OfGroup {
+        group: group,
+        lcc: l.long as i64,
+        lvc: l.short as i64,
+    }
+}
+
+// Asks 7, 8 and 9 of a line where all was accepted so far, and works it where it is to be set.
+fn step(m: &mut [u8], account: u64, line: LimitLine, sets: bool, first: Answer) -> Answer
+    requires { ⌜ SoundMemory (now m) ⌝ }
+    ensures answer { λ r. ⌜ numberOf r ≡ firstOf (numberOf first) (judged (now (m .entry)) (Set (Limit account line))) ⌝ }
+    ensures memory { λ r. ⌜ now (m .exit) ≡ cond (eqb (numberOf r) 0 && sets) (worked (now (m .entry)) (Set (Limit account line))) (now (m .entry)) ⌝ }
+{
+    match first {
+        Answer::Accepted => match judge_limit(m, account, line) {
+            Answer::Accepted => {
+                if sets {
+                    work_limit(m, account, line);
+                }
+                Answer::Accepted
+            }
+            no => no,
+        },
+        no => no,
+    }
+}
+
+// AcctLmt.
+pub fn enter_account(m: &[u8], account: u64, j: Progress) -> Progress
+    requires { ⌜ SoundMemory (now m) ⌝ }
+    ensures { λ r. ⌜ Passed (now (m .entry)) (accountEntry account ∷ []) true j (now (m .entry)) r ⌝ }
+{
+    match j.first {
+        Answer::Accepted => {
+            if !account_known(m, account) {
+                return Progress {
+                    right: j.right,
+                    first: Answer::UnknownAccount,
+                };
+            }
+            j
+        }
+        no => j,
+    }
+}
+
+// EqvIxmLmt.
+pub fn enter_group(m: &mut [u8], account: u64, group: u64, limits: Limits, j: Progress) -> Progress
+    requires { ⌜ SoundMemory (now m) ⌝ }
+    ensures { λ r. ⌜ Passed (now (m .entry)) (groupEntry account group (twoOf limits) ∷ []) true j (now (m .exit)) r ⌝ }
+{
+    let line = group_line(group, limits);
+    let first = step(m, account, line, limits.there, j.first);
+    Progress {
+        right: j.right,
+        first: first,
+    }
+}
+
+// Does a contract of the roster stand under its own group?
+fn contract_in_place(m: &[u8], group: u64, contract: u64) -> bool
+    requires { ⌜ SoundMemory (now m) ⌝ }
+    ensures { λ r. ⌜ r ≡ not (between 1 (rosterOf (now (m .entry)) .contracts) contract) || eqb (rosterOf (now (m .entry)) .groupOf contract) group ⌝ }
+{
+    if !contract_known(m, contract) {
+        return true;
+    }
+    group_of(m, contract as usize) as u64 == group
+}
+
+// Does an instrument of the roster stand under its own contract?
+fn instrument_in_place(m: &[u8], contract: u64, instrument: u64) -> bool
+    requires { ⌜ SoundMemory (now m) ⌝ }
+    ensures { λ r. ⌜ r ≡ not (between 1 (rosterOf (now (m .entry)) .instruments) instrument) || eqb (rosterOf (now (m .entry)) .contractOf instrument) contract ⌝ }
+{
+    if !instrument_known(m, instrument) {
+        return true;
+    }
+    contract_of(m, instrument as usize) as u64 == contract
+}
+
+// ContrtLmt.
+pub fn enter_contract(
+    m: &mut [u8],
+    account: u64,
+    group: u64,
+    contract: u64,
+    limits: Limits,
+    j: Progress,
+) -> Progress
+    requires { ⌜ SoundMemory (now m) ⌝ }
+    ensures { λ r. ⌜ Passed (now (m .entry)) (contractEntry account group contract (fourOf limits) ∷ []) true j (now (m .exit)) r ⌝ }
+{
+    let placed = contract_in_place(m, group, contract);
+    let line = LimitLine::Default {
+        contract: contract,
+        figures: figures_of(limits),
+    };
+    let first = step(m, account, line, limits.there, j.first);
+    Progress {
+        right: both(j.right, placed),
+        first: first,
+    }
+}
+
+// IxmLmt.
+pub fn enter_instrument(
+    m: &mut [u8],
+    account: u64,
+    contract: u64,
+    instrument: u64,
+    limits: Limits,
+    j: Progress,
+) -> Progress
+    requires { ⌜ SoundMemory (now m) ⌝ }
+    ensures { λ r. ⌜ Passed (now (m .entry)) (instrumentEntry account contract instrument (fourOf limits) ∷ []) true j (now (m .exit)) r ⌝ }
+{
+    let placed = instrument_in_place(m, contract, instrument);
+    let line = LimitLine::Own {
+        instrument: instrument,
+        figures: figures_of(limits),
+    };
+    let first = step(m, account, line, limits.there, j.first);
+    Progress {
+        right: both(j.right, placed),
+        first: first,
+    }
+}
+
+// A count beside the number of children.
+pub fn counted(j: Progress, said: u64, found: u64) -> Progress
+    ensures { λ r. ⌜ r ≡ record { right = j .right && eqb said found; first = j .first } ⌝ }
+{
+    Progress {
+        right: both(j.right, said == found),
+        first: j.first,
+    }
+}
+
+fn both(a: bool, b: bool) -> bool
+    ensures { λ r. ⌜ r ≡ a && b ⌝ }
+{
+    if !a {
+        return false;
+    }
+    b
+}
