@@ -1,5 +1,5 @@
 -- What code hands on of a start tag: the element's number, its limits and its count of children, and how the element goes on.
-use Rattle.integers.specs.Basics.{ℕ, true, false, cond, List, Option, none, some, eqb, length}
+use Rattle.integers.specs.Basics.{ℕ, _≤_, true, false, cond, List, Option, none, some, eqb, length}
 use Rattle.grammar.specs.Grammar.{Numbers, Values, Value}
 use Rattle.grammar.specs.Reader.{Reading, nothing, upTo, tagAt}
 use Rattle.grammar.specs.declared.tags.Inside.{Inside}
@@ -25,6 +25,13 @@ ofTwo (some (l, (s, t))) = record { there = true; long = l; short = s; bid = 0; 
 abbrev pub ofFour : Option (Numbers four) → Limits
 ofFour none = noLimits
 ofFour (some (l, (s, (b, (o, t))))) = record { there = true; long = l; short = s; bid = b; offer = o }
+
+-- no figure has more than ten digits
+pub record Small (l : Limits) : Type 0 where
+  pub long : l .long ≤ 9999999999
+  pub short : l .short ≤ 9999999999
+  pub bid : l .bid ≤ 9999999999
+  pub offer : l .offer ≤ 9999999999
 
 -- limits at place p of a file that ends at e, and the place behind them: where they are missing, or the file ends with them, there are none
 abbrev pub limitsOr : {A : Type 0} → (Option A → Limits) → ℕ → ℕ → Reading A → LimitsAt

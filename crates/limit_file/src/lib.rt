@@ -54,7 +54,7 @@ fn name_at(s: &[u8], at: usize, l: &[u8]) -> usize
 }
 
 // An element with this tag, whose attributes end at `at`.
-fn start(s: &[u8], tag: Tag, at: usize) -> Start
+fn going_on(s: &[u8], tag: Tag, at: usize) -> Start
     requires { ⌜ at ≤ length (now s) ⌝ }
     ensures { λ r. ⌜ r ≡ going tag (insideAt (now (s .entry)) at) ⌝ }
 {
@@ -78,7 +78,7 @@ pub fn request_start(s: &[u8], at: usize) -> Start
         limits: no_limits(),
         children: accounts.value,
     };
-    start(s, tag, accounts.next)
+    going_on(s, tag, accounts.next)
 }
 
 // AcctLmt.
@@ -95,7 +95,7 @@ pub fn account_start(s: &[u8], at: usize) -> Start
         limits: no_limits(),
         children: groups.value,
     };
-    start(s, tag, groups.next)
+    going_on(s, tag, groups.next)
 }
 
 // EqvIxmLmt.
@@ -105,14 +105,15 @@ pub fn group_start(s: &[u8], at: usize) -> Start
 {
     let name = name_at(s, at, b"<EqvIxmLmt");
     let group = digits_at(s, opening_at(s, name, b"EqvIxm=\""));
-    let limits = two_at(s, group.next);
-    let contracts = digits_at(s, opening_at(s, limits.next, b"NContrtLmtCfg=\""));
+    let two = two_at(s, group.next);
+    let contracts = digits_at(s, opening_at(s, two.next, b"NContrtLmtCfg=\""));
+    let limits = two.limits;
     let tag = Tag {
         number: group.value,
-        limits: limits.limits,
+        limits: limits,
         children: contracts.value,
     };
-    start(s, tag, contracts.next)
+    going_on(s, tag, contracts.next)
 }
 
 // ContrtLmt.
@@ -122,14 +123,15 @@ pub fn contract_start(s: &[u8], at: usize) -> Start
 {
     let name = name_at(s, at, b"<ContrtLmt");
     let contract = digits_at(s, opening_at(s, name, b"Contrt=\""));
-    let limits = four_at(s, contract.next);
-    let instruments = digits_at(s, opening_at(s, limits.next, b"NIxmLmtCfg=\""));
+    let four = four_at(s, contract.next);
+    let instruments = digits_at(s, opening_at(s, four.next, b"NIxmLmtCfg=\""));
+    let limits = four.limits;
     let tag = Tag {
         number: contract.value,
-        limits: limits.limits,
+        limits: limits,
         children: instruments.value,
     };
-    start(s, tag, instruments.next)
+    going_on(s, tag, instruments.next)
 }
 
 // IxmLmt, whole: it has no children.
@@ -141,13 +143,14 @@ pub fn instrument_at(s: &[u8], at: usize) -> Leaf
     let asset = plain_at(s, opening_at(s, name, b"Asset=\""));
     let sort = plain_at(s, opening_at(s, asset, b"SecTyp=\""));
     let instrument = digits_at(s, opening_at(s, sort, b"Sym=\""));
-    let limits = four_at(s, instrument.next);
+    let four = four_at(s, instrument.next);
+    let limits = four.limits;
     let tag = Tag {
         number: instrument.value,
-        limits: limits.limits,
+        limits: limits,
         children: 0,
     };
-    match inside_at(s, limits.next) {
+    match inside_at(s, four.next) {
         Inside::Closed { next } => Leaf::Read { tag, next },
         Inside::Holds { at } => {
             if !literal_at(s, at, b"</IxmLmt>") {

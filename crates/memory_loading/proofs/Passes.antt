@@ -111,26 +111,26 @@ pub passed-on : {m n o : List ℕ} {es fs : List Entry} {c d : Bool} {i j k : Pr
 passed-on {m = m} {n = n} {o = o} {es = es} {fs = fs} {c = c} {d = d} {i = i} {j = j} {k = k} p q =
     record {
       right =
-        q .right
-        ∙ ap (λ r. j .right && (d && all (inPlace r) fs)) (p .kept .same-roster)
-        ∙ ap (λ b. b && (d && all (inPlace (rosterOf m)) fs)) (p .right)
-        ∙ right-on (i .right) c d (all (inPlace (rosterOf m)) es) (all (inPlace (rosterOf m)) fs)
-        ∙ ap (λ b. i .right && ((c && d) && b)) (sym (all-append (inPlace (rosterOf m)) es fs));
+          q .right
+          ∙ ap (λ r. j .right && (d && all (inPlace r) fs)) (p .kept .same-roster)
+          ∙ ap (λ b. b && (d && all (inPlace (rosterOf m)) fs)) (p .right)
+          ∙ right-on (i .right) c d (all (inPlace (rosterOf m)) es) (all (inPlace (rosterOf m)) fs)
+          ∙ ap (λ b. i .right && ((c && d) && b)) (sym (all-append (inPlace (rosterOf m)) es fs));
       first =
-        q .first
-        ∙ ap (λ mk. firstOf (numberOf (j .first)) (firstNo (questionsOf mk (rosterOf n) fs))) (p .kept .same-market)
-        ∙ ap (λ r. firstOf (numberOf (j .first)) (firstNo (questionsOf (marketOf m) r fs))) (p .kept .same-roster)
-        ∙ ap (λ a. firstOf a (asked fs)) (p .first)
-        ∙ first-assoc (numberOf (i .first)) (asked es) (asked fs)
-        ∙ ap (firstOf (numberOf (i .first))) (sym (first-append (marketOf m) (rosterOf m) es fs));
+          q .first
+          ∙ ap (λ mk. firstOf (numberOf (j .first)) (firstNo (questionsOf mk (rosterOf n) fs))) (p .kept .same-market)
+          ∙ ap (λ r. firstOf (numberOf (j .first)) (firstNo (questionsOf (marketOf m) r fs))) (p .kept .same-roster)
+          ∙ ap (λ a. firstOf a (asked fs)) (p .first)
+          ∙ first-assoc (numberOf (i .first)) (asked es) (asked fs)
+          ∙ ap (firstOf (numberOf (i .first))) (sym (first-append (marketOf m) (rosterOf m) es fs));
       all-worked =
-        λ z.
-        q .all-worked z
-        ∙ ap (λ l. allWorked l (eventsOf fs)) (p .all-worked (first-of-zero (numberOf (j .first)) _ (sym (q .first) ∙ z)))
-        ∙ sym (worked-append m (eventsOf es) (eventsOf fs))
-        ∙ ap (allWorked m) (sym (events-append es fs));
+          λ z.
+          q .all-worked z
+          ∙ ap (λ l. allWorked l (eventsOf fs)) (p .all-worked (first-of-zero (numberOf (j .first)) _ (sym (q .first) ∙ z)))
+          ∙ sym (worked-append m (eventsOf es) (eventsOf fs))
+          ∙ ap (allWorked m) (sym (events-append es fs));
       kept = kept-on (p .kept) (q .kept);
     }
   where
-  asked : List Entry → ℕ
-  asked l = firstNo (questionsOf (marketOf m) (rosterOf m) l)
+    asked : List Entry → ℕ
+    asked l = firstNo (questionsOf (marketOf m) (rosterOf m) l)

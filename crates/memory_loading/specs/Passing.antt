@@ -31,13 +31,6 @@ twoOf l = cond (l .there) (some (l .long, (l .short, tt))) none
 abbrev pub fourOf : Limits → Option (Numbers four)
 fourOf l = cond (l .there) (some (l .long, (l .short, (l .bid, (l .offer, tt))))) none
 
--- each is a figure that fits 63 bits
-pub record Small (l : Limits) : Type 0 where
-  pub long : l .long ≤ 9999999999
-  pub short : l .short ≤ 9999999999
-  pub bid : l .bid ≤ 9999999999
-  pub offer : l .offer ≤ 9999999999
-
 -- in an event's order, −1 throughout where there are none: such a line is asked as any other
 abbrev pub figuresOr : Option (Numbers four) → Figures
 figuresOr none = record { tci = negsuc 0; tvi = negsuc 0; lci = negsuc 0; lvi = negsuc 0 }

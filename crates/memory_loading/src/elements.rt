@@ -55,10 +55,13 @@ fn read_instrument(
 {
     match instrument_at(s, at) {
         Leaf::Nothing => Element::Nothing,
-        Leaf::Read { tag, next } => Element::Read {
-            next: next,
-            progress: enter_instrument(m, account, contract, tag.number, tag.limits, j),
-        },
+        Leaf::Read { tag, next } => {
+            let limits = tag.limits;
+            Element::Read {
+                next: next,
+                progress: enter_instrument(m, account, contract, tag.number, limits, j),
+            }
+        }
     }
 }
 
@@ -126,14 +129,16 @@ fn read_contract(
     match contract_start(s, at) {
         Start::Nothing => Element::Nothing,
         Start::Closed { tag, next } => {
-            let k = enter_contract(m, account, group, tag.number, tag.limits, j);
+            let limits = tag.limits;
+            let k = enter_contract(m, account, group, tag.number, limits, j);
             Element::Read {
                 next: next,
                 progress: counted(k, tag.children, 0),
             }
         }
         Start::Holds { tag, at } => {
-            let k = enter_contract(m, account, group, tag.number, tag.limits, j);
+            let limits = tag.limits;
+            let k = enter_contract(m, account, group, tag.number, limits, j);
             closed(
                 tag.children,
                 read_instruments(m, s, at, account, tag.number, k),
@@ -184,14 +189,16 @@ fn read_group(m: &mut [u8], s: &[u8], at: usize, account: u64, j: Progress) -> E
     match group_start(s, at) {
         Start::Nothing => Element::Nothing,
         Start::Closed { tag, next } => {
-            let k = enter_group(m, account, tag.number, tag.limits, j);
+            let limits = tag.limits;
+            let k = enter_group(m, account, tag.number, limits, j);
             Element::Read {
                 next: next,
                 progress: counted(k, tag.children, 0),
             }
         }
         Start::Holds { tag, at } => {
-            let k = enter_group(m, account, tag.number, tag.limits, j);
+            let limits = tag.limits;
+            let k = enter_group(m, account, tag.number, limits, j);
             closed(
                 tag.children,
                 read_contracts(m, s, at, account, tag.number, k),
