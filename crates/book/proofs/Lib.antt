@@ -3,6 +3,7 @@ pub mod MarketLaws
 pub mod Edges
 pub mod Rosters
 pub mod Written
+pub mod LimitBytes
 pub mod Listing
 pub mod Puts
 pub mod SetAgainExamples

@@ -16,18 +16,18 @@ use Rattle.book.specs.Sound.{LineFits, GroupLineFits, LinesFit}
 use Rattle.book.proofs.Tables.{at-each, betweenℤ-both}
 
 -- ---- figures that pass question 9
+pub four-true : (x y z t : Bool) → x && y && z && t ≡ true → (x ≡ true) × (y ≡ true) × (z ≡ true) × (t ≡ true)
+four-true x y z t e =
+    let h = both-true (x && y && z) t e in
+    let k = both-true (x && y) z (h .0) in
+    let l = both-true x y (k .0) in
+    (l .0, l .1, k .1, h .1)
+
 module _ (largest : ℕ) where
-  figure-fits : (z : ℤ) → isLimit largest z ≡ true → natAbs z ≤ largest
+  pub figure-fits : (z : ℤ) → isLimit largest z ≡ true → natAbs z ≤ largest
   figure-fits z e =
       let h = betweenℤ-both (pos 0) (pos largest) z e in
       omega (signed, magnitude-parts z)
-
-  four-true : (x y z t : Bool) → x && y && z && t ≡ true → (x ≡ true) × (y ≡ true) × (z ≡ true) × (t ≡ true)
-  four-true x y z t e =
-      let h = both-true (x && y && z) t e in
-      let k = both-true (x && y) z (h .0) in
-      let l = both-true x y (k .0) in
-      (l .0, l .1, k .1, h .1)
 
   pub line-fits : (f : Figures) → figuresOfLineFit largest f ≡ true → (l : Line) → lineOf f ≡ some l → LineFits largest l
   unfolding lineOf

@@ -12,6 +12,7 @@ pub mod SetAgain
 pub mod Demand3
 pub mod Contract
 pub mod EventBytes
+pub mod LimitBytes
 pub mod Positions
 pub mod Days
 pub mod Rosters

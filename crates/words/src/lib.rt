@@ -1,4 +1,5 @@
-// Little-endian words of 64 bits in lent bytes, and fields at any byte.
+// Little-endian words of 64 bits in lent bytes, fields at any byte, and bytes copied.
+pub mod copies;
 pub mod fields;
 pub mod signed;
 
