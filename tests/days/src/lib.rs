@@ -1,5 +1,5 @@
-//! Days for testing a limit gate: generators of rosters and events, a replay through two gates, and
-//! a brute-force check of demand 3.
+//! Days for testing a limit gate: generators of rosters, events and limits files, a replay through
+//! two gates, and a brute-force check of demand 3.
 //!
 //! A day is bytes only. [`kinds::kinds`] lists the generators, each fixed by its seed.
 
@@ -7,6 +7,7 @@ pub mod answers;
 pub mod class;
 pub mod demand3;
 pub mod faults;
+pub mod files;
 pub mod gate;
 pub mod kinds;
 pub mod opening;

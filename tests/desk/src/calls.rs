@@ -3,6 +3,8 @@
 extern "C" {
     fn desk_open(m: *mut u8, m_len: usize, roster: *const u8, roster_len: usize) -> u8;
     fn desk_event(m: *mut u8, m_len: usize, event: *const u8, event_len: usize) -> u8;
+    #[cfg(feature = "loading")]
+    fn desk_load_limits(m: *mut u8, m_len: usize, file: *const u8, file_len: usize) -> u8;
     fn desk_run(
         m: *mut u8,
         m_len: usize,
@@ -47,6 +49,8 @@ pub fn run(memory: &mut [u8], events: &[u8], answers: &mut [u8]) -> usize {
 pub struct Calls {
     pub open: fn(&mut [u8], &[u8]) -> u8,
     pub event: fn(&mut [u8], &[u8]) -> u8,
+    #[cfg(feature = "loading")]
+    pub load_limits: fn(&mut [u8], &[u8]) -> u8,
     pub instrument_position: fn(&mut [u8], u16, u16, &mut [i64; 3]) -> u8,
     pub group_position: fn(&mut [u8], u16, u16, &mut [i64; 2]) -> u8,
 }
@@ -68,6 +72,10 @@ pub const PROVED: Calls = Calls {
             event.as_ptr(),
             event.len(),
         )
+    },
+    #[cfg(feature = "loading")]
+    load_limits: |memory, file| unsafe {
+        desk_load_limits(memory.as_mut_ptr(), memory.len(), file.as_ptr(), file.len())
     },
     instrument_position: |memory, account, instrument, report| unsafe {
         desk_instrument_position(

@@ -115,6 +115,14 @@ impl ProvedDesk {
         answer
     }
 
+    #[cfg(feature = "loading")]
+    pub fn load_limits(&mut self, file: &[u8]) -> u8 {
+        let lent = self.lent();
+        let answer = (self.calls.load_limits)(&mut self.bytes.get_mut()[lent], file);
+        self.settle("a load", answer);
+        answer
+    }
+
     /// S, PCI and PVI, or the number of a refusal.
     pub fn instrument_position(
         &self,

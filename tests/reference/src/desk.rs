@@ -1,7 +1,8 @@
-//! The desk in lent memory: opening it, working events, reading positions.
+//! The desk in lent memory: opening it, working events, loading limits, reading positions.
 
 use crate::book::Book;
 use crate::event::Event;
+use crate::loading;
 use crate::numbered::Numbered;
 use crate::opening;
 use crate::positions;
@@ -111,6 +112,19 @@ impl Lent {
             desk.work(&Event::read(event).expect("an accepted event is well formed"));
         }
         number
+    }
+
+    /// Works the LIMIT events of a limits file, all or none. The answer is 0, or the number of the
+    /// refusal, which changes nothing.
+    pub fn load_limits(&mut self, file: &[u8]) -> u8 {
+        match loading::judge(self.reached_desk(), file) {
+            Ok(events) => {
+                let desk = self.desk.as_mut().expect("an accepted load has a desk");
+                events.iter().for_each(|event| desk.work(event));
+                0
+            }
+            Err(number) => number,
+        }
     }
 
     /// S, PCI and PVI, refused by 5, 7 and 8 in that order.

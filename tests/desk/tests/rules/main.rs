@@ -1,5 +1,5 @@
-//! Document 01's rules, the edges and the manual's examples among them, tried on the proved desk as
-//! they are on the second implementation.
+//! Document 01's rules, the edges and the manual's examples among them, and the rules of limits files,
+//! tried on the proved desk as they are on the second implementation.
 
 /// The memory that the rules are tried on.
 use desk::ProvedDesk as Lent;
@@ -21,6 +21,9 @@ mod faults;
 mod fields;
 #[path = "../../../reference/tests/rules/lines.rs"]
 mod lines;
+#[cfg(feature = "loading")]
+#[path = "../../../reference/tests/rules/loading/mod.rs"]
+mod loading;
 #[path = "../../../reference/tests/rules/minus_two.rs"]
 mod minus_two;
 #[path = "../../../reference/tests/rules/orders.rs"]

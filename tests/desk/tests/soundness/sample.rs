@@ -85,6 +85,8 @@ impl Sample {
             None => gate::reference(),
         };
         self.compare_positions(&what, &expected, random);
+        #[cfg(feature = "loading")]
+        self.compare_loads(&what, &mut expected);
         self.compare_answers(&what, &mut expected, random);
         broken
     }
@@ -98,6 +100,13 @@ impl Sample {
             let read = self.desk.group_position(account, item);
             assert_eq!(read, expected.group_position(account, item), "{what}");
         }
+    }
+
+    /// By a file of no bytes, which gets 5 or 25.
+    #[cfg(feature = "loading")]
+    fn compare_loads(&mut self, what: &str, expected: &mut Lent) {
+        let answer = self.desk.load_limits(&[]);
+        assert_eq!(answer, expected.load_limits(&[]), "{what}");
     }
 
     /// By an event of no bytes, which gets 5 or 6, and by one of the day's.

@@ -11,6 +11,7 @@ mod fields;
 mod fillings;
 mod lines;
 mod listing;
+mod loading;
 mod minus_two;
 mod orders;
 mod precedence;

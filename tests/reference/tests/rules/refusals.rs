@@ -1,4 +1,5 @@
-//! Each number, reached by a small event or roster; a refusal leaves everything as it was.
+//! Each number, reached by a small event, roster or limits file; a refusal leaves everything as it
+//! was.
 
 use crate::trial::{group_line, one_group, own_line, Trial, ONE, WIDE};
 use reference::{Lent, MEMORY};
@@ -26,6 +27,17 @@ fn desk() -> Trial {
     trial.accept(balance(1, 1, -3));
     trial.accept(new(BUY, 1, 1, 1, 10));
     trial
+}
+
+/// A limits file of group 1 of account 1, with this NAccts and this long limit.
+fn limits_file(count: &str, long: &str) -> Vec<u8> {
+    let file = format!(
+        r#"<FIXML><SetLimRqt BrkFrmId="" NAccts="{count}">
+        <AcctLmt Acct="1" AcctType="" NEqvIxmLmtCfg="1">
+        <EqvIxmLmt EqvIxm="1" LongLmt="{long}" ShortLmt="12" NContrtLmtCfg="0"/>
+        </AcctLmt></SetLimRqt></FIXML>"#
+    );
+    file.into_bytes()
 }
 
 #[test]
@@ -57,6 +69,8 @@ fn by_5_memory_is_short_or_holds_no_desk() {
         let mut lent = Lent::new(length);
         assert_eq!(lent.event(&cancel(1).bytes()), 5);
         assert_eq!(lent.event(&[]), 5);
+        assert_eq!(lent.load_limits(&limits_file("1", "11")), 5);
+        assert_eq!(lent.load_limits(&[]), 5);
         assert!(lent == Lent::new(length));
     }
 }
@@ -67,8 +81,11 @@ fn by_5_memory_is_short_though_it_holds_a_desk() {
     let mut short = Lent::holding(MEMORY - 1, held.clone());
     let before = short.clone();
     assert_eq!(short.event(&cancel(1).bytes()), 5);
+    assert_eq!(short.load_limits(&limits_file("1", "11")), 5);
     assert!(short == before);
-    assert_eq!(Lent::holding(MEMORY, held).event(&cancel(1).bytes()), 0);
+    let mut long_enough = Lent::holding(MEMORY, held);
+    assert_eq!(long_enough.event(&cancel(1).bytes()), 0);
+    assert_eq!(long_enough.load_limits(&limits_file("1", "11")), 0);
 }
 
 #[test]
@@ -205,6 +222,25 @@ fn by_24_pvc_past_lvc() {
     trial.accept(group_line(1, 1, WIDE, 9));
     trial.refuse(24, new(SELL, 1, 2, 2, 7));
     trial.accept(new(SELL, 1, 2, 2, 6));
+}
+
+#[test]
+fn by_25_no_limits_file() {
+    let mut trial = desk();
+    let before = trial.lent.clone();
+    assert_eq!(trial.lent.load_limits(&limits_file("1", "x")), 25);
+    assert_eq!(trial.lent.load_limits(&[]), 25);
+    assert!(trial.lent == before);
+}
+
+#[test]
+fn by_26_wrong_count() {
+    let mut trial = desk();
+    let before = trial.lent.clone();
+    assert_eq!(trial.lent.load_limits(&limits_file("2", "11")), 26);
+    assert!(trial.lent == before);
+    assert_eq!(trial.lent.load_limits(&limits_file("1", "11")), 0);
+    assert!(trial.lent != before);
 }
 
 #[test]

@@ -4,6 +4,9 @@ use crate::trial::{group_line, own_line, Trial, ONE};
 use reference::{Desk, GroupLine, Lent, Line, Order, MEMORY};
 use wire::{balance, cancel, new, BUY, SELL};
 
+/// A limits file of no accounts.
+const NOTHING: &[u8] = br#"<FIXML><SetLimRqt BrkFrmId="" NAccts="0"/></FIXML>"#;
+
 /// The largest position, and the largest limit.
 const MOST: i64 = 1_000_000_000;
 
@@ -17,8 +20,8 @@ fn desk() -> Desk {
     trial.lent.desk().unwrap().clone()
 }
 
-/// Whether the desk, changed so, is sound. If it is not, events and readers answer 5 and change
-/// nothing; if it is, none of them answers 5.
+/// Whether the desk, changed so, is sound. If it is not, events, loads and readers answer 5 and
+/// change nothing; if it is, none of them answers 5.
 #[track_caller]
 fn sound(change: impl FnOnce(&mut Desk)) -> bool {
     let mut desk = desk();
@@ -29,6 +32,7 @@ fn sound(change: impl FnOnce(&mut Desk)) -> bool {
     assert_eq!(lent.instrument_position(1, 1) != Err(5), sound);
     assert_eq!(lent.group_position(1, 1) != Err(5), sound);
     assert_eq!(lent.event(&cancel(9).bytes()) != 5, sound);
+    assert_eq!(lent.load_limits(NOTHING) != 5, sound);
     assert!(lent == before);
     sound
 }
