@@ -14,6 +14,7 @@ pub mod Complete
 pub mod Unique
 pub mod Roots
 pub mod Files
+pub mod Wholes
 pub mod Counting
 pub mod Values
 pub mod UpToQuote

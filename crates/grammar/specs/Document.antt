@@ -41,12 +41,18 @@ documentAt d s =
     literally s (rootCloses d) (pastBlanks s q) (λ r. upTo v (pastBlanks s r))))
 
 -- all of the file is read
-abbrev wholly : {A : Type 0} → List ℕ → Reading A → Option A
+abbrev pub wholly : {A : Type 0} → List ℕ → Reading A → Option A
 wholly s nothing = none
 wholly s (upTo v n) = cond (eqb n (length s)) (some v) none
 
 unfoldable pub fileOf : (d : Document) → List ℕ → Option (Value (d .element))
 fileOf d s = wholly s (documentAt d s)
+
+-- the file ends behind place p, with the root's end tag and blanks
+unfoldable pub fileEnds : Document → List ℕ → ℕ → Bool
+fileEnds d s p =
+    let q = pastBlanks s p in
+    literalAt s (rootCloses d) q && eqb (pastBlanks s (q + length (rootCloses d))) (length s)
 
 unfoldable pub documentReadable : Document → Bool
 documentReadable d =

@@ -44,7 +44,7 @@ going t (Closed n) = start.Closed t n
 going t (Holds n) = start.Holds t n
 going t Nothing = start.Nothing
 
-abbrev startOf : {A : Type 0} → List ℕ → (A → Tag) → Reading A → Start
+abbrev pub startOf : {A : Type 0} → List ℕ → (A → Tag) → Reading A → Start
 startOf s f nothing = start.Nothing
 startOf s f (upTo v n) = going (f v) (insideAt s n)
 
