@@ -20,3 +20,6 @@ pub mod Values
 pub mod UpToQuote
 pub mod Comparing
 pub mod Openings
+pub mod Ends
+pub mod Straight
+pub mod SmallNumbers

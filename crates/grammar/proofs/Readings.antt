@@ -10,6 +10,11 @@ not-read e = absurd (let z : _≡_ {A = ℕ} 0 1 = cc in omega arith)
 pub read-same : {A : Type 0} {v w : A} {m n : ℕ} → upTo v m ≡ upTo w n → (v ≡ w) × (m ≡ n)
 read-same e = (cc, cc)
 
+-- the two ways in which a reading comes out
+pub by-reading : {A P : Type 0} (r : Reading A) → (r ≡ nothing → P) → ((v : A) (n : ℕ) → r ≡ upTo v n → P) → P
+by-reading nothing none found = none refl
+by-reading (upTo v n) none found = found v n refl
+
 -- an end tag alone, as the reader of an element with no children has it
 abbrev pub endAt : List ℕ → List ℕ → ℕ → Reading (Unit {0})
 endAt s l p = cond (literalAt s l p) (upTo tt (p + length l)) nothing

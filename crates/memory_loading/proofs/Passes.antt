@@ -1,5 +1,5 @@
 -- Entries passed one after the other: what two parts of a file do is what the whole does.
-use Rattle.integers.specs.Basics.{ℕ, zero, suc, _≤_, _≡_, refl, _∙_, sym, ap, _≢_, Bool, true, false, _&&_, cond, List, [], _∷_, _++_, eqb, eqb-true, eqb-false}
+use Rattle.integers.specs.Basics.{ℕ, zero, suc, _≡_, refl, _∙_, sym, ap, Bool, true, false, _&&_, List, [], _∷_, _++_, arith}
 use mathlib.Core.List.{append-assoc}
 use Rattle.limits.specs.Answers.{numberOf}
 use Rattle.limits.specs.Questions.{Question, firstNo}
@@ -81,7 +81,7 @@ module _ (mk : Market) (r : Roster) where
       ∙ sym (ap (λ a. firstOf a (firstNo (questionsOf mk r ys))) (asked-first x xs))
 
 -- ---- entries
-and-true : (a : Bool) → a ≡ (a && true)
+pub and-true : (a : Bool) → a ≡ (a && true)
 and-true true = refl
 and-true false = refl
 
@@ -105,6 +105,10 @@ right-on true true d true y = refl
 first-of-zero : (a b : ℕ) → firstOf a b ≡ 0 → a ≡ 0
 first-of-zero zero b e = refl
 first-of-zero (suc a) b e = e
+
+pub second-of-zero : (a b : ℕ) → firstOf a b ≡ 0 → b ≡ 0
+second-of-zero zero b e = e
+second-of-zero (suc a) b e = omega (arith, e)
 
 pub passed-on : {m n o : List ℕ} {es fs : List Entry} {c d : Bool} {i j k : Progress} → Passed m es c i n j → Passed n fs d j o k
     → Passed m (es ++ fs) (c && d) i o k

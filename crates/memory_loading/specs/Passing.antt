@@ -46,6 +46,10 @@ abbrev pub firstOf : ℕ → ℕ → ℕ
 firstOf zero b = b
 firstOf (suc a) b = suc a
 
+-- and whether a count is right besides
+abbrev pub withCount : Progress → Bool → Progress
+withCount j c = record { right = j .right && c; first = j .first }
+
 -- n is a memory of the desk in m: sound, of the same market and roster, and no byte behind the desk is another
 pub record Kept (m n : List ℕ) : Type 0 where
   pub sound : SoundMemory n
@@ -71,6 +75,11 @@ ChildrenRead s e f c name p m j n children.Nothing = (manyAt s (elementAt s e) (
 ChildrenRead s e f c name p m j n (children.Read q count k) =
     (vs : List (Value e)) × (manyAt s (elementAt s e) (closing name) (suc (length s)) p ≡ upTo vs q) × (count ≡ length vs)
     × Passed m (entriesOf f vs) (all c vs) j n k
+
+-- an element that says how many it holds, by what it holds
+abbrev pub closedBy : ℕ → Children → ReadElement
+closedBy said children.Nothing = element.Nothing
+closedBy said (children.Read q count k) = element.Read q (withCount k (eqb said count))
 
 abbrev pub beginning : Progress
 beginning = record { right = true; first = Accepted }

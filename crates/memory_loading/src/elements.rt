@@ -6,7 +6,7 @@ ghost use Rattle.limit_file.specs.Layout.{instrument, contract, group, account,
 ghost use Rattle.memory_soundness.specs.SoundMemory.{SoundMemory};
 ghost use Rattle.memory_loading.specs.Entries.{instrumentEntries, contractEntries, groupEntries, accountEntries, entries};
 ghost use Rattle.memory_loading.specs.Entries.{instrumentCounts, contractCounts, groupCounts, accountCounts, countsRight};
-ghost use Rattle.memory_loading.specs.Passing.{ElementRead, ChildrenRead};
+ghost use Rattle.memory_loading.specs.Passing.{beginning, closedBy, ElementRead, ChildrenRead};
 use crate::progress::Progress;
 use crate::progress::counted;
 use crate::progress::enter_account;
@@ -99,7 +99,9 @@ fn read_instruments(
 }
 
 // An element that says how many children it holds, and these.
-fn closed(said: u64, held: Children) -> Element {
+fn closed(said: u64, held: Children) -> Element
+    ensures { λ r. ⌜ r ≡ closedBy said held ⌝ }
+{
     match held {
         Children::Nothing => Element::Nothing,
         Children::Read {

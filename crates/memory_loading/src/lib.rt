@@ -5,7 +5,7 @@ pub mod progress;
 ghost use mathlib.Core.Path.{_≡_};
 ghost use Prim.Native.Nat.{_≤_};
 ghost use lib.ListN.{length};
-ghost use Rattle.grammar.specs.Document.{fileStarts};
+ghost use Rattle.grammar.specs.Document.{fileStarts, fileEnds};
 ghost use Rattle.limit_file.specs.Layout.{limitFile};
 ghost use Rattle.memory_soundness.specs.SoundMemory.{SoundMemory};
 ghost use Rattle.memory_loading.specs.Passing.{Loaded};
@@ -25,8 +25,11 @@ fn file_starts(s: &[u8]) -> usize
     0
 }
 
-// Is the rest of the file, from `at` on, blanks, the root's end tag and blanks?
-fn file_ends(s: &[u8], at: usize) -> bool {
+// Does the file end behind `at`, with blanks, the root's end tag and blanks?
+fn file_ends(s: &[u8], at: usize) -> bool
+    requires { ⌜ at ≤ length (now s) ⌝ }
+    ensures { λ r. ⌜ r ≡ fileEnds limitFile (now (s .entry)) at ⌝ }
+{
     let p = past_blanks(s, at);
     if !literal_at(s, p, b"</FIXML>") {
         return false;

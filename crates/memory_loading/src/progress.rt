@@ -1,18 +1,19 @@
 // What a load has found so far, and how an entry of the file moves it on.
 ghost use mathlib.Core.Path.{_≡_};
-ghost use mathlib.Core.Bool.{true, false, not, _&&_, cond};
+ghost use mathlib.Core.Bool.{true, not, _&&_, _||_, cond};
 ghost use mathlib.Core.List.{_∷_, []};
 ghost use lib.Dec.{eqb};
 ghost use Rattle.book.specs.declared.Setting.the-variants.{Limit};
 ghost use Rattle.book.specs.declared.Event.the-variants.{Set};
+ghost use Rattle.book.specs.Decoding.{between};
 ghost use Rattle.limits.specs.Answers.{numberOf};
+ghost use Rattle.limit_file.specs.Starts.{Small};
 ghost use Rattle.memory_layout.specs.View.{rosterOf};
 ghost use Rattle.memory_layout.specs.Judged.{judged};
 ghost use Rattle.memory_soundness.specs.SoundMemory.{SoundMemory};
 ghost use Rattle.memory_working.specs.Working.{worked};
-ghost use Rattle.memory_loading.specs.Entries.{Entry, accountEntry, groupEntry, contractEntry, instrumentEntry};
-ghost use Rattle.memory_loading.specs.Loading.{inPlace};
-ghost use Rattle.memory_loading.specs.Passing.{firstOf, twoOf, fourOf, Passed};
+ghost use Rattle.memory_loading.specs.Entries.{accountEntry, groupEntry, contractEntry, instrumentEntry};
+ghost use Rattle.memory_loading.specs.Passing.{firstOf, twoOf, fourOf, figuresOr, groupLineOr, withCount, Passed};
 use book::Figures;
 use book::LimitLine;
 use limit_file::figures::Limits;
@@ -33,6 +34,7 @@ pub struct Progress {
 
 // The figures of a contract's or an instrument's line in an event's order; −1 throughout where it has no limits.
 fn figures_of(l: Limits) -> Figures
+    requires { ⌜ Small l ⌝ }
     ensures { λ r. ⌜ r ≡ figuresOr (fourOf l) ⌝ }
 {
     if !l.there {
@@ -53,6 +55,7 @@ fn figures_of(l: Limits) -> Figures
 
 // The line of a group, likewise.
 fn group_line(group: u64, l: Limits) -> LimitLine
+    requires { ⌜ Small l ⌝ }
     ensures { λ r. ⌜ r ≡ groupLineOr group (twoOf l) ⌝ }
 {
     if !l.there {
@@ -94,7 +97,8 @@ pub fn enter_account(m: &[u8], account: u64, j: Progress) -> Progress
     requires { ⌜ SoundMemory (now m) ⌝ }
     ensures { λ r. ⌜ Passed (now (m .entry)) (accountEntry account ∷ []) true j (now (m .entry)) r ⌝ }
 {
-    match j.first {
+    let first = j.first;
+    match first {
         Answer::Accepted => {
             if !account_known(m, account) {
                 return Progress {
@@ -110,11 +114,12 @@ pub fn enter_account(m: &[u8], account: u64, j: Progress) -> Progress
 
 // EqvIxmLmt.
 pub fn enter_group(m: &mut [u8], account: u64, group: u64, limits: Limits, j: Progress) -> Progress
-    requires { ⌜ SoundMemory (now m) ⌝ }
+    requires { ⌜ SoundMemory (now m) × Small limits ⌝ }
     ensures { λ r. ⌜ Passed (now (m .entry)) (groupEntry account group (twoOf limits) ∷ []) true j (now (m .exit)) r ⌝ }
 {
     let line = group_line(group, limits);
-    let first = step(m, account, line, limits.there, j.first);
+    let before = j.first;
+    let first = step(m, account, line, limits.there, before);
     Progress {
         right: j.right,
         first: first,
@@ -152,7 +157,7 @@ pub fn enter_contract(
     limits: Limits,
     j: Progress,
 ) -> Progress
-    requires { ⌜ SoundMemory (now m) ⌝ }
+    requires { ⌜ SoundMemory (now m) × Small limits ⌝ }
     ensures { λ r. ⌜ Passed (now (m .entry)) (contractEntry account group contract (fourOf limits) ∷ []) true j (now (m .exit)) r ⌝ }
 {
     let placed = contract_in_place(m, group, contract);
@@ -160,7 +165,8 @@ pub fn enter_contract(
         contract: contract,
         figures: figures_of(limits),
     };
-    let first = step(m, account, line, limits.there, j.first);
+    let before = j.first;
+    let first = step(m, account, line, limits.there, before);
     Progress {
         right: both(j.right, placed),
         first: first,
@@ -176,7 +182,7 @@ pub fn enter_instrument(
     limits: Limits,
     j: Progress,
 ) -> Progress
-    requires { ⌜ SoundMemory (now m) ⌝ }
+    requires { ⌜ SoundMemory (now m) × Small limits ⌝ }
     ensures { λ r. ⌜ Passed (now (m .entry)) (instrumentEntry account contract instrument (fourOf limits) ∷ []) true j (now (m .exit)) r ⌝ }
 {
     let placed = instrument_in_place(m, contract, instrument);
@@ -184,7 +190,8 @@ pub fn enter_instrument(
         instrument: instrument,
         figures: figures_of(limits),
     };
-    let first = step(m, account, line, limits.there, j.first);
+    let before = j.first;
+    let first = step(m, account, line, limits.there, before);
     Progress {
         right: both(j.right, placed),
         first: first,
@@ -193,11 +200,12 @@ pub fn enter_instrument(
 
 // A count beside the number of children.
 pub fn counted(j: Progress, said: u64, found: u64) -> Progress
-    ensures { λ r. ⌜ r ≡ record { right = j .right && eqb said found; first = j .first } ⌝ }
+    ensures { λ r. ⌜ r ≡ withCount j (eqb said found) ⌝ }
 {
+    let first = j.first;
     Progress {
         right: both(j.right, said == found),
-        first: j.first,
+        first: first,
     }
 }
 
