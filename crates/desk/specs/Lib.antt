@@ -1,3 +1,4 @@
 pub mod Step
 pub mod Days
 pub mod Run
+pub mod Load

@@ -1,5 +1,5 @@
 -- A file by its pieces: the root's start tag, the element in it, and what ends the file.
-use Rattle.integers.specs.Basics.{ℕ, _+_, _≡_, refl, Bool, true, false, _&&_, cond, List, Option, none, some, eqb, length}
+use Rattle.integers.specs.Basics.{ℕ, _+_, _≡_, refl, Bool, true, false, _&&_, cond, List, none, some, eqb, length}
 use Rattle.grammar.specs.Grammar.{Value}
 use Rattle.grammar.specs.Reader.{nothing, upTo, literalAt, pastBlanks, elementAt}
 use Rattle.grammar.specs.Document.{Document, rootOpens, rootCloses, fileStarts, documentAt, wholly, fileOf, fileEnds}
@@ -25,7 +25,7 @@ module _ (d : Document) (s : List ℕ) where
   ended v true n = refl
   ended v false n = refl
 
-  pub by-end : {v : Value (d .element)} {q : ℕ} → literalAt s (rootOpens d) rootPlace ≡ true → elementAt s (d .element) elementPlace ≡ upTo v q
-      → fileOf d s ≡ cond (fileEnds d s q) (some v) none
+  pub by-end : {v : Value (d .element)} {q : ℕ} → literalAt s (rootOpens d) rootPlace ≡ true
+      → elementAt s (d .element) elementPlace ≡ upTo v q → fileOf d s ≡ cond (fileEnds d s q) (some v) none
   unfolding fileOf documentAt fileEnds
   by-end {v = v} {q = q} t h = rw (t, h) (ended v (literalAt s (rootCloses d) (pastBlanks s q)) _)

@@ -1,7 +1,7 @@
 -- The bytes of a file: how a text stands in them, the classes that a layout speaks of, and pieces one after the other.
 use Prim.Native.Char.{code}
 use Prim.Native.String.{String, [] as empty, _∷_ as _before_}
-use Rattle.integers.specs.Basics.{ℕ, zero, suc, _+_, _*_, _-_, _≡_, Bool, true, false, not, _&&_, _||_, List, [], _∷_, _++_, leb, eqb}
+use Rattle.integers.specs.Basics.{ℕ, _+_, _*_, _-_, _≡_, Bool, true, not, _&&_, _||_, List, [], _∷_, _++_, leb, eqb}
 
 -- a text in ASCII
 abbrev pub bytes : String → List ℕ

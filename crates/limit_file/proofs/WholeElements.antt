@@ -1,9 +1,9 @@
 -- An element by its start tag and how it goes on: whole where it closes at once, else with the children that are read behind it.
 use Prim.Native.String.{String}
-use Rattle.integers.specs.Basics.{ℕ, suc, _+_, _≡_, refl, _∙_, sym, ap, subst, Bool, true, false, cond, List, [], _∷_, length}
+use Rattle.integers.specs.Basics.{ℕ, suc, _≡_, refl, _∙_, sym, ap, subst, Bool, true, false, cond, List, [], length}
 use Rattle.grammar.specs.Bytes.{bytes}
-use Rattle.grammar.specs.Grammar.{Attribute, Element, holding, Values, Value}
-use Rattle.grammar.specs.Reader.{Reading, nothing, upTo, next, with, literalAt, pastBlanks, tagAt, childrenAt, manyAt, closing, elementAt}
+use Rattle.grammar.specs.Grammar.{Attribute, Element, holding, Values}
+use Rattle.grammar.specs.Reader.{Reading, nothing, upTo, next, with, literalAt, tagAt, childrenAt, manyAt, closing, elementAt}
 use Rattle.grammar.specs.declared.tags.Inside.{Inside}
 use Rattle.grammar.specs.declared.tags.Inside.the-variants as inside
 use Rattle.grammar.specs.Inside.{insideAt}
@@ -45,7 +45,8 @@ module _ (s : List ℕ) (name : String) (l : List Attribute) (c : Element) (f : 
       ap (λ r. next r (λ v q. with (λ vs. (v, vs)) (childrenAt s (elementAt s c) name q))) read
       ∙ ap (with (λ vs. (v, vs))) (children-inside s (elementAt s c) name q ∙ ap (childrenFrom s (elementAt s c) name) goes)
 
-  by-inside : (v : Values l) (q : ℕ) (i : Inside) → tagAt s name l p ≡ upTo v q → insideAt s q ≡ i → StartSays s name l c f p (going (f v) i)
+  by-inside : (v : Values l) (q : ℕ) (i : Inside) → tagAt s name l p ≡ upTo v q → insideAt s q ≡ i
+      → StartSays s name l c f p (going (f v) i)
   unfolding childrenFrom
   by-inside v q (inside.Closed n) read goes = (v, refl, by-tag v q (inside.Closed n) read goes)
   by-inside v q (inside.Holds n) read goes = (v, refl, by-tag v q (inside.Holds n) read goes)

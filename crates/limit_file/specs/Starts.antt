@@ -1,5 +1,5 @@
 -- What code hands on of a start tag: the element's number, its limits and its count of children, and how the element goes on.
-use Rattle.integers.specs.Basics.{ℕ, _≤_, true, false, cond, List, Option, none, some, eqb, length}
+use Rattle.integers.specs.Basics.{ℕ, _≤_, true, false, cond, List, Option, none, some, eqb}
 use Rattle.grammar.specs.Grammar.{Numbers, Values, Value}
 use Rattle.grammar.specs.Reader.{Reading, nothing, upTo, tagAt}
 use Rattle.grammar.specs.declared.tags.Inside.{Inside}

@@ -1,6 +1,7 @@
--- An entry as the judge of LIMIT and its worker meet it: a line with its limits, or with −1 throughout where it has none, and so asked 7 and 8
--- alone.
-use Rattle.integers.specs.Basics.{ℕ, zero, suc, _≡_, refl, _∙_, sym, ap, subst, Bool, true, false, _&&_, cond, List, [], _∷_, Option, none, some, eqb}
+-- An entry as the judge of LIMIT and its worker meet it: a line with its limits, or with −1 throughout where it has none, which
+-- is then asked 7 and 8 alone.
+use Rattle.integers.specs.Basics.{ℕ, _≡_, refl, _∙_, sym, ap, subst, Bool, true, false, _&&_, cond, List, [], _∷_, Option, none, some}
+use Rattle.integers.specs.Basics.{eqb}
 use Rattle.integers.specs.Basics.{true≢false, false≢true, eqb-true}
 use Rattle.words.specs.Bytes.{Bytes}
 use Rattle.limits.specs.Answers.{numberOf}
@@ -8,14 +9,14 @@ use Rattle.limits.specs.Questions.{firstNo}
 use Rattle.limits.specs.Lines.{isSet}
 use Rattle.limits.proofs.Answers.{both-true}
 use Rattle.book.specs.declared.LimitLine.{LimitLine}
-use Rattle.book.specs.declared.LimitLine.the-variants.{Own, Default, OfGroup}
+use Rattle.book.specs.declared.LimitLine.the-variants.{Own, Default}
 use Rattle.book.specs.declared.Setting.the-variants.{Limit}
-use Rattle.book.specs.declared.Event.{Event}
 use Rattle.book.specs.declared.Event.the-variants.{Set}
 use Rattle.book.specs.Books.{unsets}
 use Rattle.book.specs.Decoding.{between}
 use Rattle.book.specs.Settings.{limitedItem}
-use Rattle.book.specs.Table.{q, isEvent, accountKnown, isListed, itemKnown, lineFits, figuresFit, whereSome, notYetTrading, idOpen, quantityFits}
+use Rattle.book.specs.Table.{q, isEvent, accountKnown, isListed, itemKnown, lineFits, figuresFit, whereSome, notYetTrading, idOpen}
+use Rattle.book.specs.Table.{quantityFits}
 use Rattle.book.specs.Table.{entered, idFree, placeFree, questionsBefore, limitQuestions, answer}
 use Rattle.grammar.specs.Grammar.{Numbers}
 use Rattle.limit_file.specs.Layout.{two, four}
@@ -26,16 +27,18 @@ use Rattle.memory_working.specs.Working.{worked}
 use Rattle.memory_working.proofs.Writes.{length-worked, later-worked, roster-worked, market-worked}
 use Rattle.memory_working.proofs.SoundWorked.{sound-worked}
 use Rattle.memory_loading.specs.declared.progress.Progress.{Progress}
-use Rattle.memory_loading.specs.Entries.{Entry, accountEntry, groupEntry, contractEntry, instrumentEntry, all}
-use Rattle.memory_loading.specs.Loading.{entryAccount, entryItem, entryLine, inPlace, entryQuestions, questionsOf, limitOf, eventsOf, allWorked}
+use Rattle.memory_loading.specs.Entries.{Entry, groupEntry, contractEntry, instrumentEntry, all}
+use Rattle.memory_loading.specs.Loading.{entryAccount, entryItem, entryLine, inPlace, entryQuestions, questionsOf, eachLimited}
+use Rattle.memory_loading.specs.Loading.{eventsOf, allWorked}
 use Rattle.memory_loading.specs.Passing.{firstOf, figuresOr, groupLineOr, Kept, Passed}
 use Rattle.memory_loading.proofs.Passes.{kept-self, and-true, second-of-zero}
 
 -- a LIMIT is asked 7, 8 and 9 alone
-limit-answer : (m : List ℕ) (a : ℕ) (l : LimitLine) (x y z : Bool) → between 1 (rosterOf m .accounts) a ≡ x
+pub limit-answer : (m : List ℕ) (a : ℕ) (l : LimitLine) (x y z : Bool) → between 1 (rosterOf m .accounts) a ≡ x
     → isListed (rosterOf m) (limitedItem l) ≡ y → lineFits (marketOf m .largest) l ≡ z
     → judged m (Set (Limit a l)) ≡ firstNo (q 7 x ∷ q 8 y ∷ q 9 z ∷ [])
-unfolding judged answer questionsBefore limitQuestions firstNo isEvent accountKnown itemKnown figuresFit notYetTrading idOpen quantityFits entered idFree placeFree
+unfolding judged answer questionsBefore limitQuestions firstNo isEvent accountKnown itemKnown figuresFit notYetTrading idOpen quantityFits
+    entered idFree placeFree
 limit-answer m a l x y z d e f = rw (d, e, f)
 
 -- the line that stands for an entry, and whether it is to be set
@@ -70,7 +73,7 @@ module _ (m : List ℕ) {e : Entry} {l : LimitLine} {sets : Bool} (stands : Stan
 
   -- the memory where the entry is accepted, and what it is by the entry's events
   events-worked : (b : Bool) → sets ≡ b → cond b (worked m (Set (Limit (entryAccount e) l))) m ≡ allWorked m (eventsOf (e ∷ []))
-  unfolding eventsOf allWorked
+  unfolding eachLimited allWorked
   events-worked true s = rw (stands .set s)
   events-worked false s = rw (stands .unset s)
 

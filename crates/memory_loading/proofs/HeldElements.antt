@@ -1,19 +1,21 @@
 -- The elements that another holds, read one after the other: how far a loop has come, and each of its ways on.
 use Prim.Native.String.{String}
-use Rattle.integers.specs.Basics.{ℕ, zero, suc, _+_, _-_, _≤_, _<_, _≡_, refl, _∙_, sym, ap, subst, Bool, true, false, _&&_, cond, List, [], _∷_, _++_}
+use Rattle.integers.specs.Basics.{ℕ, suc, _+_, _-_, _≤_, _<_, _≡_, refl, _∙_, sym, ap, subst, Bool, true, false, _&&_, List, [], _∷_}
+use Rattle.integers.specs.Basics.{_++_}
 use Rattle.integers.specs.Basics.{length, arith}
 use lib.ListN.{length-append}
 use mathlib.Core.List.{append-assoc, append-nil}
 use Rattle.grammar.specs.Grammar.{Element, Value}
-use Rattle.grammar.specs.Reader.{Reading, nothing, upTo, next, with, literalAt, pastBlanks, manyAt, closing, elementAt}
+use Rattle.grammar.specs.Reader.{Reading, nothing, upTo, with, literalAt, pastBlanks, manyAt, closing, elementAt}
 use Rattle.grammar.proofs.Spans.{past-least, past-within}
-use Rattle.grammar.proofs.Within.{element-within}
+use Rattle.grammar.proofs.Within.{literal-within, element-within}
 use Rattle.memory_soundness.specs.SoundMemory.{SoundMemory}
 use Rattle.memory_loading.specs.declared.progress.Progress.{Progress}
+use Rattle.memory_loading.specs.declared.elements.Element.{Element as ReadElement}
 use Rattle.memory_loading.specs.declared.elements.Element.the-variants as element
 use Rattle.memory_loading.specs.declared.elements.Children.the-variants as children
 use Rattle.memory_loading.specs.Entries.{Entry, entriesOf, all}
-use Rattle.memory_loading.specs.Passing.{Kept, Passed, ElementRead, ChildrenRead}
+use Rattle.memory_loading.specs.Passing.{Passed, ElementRead, ChildrenRead}
 use Rattle.memory_loading.proofs.Passes.{and-true, all-append, kept-on, passed-none, passed-on}
 
 entries-append : {A : Type 0} (f : A → List Entry) (xs ys : List A) → entriesOf f (xs ++ ys) ≡ entriesOf f xs ++ entriesOf f ys
@@ -58,10 +60,11 @@ with-same : {A B : Type 0} (f g : A → B) → ((x : A) → f x ≡ g x) → (r 
 with-same f g same nothing = refl
 with-same f g same (upTo v n) = ap (λ x. upTo x n) (same v)
 
-module _ (s : List ℕ) (e : Element) (f : Value e → List Entry) (c : Value e → Bool) (name : String) where
-  abbrev readMany : ℕ → ℕ → Reading (List (Value e))
-  readMany n p = manyAt s (elementAt s e) (closing name) n p
+-- n of them at most, from place p on
+abbrev readMany : (s : List ℕ) (e : Element) → String → ℕ → ℕ → Reading (List (Value e))
+readMany s e name n p = manyAt s (elementAt s e) (closing name) n p
 
+module _ (s : List ℕ) (e : Element) (f : Value e → List Entry) (c : Value e → Bool) (name : String) where
   -- from place `start` on, at memory m and progress j, a loop has come to place p, with n elements, at memory o and progress k
   pub record Held (start : ℕ) (m : List ℕ) (j : Progress) (p n : ℕ) (o : List ℕ) (k : Progress) : Type 0 where
     pub elements : List (Value e)
@@ -70,13 +73,12 @@ module _ (s : List ℕ) (e : Element) (f : Value e → List Entry) (c : Value e 
     pub count : n ≡ length elements
     pub few : n ≤ p
     pub enough : length s < p + left
-    pub rest : manyAt s (elementAt s e) (closing name) (suc (length s)) start
-        ≡ with (λ vs. elements ++ vs) (manyAt s (elementAt s e) (closing name) left p)
+    pub rest : readMany s e name (suc (length s)) start ≡ with (λ vs. elements ++ vs) (readMany s e name left p)
     pub passed : Passed m (entriesOf f elements) (all c elements) j o k
 
   pub held-none : {start : ℕ} {m : List ℕ} {j : Progress} → start ≤ length s → SoundMemory m → Held start m j start 0 m j
   unfolding entriesOf all
-  held-none {start = start} place held =
+  held-none {start = start} place sound =
       record {
         elements = [];
         left = suc (length s);
@@ -84,60 +86,87 @@ module _ (s : List ℕ) (e : Element) (f : Value e → List Entry) (c : Value e 
         count = refl;
         few = omega arith;
         enough = omega arith;
-        rest = with-itself (readMany (suc (length s)) start);
-        passed = passed-none held;
+        rest = with-itself (readMany s e name (suc (length s)) start);
+        passed = passed-none sound;
       }
 
-  module _ {start : ℕ} {m : List ℕ} {j : Progress} {p n : ℕ} {o : List ℕ} {k : Progress} (h : Held start m j p n o k) where
-    -- a turn more is left
-    turn : readMany (h .left) p ≡ readMany (suc (h .left - 1)) p
-    turn =
-        let place = h .place in
-        let enough = h .enough in
-        let more : h .left ≡ suc (h .left - 1) = omega arith in
-        ap (λ l. manyAt s (elementAt s e) (closing name) l p) more
+module _ {s : List ℕ} {e : Element} {f : Value e → List Entry} {c : Value e → Bool} {name : String} {start : ℕ} {m : List ℕ} {j : Progress}
+    {p n : ℕ} {o : List ℕ} {k : Progress} (h : Held s e f c name start m j p n o k) where
+  -- a turn more is left
+  turn : readMany s e name (h .left) p ≡ readMany s e name (suc (h .left - 1)) p
+  turn =
+      let place = h .place in
+      let enough = h .enough in
+      let more : h .left ≡ suc (h .left - 1) = omega arith in
+      ap (λ l. readMany s e name l p) more
 
-    -- the whole by what is read from here
-    whole : {r : Reading (List (Value e))} → readMany (suc (h .left - 1)) p ≡ r
-        → manyAt s (elementAt s e) (closing name) (suc (length s)) start ≡ with (λ vs. h .elements ++ vs) r
-    whole is = h .rest ∙ ap (with (λ vs. h .elements ++ vs)) (turn ∙ is)
+  -- the whole by what is read from here
+  whole : {r : Reading (List (Value e))} → readMany s e name (suc (h .left - 1)) p ≡ r
+      → readMany s e name (suc (length s)) start ≡ with (λ vs. h .elements ++ vs) r
+  whole is = h .rest ∙ ap (with (λ vs. h .elements ++ vs)) (turn ∙ is)
 
-    pub held-done : literalAt s (closing name) p ≡ true → ChildrenRead s e f c name start m j o (children.Read (p + length (closing name)) n k)
-    held-done t = (
+  -- b was answered to the question whether the end tag stands here
+  module _ {b : Bool} (told : b ≡ literalAt s (closing name) p) where
+    answered : {d : Bool} → b ≡ d → literalAt s (closing name) p ≡ d
+    answered is = sym told ∙ is
+
+    pub held-room : b ≡ true → p + length (closing name) ≤ length s
+    held-room ends = literal-within s (closing name) p (h .place) (answered ends)
+
+    pub held-done : b ≡ true → ChildrenRead s e f c name start m j o (children.Read (p + length (closing name)) n k)
+    held-done ends = (
       h .elements,
-      whole (many-done s (elementAt s e) (closing name) (h .left - 1) p t)
+      whole (many-done s (elementAt s e) (closing name) (h .left - 1) p (answered ends))
           ∙ ap (λ vs. upTo vs (p + length (closing name))) (append-nil (h .elements)),
       h .count,
       h .passed,
     )
 
-    pub held-stuck : {o′ : List ℕ} → literalAt s (closing name) p ≡ false → ElementRead s e f c p o k o′ element.Nothing
-        → ChildrenRead s e f c name start m j o′ children.Nothing
-    held-stuck t (none, kept) =
-        (whole (many-stuck s (elementAt s e) (closing name) (h .left - 1) p t none), kept-on (h .passed .kept) kept)
+    -- an element is read here, or none
+    module _ (goes-on : b ≡ false) (o′ : List ℕ) (r : ReadElement) (read : ElementRead s e f c p o k o′ r) where
+      reads : {g : ReadElement} → r ≡ g → ElementRead s e f c p o k o′ g
+      reads d = subst (ElementRead s e f c p o k o′) d read
 
-    pub held-more : {o′ : List ℕ} {q : ℕ} {k′ : Progress} → literalAt s (closing name) p ≡ false
-        → ElementRead s e f c p o k o′ (element.Read q k′) → Held start m j (pastBlanks s q) (n + 1) o′ k′
-    held-more {o′ = o′} {q = q} {k′ = k′} t (v, read, passed) =
-        let behind = element-within s e p (h .place) read in
-        let place = h .place in
-        let enough = h .enough in
-        let few = h .few in
-        let count = h .count in
-        let least = past-least s q in
-        record {
-          elements = h .elements ++ (v ∷ []);
-          left = h .left - 1;
-          place = past-within s q (behind .1);
-          count = ap (λ a. a + 1) count ∙ sym (length-append (h .elements) (v ∷ []));
-          few = omega (arith, behind .0);
-          enough = omega (arith, behind .0);
-          rest =
-              whole (many-more s (elementAt s e) (closing name) (h .left - 1) p t read)
-              ∙ with-with (λ vs. h .elements ++ vs) (λ vs. v ∷ vs) (readMany (h .left - 1) (pastBlanks s q))
-              ∙ with-same (λ vs. h .elements ++ (v ∷ vs)) (λ vs. (h .elements ++ (v ∷ [])) ++ vs)
-              (λ vs. sym (append-assoc (h .elements) (v ∷ []) vs)) (readMany (h .left - 1) (pastBlanks s q));
-          passed =
-              subst (λ es. Passed m es (all c (h .elements ++ (v ∷ []))) j o′ k′) (sym (entries-one f (h .elements) v))
-              (subst (λ b. Passed m (entriesOf f (h .elements) ++ f v) b j o′ k′) (sym (all-one c (h .elements) v)) (passed-on (h .passed) passed));
-        }
+      pub held-stuck : r ≡ element.Nothing → ChildrenRead s e f c name start m j o′ children.Nothing
+      held-stuck d =
+          let none = reads d in
+          (whole (many-stuck s (elementAt s e) (closing name) (h .left - 1) p (answered goes-on) (none .0)), kept-on (h .passed .kept) (none .1))
+
+      module _ {q : ℕ} {k′ : Progress} (d : r ≡ element.Read q k′) where
+        behind : (p < q) × (q ≤ length s)
+        behind = element-within s e p (h .place) (reads d .1)
+
+        pub next-place : q ≤ length s
+        next-place = behind .1
+
+        module _ {p′ : ℕ} (past : p′ ≡ pastBlanks s q) where
+          pub held-on : p < p′
+          held-on = omega (arith, behind .0, past, past-least s q)
+
+          pub held-more : Held s e f c name start m j p′ (n + 1) o′ k′
+          held-more =
+              let one = reads d in
+              let v = one .0 in
+              let place = h .place in
+              let enough = h .enough in
+              let few = h .few in
+              let count = h .count in
+              let on = held-on in
+              record {
+                elements = h .elements ++ (v ∷ []);
+                left = h .left - 1;
+                place = subst (λ a. a ≤ length s) (sym past) (past-within s q (behind .1));
+                count = ap (λ a. a + 1) count ∙ sym (length-append (h .elements) (v ∷ []));
+                few = omega arith;
+                enough = omega arith;
+                rest =
+                    whole (many-more s (elementAt s e) (closing name) (h .left - 1) p (answered goes-on) (one .1))
+                    ∙ ap (λ a. with (λ vs. h .elements ++ vs) (with (λ vs. v ∷ vs) (readMany s e name (h .left - 1) a))) (sym past)
+                    ∙ with-with (λ vs. h .elements ++ vs) (λ vs. v ∷ vs) (readMany s e name (h .left - 1) p′)
+                    ∙ with-same (λ vs. h .elements ++ (v ∷ vs)) (λ vs. (h .elements ++ (v ∷ [])) ++ vs)
+                    (λ vs. sym (append-assoc (h .elements) (v ∷ []) vs)) (readMany s e name (h .left - 1) p′);
+                passed =
+                    subst (λ es. Passed m es (all c (h .elements ++ (v ∷ []))) j o′ k′) (sym (entries-one f (h .elements) v))
+                    (subst (λ b. Passed m (entriesOf f (h .elements) ++ f v) b j o′ k′) (sym (all-one c (h .elements) v))
+                    (passed-on (h .passed) (one .2)));
+              }

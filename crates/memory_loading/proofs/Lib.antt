@@ -6,4 +6,5 @@ pub mod HandedOn
 pub mod Steps
 pub mod HeldElements
 pub mod WholeElements
+pub mod LeafElements
 pub mod LoadedFiles

@@ -1,8 +1,6 @@
 -- The answer to a whole file by what its request was read as, and the memory with an acceptance.
 use Rattle.integers.specs.Basics.{ℕ, _≡_, refl, _∙_, sym, ap, Bool, true, false, _&&_, cond, List, _∷_, none, some, arith}
-use Rattle.limits.specs.declared.answer.Answer.{Answer}
 use Rattle.limits.specs.declared.answer.Answer.the-variants.{NoFileOfLimits, WrongCountOrPlace}
-use Rattle.limits.specs.Answers.{numberOf}
 use Rattle.limits.specs.Questions.{Question, firstNo}
 use Rattle.book.specs.Table.{q}
 use Rattle.grammar.specs.Grammar.{Value}
@@ -30,7 +28,8 @@ module _ (s : List ℕ) {m n : List ℕ} where
         kept = kept;
       }
 
-  module _ {v : Value request} {k : Progress} (is : fileOf limitFile s ≡ some v) (passed : Passed m (entries v) (countsRight v) beginning n k) where
+  module _ {v : Value request} {k : Progress} (is : fileOf limitFile s ≡ some v)
+      (passed : Passed m (entries v) (countsRight v) beginning n k) where
     by-right : (b : Bool) → k .right ≡ b
         → firstNo (fileQuestions (view m) (fileOf limitFile s)) ≡ cond b (firstNo (questionsOf (marketOf m) (rosterOf m) (entries v))) 26
     by-right b e =

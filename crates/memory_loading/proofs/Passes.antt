@@ -3,16 +3,18 @@ use Rattle.integers.specs.Basics.{ℕ, zero, suc, _≡_, refl, _∙_, sym, ap, 
 use mathlib.Core.List.{append-assoc}
 use Rattle.limits.specs.Answers.{numberOf}
 use Rattle.limits.specs.Questions.{Question, firstNo}
+use Rattle.book.specs.declared.LimitLine.{LimitLine}
 use Rattle.book.specs.declared.Event.{Event}
 use Rattle.book.specs.Market.{Market}
 use Rattle.ledger.specs.Roster.{Roster}
 use Rattle.book.specs.Table.{q}
-use Rattle.memory_layout.specs.View.{marketOf, rosterOf, view}
+use Rattle.memory_layout.specs.View.{marketOf, rosterOf}
 use Rattle.memory_soundness.specs.SoundMemory.{SoundMemory}
 use Rattle.memory_working.specs.Working.{worked}
 use Rattle.memory_loading.specs.declared.progress.Progress.{Progress}
 use Rattle.memory_loading.specs.Entries.{Entry, all}
-use Rattle.memory_loading.specs.Loading.{inPlace, entryLine, limitOf, entryQuestions, questionsOf, eventsOf, allWorked}
+use Rattle.memory_loading.specs.Loading.{inPlace, entryAccount, entryLine, entryQuestions, questionsOf, whereLimited, eachLimited}
+use Rattle.memory_loading.specs.Loading.{eventsOf, allWorked}
 use Rattle.memory_loading.specs.Passing.{firstOf, Kept, Passed}
 
 -- ---- memories
@@ -40,11 +42,13 @@ unfolding all
 all-append f [] ys = refl
 all-append f (x ∷ xs) ys = ap (λ b. f x && b) (all-append f xs ys) ∙ and-assoc (f x) (all f xs) (all f ys)
 
-pub events-append : (xs ys : List Entry) → eventsOf (xs ++ ys) ≡ eventsOf xs ++ eventsOf ys
-unfolding eventsOf
-events-append [] ys = refl
-events-append (x ∷ xs) ys =
-    ap (λ es. limitOf x (entryLine x) ++ es) (events-append xs ys) ∙ sym (append-assoc (limitOf x (entryLine x)) (eventsOf xs) (eventsOf ys))
+pub limited-append : {A : Type 0} (f : ℕ → LimitLine → A) (xs ys : List Entry)
+    → eachLimited f (xs ++ ys) ≡ eachLimited f xs ++ eachLimited f ys
+unfolding eachLimited
+limited-append f [] ys = refl
+limited-append f (x ∷ xs) ys =
+    let first = whereLimited f (entryAccount x) (entryLine x) in
+    ap (λ es. first ++ es) (limited-append f xs ys) ∙ sym (append-assoc first (eachLimited f xs) (eachLimited f ys))
 
 pub worked-append : (m : List ℕ) (xs ys : List Event) → allWorked m (xs ++ ys) ≡ allWorked (allWorked m xs) ys
 unfolding allWorked
@@ -53,7 +57,8 @@ worked-append m (e ∷ xs) ys = worked-append (worked m e) xs ys
 
 -- ---- questions
 -- the first no of an entry and of those behind it
-one-first : (a b c : Bool) (qs : List Question) → firstNo (q 7 a ∷ q 8 b ∷ q 9 c ∷ qs) ≡ firstOf (firstNo (q 7 a ∷ q 8 b ∷ q 9 c ∷ [])) (firstNo qs)
+one-first : (a b c : Bool) (qs : List Question)
+    → firstNo (q 7 a ∷ q 8 b ∷ q 9 c ∷ qs) ≡ firstOf (firstNo (q 7 a ∷ q 8 b ∷ q 9 c ∷ [])) (firstNo qs)
 unfolding firstNo
 one-first false b c qs = refl
 one-first true false c qs = refl
@@ -65,7 +70,7 @@ first-assoc zero b c = refl
 first-assoc (suc a) b c = refl
 
 module _ (mk : Market) (r : Roster) where
-  asked-first : (x : Entry) (xs : List Entry)
+  pub asked-first : (x : Entry) (xs : List Entry)
       → firstNo (questionsOf mk r (x ∷ xs)) ≡ firstOf (firstNo (entryQuestions mk r x)) (firstNo (questionsOf mk r xs))
   unfolding questionsOf
   asked-first x xs = one-first _ _ _ (questionsOf mk r xs)
@@ -90,7 +95,7 @@ first-zero zero = refl
 first-zero (suc a) = refl
 
 pub passed-none : {m : List ℕ} {j : Progress} → SoundMemory m → Passed m [] true j m j
-unfolding all questionsOf firstNo eventsOf allWorked
+unfolding all questionsOf firstNo eachLimited allWorked
 passed-none {j = j} held =
     record { right = and-true (j .right); first = first-zero (numberOf (j .first)); all-worked = λ z. refl; kept = kept-self held }
 
@@ -102,7 +107,7 @@ right-on true true true false y = refl
 right-on true true false false y = refl
 right-on true true d true y = refl
 
-first-of-zero : (a b : ℕ) → firstOf a b ≡ 0 → a ≡ 0
+pub first-of-zero : (a b : ℕ) → firstOf a b ≡ 0 → a ≡ 0
 first-of-zero zero b e = refl
 first-of-zero (suc a) b e = e
 
@@ -132,7 +137,7 @@ passed-on {m = m} {n = n} {o = o} {es = es} {fs = fs} {c = c} {d = d} {i = i} {j
           q .all-worked z
           ∙ ap (λ l. allWorked l (eventsOf fs)) (p .all-worked (first-of-zero (numberOf (j .first)) _ (sym (q .first) ∙ z)))
           ∙ sym (worked-append m (eventsOf es) (eventsOf fs))
-          ∙ ap (allWorked m) (sym (events-append es fs));
+          ∙ ap (allWorked m) (sym (limited-append _ es fs));
       kept = kept-on (p .kept) (q .kept);
     }
   where

@@ -1,17 +1,35 @@
--- A whole element: its own entry, then those of what it holds, and its count beside their number.
+-- A whole element by its start tag: its own entries, then those of what it holds, and its count beside their number.
 use Prim.Native.String.{String}
-use Rattle.integers.specs.Basics.{ℕ, suc, _≡_, refl, _∙_, sym, ap, subst, Bool, true, false, _&&_, List, [], _∷_, _++_, eqb, length}
-use Rattle.grammar.specs.Grammar.{Attribute, Element, holding, Values, Value}
-use Rattle.grammar.specs.Reader.{Reading, nothing, upTo, with, manyAt, closing, elementAt}
+use Rattle.integers.specs.Basics.{ℕ, suc, _≤_, _≡_, refl, _∙_, sym, ap, subst, Bool, true, false, _&&_, List, [], _∷_, _++_, Option, none}
+use Rattle.integers.specs.Basics.{some}
+use Rattle.integers.specs.Basics.{eqb, length, arith}
+use Rattle.grammar.specs.Grammar.{Attribute, Numbers, Element, holding, Values, Value}
+use Rattle.grammar.specs.Reader.{nothing, upTo, with, tagAt, manyAt, closing, elementAt}
+use Rattle.grammar.specs.declared.tags.Inside.{Inside}
+use Rattle.grammar.specs.declared.tags.Inside.the-variants as inside
+use Rattle.grammar.specs.Inside.{insideAt}
+use Rattle.grammar.proofs.Readings.{by-reading}
+use Rattle.grammar.proofs.Within.{tag-within}
+use Rattle.grammar.proofs.Ends.{holds-within}
+use Rattle.limit_file.specs.declared.Tag.{Tag}
+use Rattle.limit_file.specs.declared.Start.{Start}
+use Rattle.limit_file.specs.declared.Start.the-variants as start
+use Rattle.limit_file.specs.Layout.{two, four, ofRequest, ofAccount, ofGroup, ofContract, instrument, contract, group, account}
+use Rattle.limit_file.specs.Starts.{ofTwo, ofFour, going, startOf, requestTag, accountTag, groupTag, contractTag}
+use Rattle.limit_file.proofs.WholeElements.{StartSays, start-says}
 use Rattle.memory_layout.specs.View.{rosterOf}
+use Rattle.memory_soundness.specs.SoundMemory.{SoundMemory}
 use Rattle.memory_loading.specs.declared.progress.Progress.{Progress}
+use Rattle.memory_loading.specs.declared.elements.Element.{Element as ReadElement}
 use Rattle.memory_loading.specs.declared.elements.Element.the-variants as element
 use Rattle.memory_loading.specs.declared.elements.Children.{Children}
 use Rattle.memory_loading.specs.declared.elements.Children.the-variants as children
-use Rattle.memory_loading.specs.Entries.{Entry, entriesOf, all}
+use Rattle.memory_loading.specs.Entries.{Entry, accountEntry, groupEntry, contractEntry, entriesOf, all}
+use Rattle.memory_loading.specs.Entries.{instrumentEntries, contractEntries, groupEntries, accountEntries}
+use Rattle.memory_loading.specs.Entries.{instrumentCounts, contractCounts, groupCounts, accountCounts}
 use Rattle.memory_loading.specs.Loading.{inPlace}
-use Rattle.memory_loading.specs.Passing.{withCount, closedBy, Kept, Passed, ElementRead, ChildrenRead}
-use Rattle.memory_loading.proofs.Passes.{kept-on, passed-on}
+use Rattle.memory_loading.specs.Passing.{twoOf, fourOf, withCount, closedBy, Kept, Passed, ElementRead, ChildrenRead}
+use Rattle.memory_loading.proofs.Passes.{kept-self, kept-on, passed-none, passed-on}
 
 right-counted : (j b x t : Bool) → (j && (b && x)) && t ≡ j && ((t && b) && x)
 right-counted false b x t = refl
@@ -33,30 +51,165 @@ passed-counted {m = m} {es = es} {b = b} {j = j} p t =
       kept = p .kept;
     }
 
-module _ (s : List ℕ) (name : String) (l : List Attribute) (c : Element) (own : Values l → Entry) (said : Values l → ℕ)
-    (f : Values l → Value c → List Entry) (t : Value c → Bool) where
+-- ---- elements that hold others
+-- its layout, what code is handed of its start tag and enters of that, and the entries and counts of what it holds
+pub record Holder : Type 0 where
+  pub name : String
+  pub attributes : List Attribute
+  pub child : Element
+  pub tag : Values attributes → Tag
+  pub entered : Tag → List Entry
+  pub own : Values attributes → List Entry
+  pub all-entered : (v : Values attributes) → entered (tag v) ≡ own v
+  pub below : ℕ → Value child → List Entry
+  pub counts : Value child → Bool
+
+pub two-handed : (l : Option (Numbers two)) → twoOf (ofTwo l) ≡ l
+two-handed none = refl
+two-handed (some v) = refl
+
+pub four-handed : (l : Option (Numbers four)) → fourOf (ofFour l) ≡ l
+four-handed none = refl
+four-handed (some v) = refl
+
+abbrev pub contractHolder : ℕ → ℕ → Holder
+contractHolder a g =
+    record {
+      name = "ContrtLmt";
+      attributes = ofContract;
+      child = instrument;
+      tag = contractTag;
+      entered = λ t. contractEntry a g (t .number) (fourOf (t .limits)) ∷ [];
+      own = λ v. contractEntry a g (v .0) (v .1 .0) ∷ [];
+      all-entered = λ v. ap (λ l. contractEntry a g (v .0) l ∷ []) (four-handed (v .1 .0));
+      below = instrumentEntries a;
+      counts = instrumentCounts;
+    }
+
+abbrev pub groupHolder : ℕ → Holder
+groupHolder a =
+    record {
+      name = "EqvIxmLmt";
+      attributes = ofGroup;
+      child = contract;
+      tag = groupTag;
+      entered = λ t. groupEntry a (t .number) (twoOf (t .limits)) ∷ [];
+      own = λ v. groupEntry a (v .0) (v .1 .0) ∷ [];
+      all-entered = λ v. ap (λ l. groupEntry a (v .0) l ∷ []) (two-handed (v .1 .0));
+      below = contractEntries a;
+      counts = contractCounts;
+    }
+
+abbrev pub accountHolder : Holder
+accountHolder =
+    record {
+      name = "AcctLmt";
+      attributes = ofAccount;
+      child = group;
+      tag = accountTag;
+      entered = λ t. accountEntry (t .number) ∷ [];
+      own = λ v. accountEntry (v .0) ∷ [];
+      all-entered = λ v. refl;
+      below = groupEntries;
+      counts = groupCounts;
+    }
+
+-- nothing is entered of the request itself
+abbrev pub requestHolder : Holder
+requestHolder =
+    record {
+      name = "SetLimRqt";
+      attributes = ofRequest;
+      child = account;
+      tag = requestTag;
+      entered = λ t. [];
+      own = λ v. [];
+      all-entered = λ v. refl;
+      below = λ n. accountEntries;
+      counts = accountCounts;
+    }
+
+holds-going : (g : Tag) (i : Inside) {t : Tag} {n : ℕ} → going g i ≡ start.Holds t n → i ≡ inside.Holds n
+holds-going g (inside.Closed m) e = cc
+holds-going g (inside.Holds m) e = cc
+holds-going g inside.Nothing e = cc
+
+module _ (h : Holder) where
+  abbrev pub held : Element
+  held = holding (h .name) (h .attributes) (h .child)
+
   -- the entries of the element, and whether its counts are right
-  abbrev pub wholeEntries : Value (holding name l c) → List Entry
-  wholeEntries (v, vs) = own v ∷ entriesOf (f v) vs
+  abbrev pub wholeEntries : Value (holding (h .name) (h .attributes) (h .child)) → List Entry
+  wholeEntries (v, vs) = h .own v ++ entriesOf (h .below (h .tag v .number)) vs
 
-  abbrev pub wholeCounts : Value (holding name l c) → Bool
-  wholeCounts (v, vs) = eqb (said v) (length vs) && all t vs
+  abbrev pub wholeCounts : Value (holding (h .name) (h .attributes) (h .child)) → Bool
+  wholeCounts (v, vs) = eqb (h .tag v .children) (length vs) && all (h .counts) vs
 
-  module _ (p : ℕ) {m : List ℕ} {j : Progress} (v : Values l) {o : List ℕ} {k : Progress} (entered : Passed m (own v ∷ []) true j o k) where
-    pub closed-read : {n : ℕ} → elementAt s (holding name l c) p ≡ upTo (v, []) n
-        → ElementRead s (holding name l c) wholeEntries wholeCounts p m j o (element.Read n (withCount k (eqb (said v) 0)))
-    unfolding entriesOf all
-    closed-read read = ((v, []), read, passed-counted entered (eqb (said v) 0))
+  module _ (s : List ℕ) (p : ℕ) (m : List ℕ) (j : Progress) where
+    abbrev pub WholeRead : List ℕ → ReadElement → Type 0
+    WholeRead = ElementRead s (holding (h .name) (h .attributes) (h .child)) wholeEntries wholeCounts p m j
 
-    pub holds-read : (n : ℕ) (o′ : List ℕ)
-        → elementAt s (holding name l c) p ≡ with (λ vs. (v, vs)) (manyAt s (elementAt s c) (closing name) (suc (length s)) n)
-        → (r : Children) → ChildrenRead s c (f v) t name n o k o′ r
-        → ElementRead s (holding name l c) wholeEntries wholeCounts p m j o′ (closedBy (said v) r)
-    holds-read n o′ read children.Nothing (none, kept) =
-        (read ∙ ap (with (λ vs. (v, vs))) none, kept-on (entered .kept) kept)
-    holds-read n o′ read (children.Read q count k′) (vs, held, is, passed) = (
-      (v, vs),
-      read ∙ ap (with (λ vs. (v, vs))) held,
-      subst (λ a. Passed m (own v ∷ entriesOf (f v) vs) (eqb (said v) (length vs) && all t vs) j o′ (withCount k′ (eqb (said v) a))) (sym is)
-          (passed-counted (passed-on entered passed) (eqb (said v) (length vs))),
-    )
+    -- of the tag that is read
+    module _ (v : Values (h .attributes)) {o : List ℕ} {k : Progress} (enters : Passed m (h .entered (h .tag v)) true j o k) where
+      whole-passed : (vs : List (Value (h .child))) {o′ : List ℕ} {k′ : Progress}
+          → Passed o (entriesOf (h .below (h .tag v .number)) vs) (all (h .counts) vs) k o′ k′
+          → Passed m (wholeEntries (v, vs)) (wholeCounts (v, vs)) j o′ (withCount k′ (eqb (h .tag v .children) (length vs)))
+      whole-passed vs passed =
+          passed-counted (passed-on (subst (λ es. Passed m es true j o k) (h .all-entered v) enters) passed)
+          (eqb (h .tag v .children) (length vs))
+
+      tag-closed : {n : ℕ} → elementAt s held p ≡ upTo (v, []) n
+          → WholeRead o (element.Read n (withCount k (eqb (h .tag v .children) 0)))
+      unfolding entriesOf all
+      tag-closed read = ((v, []), read, whole-passed [] (passed-none (enters .kept .sound)))
+
+      tag-holds : (n : ℕ) (o′ : List ℕ)
+          → elementAt s held p ≡ with (λ vs. (v, vs)) (manyAt s (elementAt s (h .child)) (closing (h .name)) (suc (length s)) n)
+          → (r : Children) → ChildrenRead s (h .child) (h .below (h .tag v .number)) (h .counts) (h .name) n o k o′ r
+          → WholeRead o′ (closedBy (h .tag v .children) r)
+      tag-holds n o′ read children.Nothing (stuck, kept) =
+          (read ∙ ap (with (λ vs. (v, vs))) stuck, kept-on (enters .kept) kept)
+      tag-holds n o′ read (children.Read q count k′) (vs, all-held, is, passed) = (
+        (v, vs),
+        read ∙ ap (with (λ vs. (v, vs))) all-held,
+        subst (λ a. Passed m (wholeEntries (v, vs)) (wholeCounts (v, vs)) j o′ (withCount k′ (eqb (h .tag v .children) a))) (sym is)
+            (whole-passed vs passed),
+      )
+
+  -- of the tag that code is handed
+  module _ (s : List ℕ) (p : ℕ) {r : Start} (is : r ≡ startOf s (h .tag) (tagAt s (h .name) (h .attributes) p)) where
+    says : {g : Start} → r ≡ g → StartSays s (h .name) (h .attributes) (h .child) (h .tag) p g
+    says e = subst (StartSays s (h .name) (h .attributes) (h .child) (h .tag) p) e (start-says s (h .name) (h .attributes) (h .child) (h .tag) p r is)
+
+    pub none-read : {m : List ℕ} → r ≡ start.Nothing → SoundMemory m → (elementAt s held p ≡ nothing) × Kept m m
+    none-read e sound = (says e, kept-self sound)
+
+    -- what it holds is read from a place of the file on
+    pub holds-place : {g : Tag} {n : ℕ} → p ≤ length s → r ≡ start.Holds g n → n ≤ length s
+    holds-place {g} {n} place e =
+        by-reading (tagAt s (h .name) (h .attributes) p)
+        (λ read.
+        let other : start.Nothing ≡ start.Holds g n = sym (is ∙ ap (startOf s (h .tag)) read) ∙ e in
+        let z : _≡_ {A = ℕ} 0 1 = cc in
+        omega arith)
+        (λ v q read.
+        holds-within s q (tag-within s (h .name) (h .attributes) p place read .1)
+        (holds-going (h .tag v) (insideAt s q) (sym (is ∙ ap (startOf s (h .tag)) read) ∙ e)))
+
+    module _ {m : List ℕ} {j : Progress} {g : Tag} {n : ℕ} {o : List ℕ} {k : Progress} (enters : Passed m (h .entered g) true j o k) where
+      pub closed-read : r ≡ start.Closed g n → {k′ : Progress} → k′ ≡ withCount k (eqb (g .children) 0) → WholeRead s p m j o (element.Read n k′)
+      closed-read e counted =
+          let told = says e in
+          subst (λ k′. WholeRead s p m j o (element.Read n k′)) (sym counted)
+          (subst (λ g. Passed m (h .entered g) true j o k → WholeRead s p m j o (element.Read n (withCount k (eqb (g .children) 0)))) (told .1)
+          (λ x. tag-closed s p m j (told .0) x (told .2)) enters)
+
+      pub holds-read : r ≡ start.Holds g n → (o′ : List ℕ) (a : Children)
+          → ChildrenRead s (h .child) (h .below (g .number)) (h .counts) (h .name) n o k o′ a
+          → {b : ReadElement} → b ≡ closedBy (g .children) a → WholeRead s p m j o′ b
+      holds-read e o′ a read closes =
+          let told = says e in
+          subst (WholeRead s p m j o′) (sym closes)
+          (subst (λ g. Passed m (h .entered g) true j o k
+          → ChildrenRead s (h .child) (h .below (g .number)) (h .counts) (h .name) n o k o′ a → WholeRead s p m j o′ (closedBy (g .children) a)) (told .1)
+          (λ x. tag-holds s p m j (told .0) x n o′ (told .2) a) enters read)

@@ -1,6 +1,6 @@
 -- What a file of limits says: an entry for each AcctLmt, EqvIxmLmt, ContrtLmt and IxmLmt, in the order of start tags, and whether the
 -- counts are those of the children.
-use Rattle.integers.specs.Basics.{ℕ, Bool, true, false, _&&_, List, [], _∷_, _++_, Option, eqb, length}
+use Rattle.integers.specs.Basics.{ℕ, Bool, true, _&&_, List, [], _∷_, _++_, Option, eqb, length}
 use Rattle.grammar.specs.Grammar.{Numbers, Value}
 use Rattle.limit_file.specs.Layout.{two, four, instrument, contract, group, account, request}
 

@@ -1,8 +1,8 @@
--- The questions of a load, in W1's order: after 5, 25 of the bytes, 26 of the whole file, then 7, 8 and 9 of entry after entry; and the LIMIT
--- events that it yields, in file order.
-use Rattle.integers.specs.Basics.{ℕ, _≡_, Bool, true, false, not, _&&_, _||_, List, [], _∷_, _++_, Option, none, some, ℤ, pos, eqb}
+-- The questions of a load, in W1's order: after 5, 25 of the bytes, 26 of the whole file, then 7, 8 and 9 of entry after entry; and the
+-- LIMIT events that it yields, in file order.
+use Rattle.integers.specs.Basics.{ℕ, Bool, true, false, not, _&&_, _||_, List, [], _∷_, _++_, Option, none, some, pos, eqb}
 use Rattle.ledger.specs.Roster.{Roster}
-use Rattle.limits.specs.Questions.{Question, firstNo}
+use Rattle.limits.specs.Questions.{Question}
 use Rattle.book.specs.declared.Figures.{Figures}
 use Rattle.book.specs.declared.LimitLine.{LimitLine}
 use Rattle.book.specs.declared.LimitLine.the-variants.{Own, Default, OfGroup}
@@ -18,7 +18,7 @@ use Rattle.grammar.specs.Grammar.{Numbers, Value}
 use Rattle.grammar.specs.Document.{fileOf}
 use Rattle.limit_file.specs.Layout.{two, four, request, limitFile}
 use Rattle.memory_working.specs.Working.{worked}
-use Rattle.memory_loading.specs.Entries.{Entry, accountEntry, groupEntry, contractEntry, instrumentEntry, entries, entriesOf, all, countsRight}
+use Rattle.memory_loading.specs.Entries.{Entry, accountEntry, groupEntry, contractEntry, instrumentEntry, entries, all, countsRight}
 
 -- ---- what an entry names
 abbrev pub entryAccount : Entry → ℕ
@@ -55,11 +55,17 @@ entryLine (instrumentEntry a c i l) = lineWith (Own i) (fourFigures l)
 
 -- ---- the questions
 -- is a contract or instrument of the roster where it stands: under its own group or contract?
+abbrev pub contractInPlace : Roster → ℕ → ℕ → Bool
+contractInPlace r g c = not (between 1 (r .contracts) c) || eqb (r .groupOf c) g
+
+abbrev pub instrumentInPlace : Roster → ℕ → ℕ → Bool
+instrumentInPlace r c i = not (between 1 (r .instruments) i) || eqb (r .contractOf i) c
+
 unfoldable pub inPlace : Roster → Entry → Bool
 inPlace r (accountEntry a) = true
 inPlace r (groupEntry a g l) = true
-inPlace r (contractEntry a g c l) = not (between 1 (r .contracts) c) || eqb (r .groupOf c) g
-inPlace r (instrumentEntry a c i l) = not (between 1 (r .instruments) i) || eqb (r .contractOf i) c
+inPlace r (contractEntry a g c l) = contractInPlace r g c
+inPlace r (instrumentEntry a c i l) = instrumentInPlace r c i
 
 abbrev pub entryQuestions : Market → Roster → Entry → List Question
 entryQuestions mk r e =
@@ -82,14 +88,18 @@ unfoldable pub loadQuestions : Bool → State → List ℕ → List Question
 loadQuestions sound k s = q 5 sound ∷ fileQuestions k (fileOf limitFile s)
 
 -- ---- the events
--- a LIMIT for an entry with limits
-abbrev pub limitOf : Entry → Option LimitLine → List Event
-limitOf e none = []
-limitOf e (some l) = Set (Limit (entryAccount e) l) ∷ []
+-- something of each entry with limits, by its account and its line
+abbrev pub whereLimited : {A : Type 0} → (ℕ → LimitLine → A) → ℕ → Option LimitLine → List A
+whereLimited f a none = []
+whereLimited f a (some l) = f a l ∷ []
 
-unfoldable pub eventsOf : List Entry → List Event
-eventsOf [] = []
-eventsOf (e ∷ es) = limitOf e (entryLine e) ++ eventsOf es
+unfoldable pub eachLimited : {A : Type 0} → (ℕ → LimitLine → A) → List Entry → List A
+eachLimited f [] = []
+eachLimited f (e ∷ es) = whereLimited f (entryAccount e) (entryLine e) ++ eachLimited f es
+
+-- a LIMIT for each of them
+abbrev pub eventsOf : List Entry → List Event
+eventsOf es = eachLimited (λ a l. Set (Limit a l)) es
 
 abbrev pub fileEvents : Option (Value request) → List Event
 fileEvents none = []

@@ -1,6 +1,6 @@
 -- What reading a part of a file does at a desk: entries are passed, one after the other, and the memory stays one that can be put back.
 use Prim.Native.String.{String}
-use Rattle.integers.specs.Basics.{ℕ, zero, suc, _≤_, _≡_, Bool, true, false, _&&_, cond, List, [], _∷_, Option, none, some, pos, negsuc, eqb}
+use Rattle.integers.specs.Basics.{ℕ, zero, suc, _≤_, _≡_, Bool, true, _&&_, cond, List, Option, none, some, pos, negsuc, eqb}
 use Rattle.integers.specs.Basics.{length, getD}
 use Rattle.limits.specs.declared.answer.Answer.{Answer}
 use Rattle.limits.specs.declared.answer.Answer.the-variants.{Accepted}
@@ -10,10 +10,10 @@ use Rattle.book.specs.declared.Figures.{Figures}
 use Rattle.book.specs.declared.LimitLine.{LimitLine}
 use Rattle.book.specs.declared.LimitLine.the-variants.{OfGroup}
 use Rattle.grammar.specs.Grammar.{Numbers, Element, Value}
-use Rattle.grammar.specs.Reader.{Reading, nothing, upTo, elementAt, manyAt, closing}
+use Rattle.grammar.specs.Reader.{nothing, upTo, elementAt, manyAt, closing}
 use Rattle.grammar.specs.Document.{fileOf}
 use Rattle.limit_file.specs.declared.figures.Limits.{Limits}
-use Rattle.limit_file.specs.Layout.{two, four, request, limitFile}
+use Rattle.limit_file.specs.Layout.{two, four, limitFile}
 use Rattle.memory_layout.specs.View.{marketOf, rosterOf, view}
 use Rattle.memory_soundness.specs.SoundMemory.{SoundMemory}
 use Rattle.memory_loading.specs.declared.progress.Progress.{Progress}
@@ -66,11 +66,13 @@ pub record Passed (m : List ℕ) (es : List Entry) (counts : Bool) (j : Progress
   pub kept : Kept m n
 
 -- ---- elements read from place p on: f gives the entries of one, c whether its counts are right
-abbrev pub ElementRead : (s : List ℕ) (e : Element) → (Value e → List Entry) → (Value e → Bool) → ℕ → List ℕ → Progress → List ℕ → ReadElement → Type 0
+abbrev pub ElementRead : (s : List ℕ) (e : Element) → (Value e → List Entry) → (Value e → Bool) → ℕ → List ℕ → Progress → List ℕ
+    → ReadElement → Type 0
 ElementRead s e f c p m j n element.Nothing = (elementAt s e p ≡ nothing) × Kept m n
 ElementRead s e f c p m j n (element.Read q k) = (v : Value e) × (elementAt s e p ≡ upTo v q) × Passed m (f v) (c v) j n k
 
-abbrev pub ChildrenRead : (s : List ℕ) (e : Element) → (Value e → List Entry) → (Value e → Bool) → String → ℕ → List ℕ → Progress → List ℕ → Children → Type 0
+abbrev pub ChildrenRead : (s : List ℕ) (e : Element) → (Value e → List Entry) → (Value e → Bool) → String → ℕ → List ℕ → Progress
+    → List ℕ → Children → Type 0
 ChildrenRead s e f c name p m j n children.Nothing = (manyAt s (elementAt s e) (closing name) (suc (length s)) p ≡ nothing) × Kept m n
 ChildrenRead s e f c name p m j n (children.Read q count k) =
     (vs : List (Value e)) × (manyAt s (elementAt s e) (closing name) (suc (length s)) p ≡ upTo vs q) × (count ≡ length vs)

@@ -1,11 +1,10 @@
 // What a load has found so far, and how an entry of the file moves it on.
 ghost use mathlib.Core.Path.{_≡_};
-ghost use mathlib.Core.Bool.{true, not, _&&_, _||_, cond};
+ghost use mathlib.Core.Bool.{true, _&&_, cond};
 ghost use mathlib.Core.List.{_∷_, []};
 ghost use lib.Dec.{eqb};
 ghost use Rattle.book.specs.declared.Setting.the-variants.{Limit};
 ghost use Rattle.book.specs.declared.Event.the-variants.{Set};
-ghost use Rattle.book.specs.Decoding.{between};
 ghost use Rattle.limits.specs.Answers.{numberOf};
 ghost use Rattle.limit_file.specs.Starts.{Small};
 ghost use Rattle.memory_layout.specs.View.{rosterOf};
@@ -13,6 +12,7 @@ ghost use Rattle.memory_layout.specs.Judged.{judged};
 ghost use Rattle.memory_soundness.specs.SoundMemory.{SoundMemory};
 ghost use Rattle.memory_working.specs.Working.{worked};
 ghost use Rattle.memory_loading.specs.Entries.{accountEntry, groupEntry, contractEntry, instrumentEntry};
+ghost use Rattle.memory_loading.specs.Loading.{contractInPlace, instrumentInPlace};
 ghost use Rattle.memory_loading.specs.Passing.{firstOf, twoOf, fourOf, figuresOr, groupLineOr, withCount, Passed};
 use book::Figures;
 use book::LimitLine;
@@ -76,7 +76,8 @@ fn group_line(group: u64, l: Limits) -> LimitLine
 fn step(m: &mut [u8], account: u64, line: LimitLine, sets: bool, first: Answer) -> Answer
     requires { ⌜ SoundMemory (now m) ⌝ }
     ensures answer { λ r. ⌜ numberOf r ≡ firstOf (numberOf first) (judged (now (m .entry)) (Set (Limit account line))) ⌝ }
-    ensures memory { λ r. ⌜ now (m .exit) ≡ cond (eqb (numberOf r) 0 && sets) (worked (now (m .entry)) (Set (Limit account line))) (now (m .entry)) ⌝ }
+    ensures memory { λ r. ⌜ now (m .exit) ≡
+        cond (eqb (numberOf r) 0 && sets) (worked (now (m .entry)) (Set (Limit account line))) (now (m .entry)) ⌝ }
 {
     match first {
         Answer::Accepted => match judge_limit(m, account, line) {
@@ -129,7 +130,7 @@ pub fn enter_group(m: &mut [u8], account: u64, group: u64, limits: Limits, j: Pr
 // Does a contract of the roster stand under its own group?
 fn contract_in_place(m: &[u8], group: u64, contract: u64) -> bool
     requires { ⌜ SoundMemory (now m) ⌝ }
-    ensures { λ r. ⌜ r ≡ not (between 1 (rosterOf (now (m .entry)) .contracts) contract) || eqb (rosterOf (now (m .entry)) .groupOf contract) group ⌝ }
+    ensures { λ r. ⌜ r ≡ contractInPlace (rosterOf (now (m .entry))) group contract ⌝ }
 {
     if !contract_known(m, contract) {
         return true;
@@ -140,7 +141,7 @@ fn contract_in_place(m: &[u8], group: u64, contract: u64) -> bool
 // Does an instrument of the roster stand under its own contract?
 fn instrument_in_place(m: &[u8], contract: u64, instrument: u64) -> bool
     requires { ⌜ SoundMemory (now m) ⌝ }
-    ensures { λ r. ⌜ r ≡ not (between 1 (rosterOf (now (m .entry)) .instruments) instrument) || eqb (rosterOf (now (m .entry)) .contractOf instrument) contract ⌝ }
+    ensures { λ r. ⌜ r ≡ instrumentInPlace (rosterOf (now (m .entry))) contract instrument ⌝ }
 {
     if !instrument_known(m, instrument) {
         return true;

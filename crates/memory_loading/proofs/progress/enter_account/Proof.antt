@@ -8,7 +8,7 @@ use Rattle.memory_soundness.specs.SoundMemory.{SoundMemory}
 use Rattle.memory_soundness.proofs.Asked.{answered-no, answered-yes}
 use Rattle.memory_loading.specs.declared.progress.Progress.{Progress}
 use Rattle.memory_loading.specs.Entries.{accountEntry, all}
-use Rattle.memory_loading.specs.Loading.{inPlace, questionsOf, eventsOf, allWorked}
+use Rattle.memory_loading.specs.Loading.{inPlace, questionsOf, eachLimited, allWorked}
 use Rattle.memory_loading.specs.Passing.{firstOf, Passed}
 use Rattle.memory_loading.proofs.Passes.{and-true, kept-self}
 use Rattle.memory_loading.proofs.Steps.{refused-first}
@@ -18,7 +18,7 @@ use Rattle.memory_loading.proofs.progress.enter_account.Tie as tie
 passed-account : (m : List ℕ) (a : ℕ) {j k : Progress} → SoundMemory m → k .right ≡ j .right
     → numberOf (k .first) ≡ firstOf (numberOf (j .first)) (cond (between 1 (rosterOf m .accounts) a) 0 7)
     → Passed m (accountEntry a ∷ []) true j m k
-unfolding all inPlace questionsOf firstNo eventsOf allWorked
+unfolding all inPlace questionsOf firstNo eachLimited allWorked
 passed-account m a {j} held right first =
     record { right = right ∙ and-true (j .right); first = first; all-worked = λ z. refl; kept = kept-self held }
 
