@@ -4,3 +4,4 @@ pub mod LayoutReadable
 pub mod StartTags
 pub mod WholeElements
 pub mod SmallFigures
+pub mod SampleRead

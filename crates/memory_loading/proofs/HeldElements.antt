@@ -1,7 +1,6 @@
 -- The elements that another holds, read one after the other: how far a loop has come, and each of its ways on.
 use Prim.Native.String.{String}
-use Rattle.integers.specs.Basics.{ℕ, suc, _+_, _-_, _≤_, _<_, _≡_, refl, _∙_, sym, ap, subst, Bool, true, false, _&&_, List, [], _∷_}
-use Rattle.integers.specs.Basics.{_++_}
+use Rattle.integers.specs.Basics.{ℕ, suc, _+_, _-_, _≤_, _<_, _≡_, refl, _∙_, sym, ap, subst, Bool, true, false, _&&_, List, [], _∷_, _++_}
 use Rattle.integers.specs.Basics.{length, arith}
 use lib.ListN.{length-append}
 use mathlib.Core.List.{append-assoc, append-nil}
@@ -129,8 +128,10 @@ module _ {s : List ℕ} {e : Element} {f : Value e → List Entry} {c : Value e 
 
       pub held-stuck : r ≡ element.Nothing → ChildrenRead s e f c name start m j o′ children.Nothing
       held-stuck d =
-          let none = reads d in
-          (whole (many-stuck s (elementAt s e) (closing name) (h .left - 1) p (answered goes-on) (none .0)), kept-on (h .passed .kept) (none .1))
+          let none = reads d in (
+            whole (many-stuck s (elementAt s e) (closing name) (h .left - 1) p (answered goes-on) (none .0)),
+            kept-on (h .passed .kept) (none .1),
+          )
 
       module _ {q : ℕ} {k′ : Progress} (d : r ≡ element.Read q k′) where
         behind : (p < q) × (q ≤ length s)

@@ -13,7 +13,7 @@ use Rattle.memory_loading.specs.declared.elements.Element.the-variants a
 use Rattle.memory_loading.specs.Entries.{instrumentEntry, instrumentEntries, instrumentCounts}
 use Rattle.memory_loading.specs.Passing.{fourOf, Kept, Passed, ElementRead}
 use Rattle.memory_loading.proofs.Passes.{kept-self}
-use Rattle.memory_loading.proofs.WholeElements.{four-handed}
+use Rattle.memory_loading.proofs.Holders.{four-handed}
 
 module _ (s : List ℕ) (p : ℕ) where
   abbrev LeafSays : Leaf → Type 0

@@ -5,6 +5,7 @@ pub mod Placed
 pub mod HandedOn
 pub mod Steps
 pub mod HeldElements
+pub mod Holders
 pub mod WholeElements
 pub mod LeafElements
 pub mod LoadedFiles

@@ -1,9 +1,6 @@
 -- A whole element by its start tag: its own entries, then those of what it holds, and its count beside their number.
-use Prim.Native.String.{String}
-use Rattle.integers.specs.Basics.{ℕ, suc, _≤_, _≡_, refl, _∙_, sym, ap, subst, Bool, true, false, _&&_, List, [], _∷_, _++_, Option, none}
-use Rattle.integers.specs.Basics.{some}
-use Rattle.integers.specs.Basics.{eqb, length, arith}
-use Rattle.grammar.specs.Grammar.{Attribute, Numbers, Element, holding, Values, Value}
+use Rattle.integers.specs.Basics.{ℕ, suc, _≤_, _≡_, refl, _∙_, sym, ap, subst, Bool, true, false, _&&_, List, [], _++_, eqb, length, arith}
+use Rattle.grammar.specs.Grammar.{Element, holding, Values, Value}
 use Rattle.grammar.specs.Reader.{nothing, upTo, with, tagAt, manyAt, closing, elementAt}
 use Rattle.grammar.specs.declared.tags.Inside.{Inside}
 use Rattle.grammar.specs.declared.tags.Inside.the-variants as inside
@@ -14,8 +11,7 @@ use Rattle.grammar.proofs.Ends.{holds-within}
 use Rattle.limit_file.specs.declared.Tag.{Tag}
 use Rattle.limit_file.specs.declared.Start.{Start}
 use Rattle.limit_file.specs.declared.Start.the-variants as start
-use Rattle.limit_file.specs.Layout.{two, four, ofRequest, ofAccount, ofGroup, ofContract, instrument, contract, group, account}
-use Rattle.limit_file.specs.Starts.{ofTwo, ofFour, going, startOf, requestTag, accountTag, groupTag, contractTag}
+use Rattle.limit_file.specs.Starts.{going, startOf}
 use Rattle.limit_file.proofs.WholeElements.{StartSays, start-says}
 use Rattle.memory_layout.specs.View.{rosterOf}
 use Rattle.memory_soundness.specs.SoundMemory.{SoundMemory}
@@ -24,12 +20,11 @@ use Rattle.memory_loading.specs.declared.elements.Element.{Element as Re
 use Rattle.memory_loading.specs.declared.elements.Element.the-variants as element
 use Rattle.memory_loading.specs.declared.elements.Children.{Children}
 use Rattle.memory_loading.specs.declared.elements.Children.the-variants as children
-use Rattle.memory_loading.specs.Entries.{Entry, accountEntry, groupEntry, contractEntry, entriesOf, all}
-use Rattle.memory_loading.specs.Entries.{instrumentEntries, contractEntries, groupEntries, accountEntries}
-use Rattle.memory_loading.specs.Entries.{instrumentCounts, contractCounts, groupCounts, accountCounts}
+use Rattle.memory_loading.specs.Entries.{Entry, entriesOf, all}
 use Rattle.memory_loading.specs.Loading.{inPlace}
-use Rattle.memory_loading.specs.Passing.{twoOf, fourOf, withCount, closedBy, Kept, Passed, ElementRead, ChildrenRead}
+use Rattle.memory_loading.specs.Passing.{withCount, closedBy, Kept, Passed, ElementRead, ChildrenRead}
 use Rattle.memory_loading.proofs.Passes.{kept-self, kept-on, passed-none, passed-on}
+use Rattle.memory_loading.proofs.Holders.{Holder}
 
 right-counted : (j b x t : Bool) → (j && (b && x)) && t ≡ j && ((t && b) && x)
 right-counted false b x t = refl
@@ -51,103 +46,25 @@ passed-counted {m = m} {es = es} {b = b} {j = j} p t =
       kept = p .kept;
     }
 
--- ---- elements that hold others
--- its layout, what code is handed of its start tag and enters of that, and the entries and counts of what it holds
-pub record Holder : Type 0 where
-  pub name : String
-  pub attributes : List Attribute
-  pub child : Element
-  pub tag : Values attributes → Tag
-  pub entered : Tag → List Entry
-  pub own : Values attributes → List Entry
-  pub all-entered : (v : Values attributes) → entered (tag v) ≡ own v
-  pub below : ℕ → Value child → List Entry
-  pub counts : Value child → Bool
-
-pub two-handed : (l : Option (Numbers two)) → twoOf (ofTwo l) ≡ l
-two-handed none = refl
-two-handed (some v) = refl
-
-pub four-handed : (l : Option (Numbers four)) → fourOf (ofFour l) ≡ l
-four-handed none = refl
-four-handed (some v) = refl
-
-abbrev pub contractHolder : ℕ → ℕ → Holder
-contractHolder a g =
-    record {
-      name = "ContrtLmt";
-      attributes = ofContract;
-      child = instrument;
-      tag = contractTag;
-      entered = λ t. contractEntry a g (t .number) (fourOf (t .limits)) ∷ [];
-      own = λ v. contractEntry a g (v .0) (v .1 .0) ∷ [];
-      all-entered = λ v. ap (λ l. contractEntry a g (v .0) l ∷ []) (four-handed (v .1 .0));
-      below = instrumentEntries a;
-      counts = instrumentCounts;
-    }
-
-abbrev pub groupHolder : ℕ → Holder
-groupHolder a =
-    record {
-      name = "EqvIxmLmt";
-      attributes = ofGroup;
-      child = contract;
-      tag = groupTag;
-      entered = λ t. groupEntry a (t .number) (twoOf (t .limits)) ∷ [];
-      own = λ v. groupEntry a (v .0) (v .1 .0) ∷ [];
-      all-entered = λ v. ap (λ l. groupEntry a (v .0) l ∷ []) (two-handed (v .1 .0));
-      below = contractEntries a;
-      counts = contractCounts;
-    }
-
-abbrev pub accountHolder : Holder
-accountHolder =
-    record {
-      name = "AcctLmt";
-      attributes = ofAccount;
-      child = group;
-      tag = accountTag;
-      entered = λ t. accountEntry (t .number) ∷ [];
-      own = λ v. accountEntry (v .0) ∷ [];
-      all-entered = λ v. refl;
-      below = groupEntries;
-      counts = groupCounts;
-    }
-
--- nothing is entered of the request itself
-abbrev pub requestHolder : Holder
-requestHolder =
-    record {
-      name = "SetLimRqt";
-      attributes = ofRequest;
-      child = account;
-      tag = requestTag;
-      entered = λ t. [];
-      own = λ v. [];
-      all-entered = λ v. refl;
-      below = λ n. accountEntries;
-      counts = accountCounts;
-    }
-
 holds-going : (g : Tag) (i : Inside) {t : Tag} {n : ℕ} → going g i ≡ start.Holds t n → i ≡ inside.Holds n
 holds-going g (inside.Closed m) e = cc
 holds-going g (inside.Holds m) e = cc
 holds-going g inside.Nothing e = cc
 
 module _ (h : Holder) where
-  abbrev pub held : Element
-  held = holding (h .name) (h .attributes) (h .child)
+  abbrev pub whole : Element
+  whole = holding (h .name) (h .attributes) (h .child)
 
   -- the entries of the element, and whether its counts are right
-  abbrev pub wholeEntries : Value (holding (h .name) (h .attributes) (h .child)) → List Entry
+  abbrev pub wholeEntries : Value whole → List Entry
   wholeEntries (v, vs) = h .own v ++ entriesOf (h .below (h .tag v .number)) vs
 
-  abbrev pub wholeCounts : Value (holding (h .name) (h .attributes) (h .child)) → Bool
+  abbrev pub wholeCounts : Value whole → Bool
   wholeCounts (v, vs) = eqb (h .tag v .children) (length vs) && all (h .counts) vs
 
   module _ (s : List ℕ) (p : ℕ) (m : List ℕ) (j : Progress) where
     abbrev pub WholeRead : List ℕ → ReadElement → Type 0
-    WholeRead = ElementRead s (holding (h .name) (h .attributes) (h .child)) wholeEntries wholeCounts p m j
+    WholeRead = ElementRead s whole wholeEntries wholeCounts p m j
 
     -- of the tag that is read
     module _ (v : Values (h .attributes)) {o : List ℕ} {k : Progress} (enters : Passed m (h .entered (h .tag v)) true j o k) where
@@ -158,13 +75,13 @@ module _ (h : Holder) where
           passed-counted (passed-on (subst (λ es. Passed m es true j o k) (h .all-entered v) enters) passed)
           (eqb (h .tag v .children) (length vs))
 
-      tag-closed : {n : ℕ} → elementAt s held p ≡ upTo (v, []) n
+      tag-closed : {n : ℕ} → elementAt s whole p ≡ upTo (v, []) n
           → WholeRead o (element.Read n (withCount k (eqb (h .tag v .children) 0)))
       unfolding entriesOf all
       tag-closed read = ((v, []), read, whole-passed [] (passed-none (enters .kept .sound)))
 
       tag-holds : (n : ℕ) (o′ : List ℕ)
-          → elementAt s held p ≡ with (λ vs. (v, vs)) (manyAt s (elementAt s (h .child)) (closing (h .name)) (suc (length s)) n)
+          → elementAt s whole p ≡ with (λ vs. (v, vs)) (manyAt s (elementAt s (h .child)) (closing (h .name)) (suc (length s)) n)
           → (r : Children) → ChildrenRead s (h .child) (h .below (h .tag v .number)) (h .counts) (h .name) n o k o′ r
           → WholeRead o′ (closedBy (h .tag v .children) r)
       tag-holds n o′ read children.Nothing (stuck, kept) =
@@ -178,10 +95,13 @@ module _ (h : Holder) where
 
   -- of the tag that code is handed
   module _ (s : List ℕ) (p : ℕ) {r : Start} (is : r ≡ startOf s (h .tag) (tagAt s (h .name) (h .attributes) p)) where
-    says : {g : Start} → r ≡ g → StartSays s (h .name) (h .attributes) (h .child) (h .tag) p g
-    says e = subst (StartSays s (h .name) (h .attributes) (h .child) (h .tag) p) e (start-says s (h .name) (h .attributes) (h .child) (h .tag) p r is)
+    abbrev Says : Start → Type 0
+    Says = StartSays s (h .name) (h .attributes) (h .child) (h .tag) p
 
-    pub none-read : {m : List ℕ} → r ≡ start.Nothing → SoundMemory m → (elementAt s held p ≡ nothing) × Kept m m
+    says : {g : Start} → r ≡ g → Says g
+    says e = subst Says e (start-says s (h .name) (h .attributes) (h .child) (h .tag) p r is)
+
+    pub none-read : {m : List ℕ} → r ≡ start.Nothing → SoundMemory m → (elementAt s whole p ≡ nothing) × Kept m m
     none-read e sound = (says e, kept-self sound)
 
     -- what it holds is read from a place of the file on
@@ -197,12 +117,13 @@ module _ (h : Holder) where
         (holds-going (h .tag v) (insideAt s q) (sym (is ∙ ap (startOf s (h .tag)) read) ∙ e)))
 
     module _ {m : List ℕ} {j : Progress} {g : Tag} {n : ℕ} {o : List ℕ} {k : Progress} (enters : Passed m (h .entered g) true j o k) where
-      pub closed-read : r ≡ start.Closed g n → {k′ : Progress} → k′ ≡ withCount k (eqb (g .children) 0) → WholeRead s p m j o (element.Read n k′)
+      pub closed-read : r ≡ start.Closed g n → {k′ : Progress} → k′ ≡ withCount k (eqb (g .children) 0)
+          → WholeRead s p m j o (element.Read n k′)
       closed-read e counted =
           let told = says e in
           subst (λ k′. WholeRead s p m j o (element.Read n k′)) (sym counted)
-          (subst (λ g. Passed m (h .entered g) true j o k → WholeRead s p m j o (element.Read n (withCount k (eqb (g .children) 0)))) (told .1)
-          (λ x. tag-closed s p m j (told .0) x (told .2)) enters)
+          (subst (λ t. Passed m (h .entered t) true j o k → WholeRead s p m j o (element.Read n (withCount k (eqb (t .children) 0))))
+          (told .1) (λ x. tag-closed s p m j (told .0) x (told .2)) enters)
 
       pub holds-read : r ≡ start.Holds g n → (o′ : List ℕ) (a : Children)
           → ChildrenRead s (h .child) (h .below (g .number)) (h .counts) (h .name) n o k o′ a
@@ -210,6 +131,7 @@ module _ (h : Holder) where
       holds-read e o′ a read closes =
           let told = says e in
           subst (WholeRead s p m j o′) (sym closes)
-          (subst (λ g. Passed m (h .entered g) true j o k
-          → ChildrenRead s (h .child) (h .below (g .number)) (h .counts) (h .name) n o k o′ a → WholeRead s p m j o′ (closedBy (g .children) a)) (told .1)
-          (λ x. tag-holds s p m j (told .0) x n o′ (told .2) a) enters read)
+          (subst (λ t. Passed m (h .entered t) true j o k
+          → ChildrenRead s (h .child) (h .below (t .number)) (h .counts) (h .name) n o k o′ a
+          → WholeRead s p m j o′ (closedBy (t .children) a))
+          (told .1) (λ x. tag-holds s p m j (told .0) x n o′ (told .2) a) enters read)

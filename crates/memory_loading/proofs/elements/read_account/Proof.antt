@@ -1,7 +1,8 @@
 -- By how the start tag goes on: there is no account, or it is entered, and what it holds is read behind it.
 use Rattle.integers.specs.Basics.{needs}
 use Rattle.limit_file.specs.Starts.{accountStart}
-use Rattle.memory_loading.proofs.WholeElements.{accountHolder, none-read, holds-place, closed-read, holds-read}
+use Rattle.memory_loading.proofs.Holders.{accountHolder}
+use Rattle.memory_loading.proofs.WholeElements.{none-read, holds-place, closed-read, holds-read}
 use Rattle.memory_loading.proofs.elements.read_account.Statement.{statement}
 use Rattle.memory_loading.proofs.elements.read_account.Tie as tie
 
@@ -13,7 +14,7 @@ read-groups-requires c κs =
     let found = tagged .before .before in
     let start = found .before .before .before in (
       start .pre .0,
-      holds-place accountHolder (start .args .s .now) (start .args .at) (found .account-start .ensures) (start .pre .1) (tagged .tag2 .given .1),
+      holds-place accountHolder _ _ (found .account-start .ensures) (start .pre .1) (tagged .tag2 .given .1),
     )
 
 returns : tie.Need-returns
@@ -21,7 +22,7 @@ unfolding accountStart
 returns c =
     let found = c .before .before in
     let start = found .before .before .before in
-    none-read accountHolder (start .args .s .now) (start .args .at) (found .account-start .ensures) (c .enum-told .given .1) (start .pre .0)
+    none-read accountHolder _ _ (found .account-start .ensures) (c .enum-told .given .1) (start .pre .0)
 
 returns-2 : tie.Need-returns-2
 unfolding accountStart
@@ -29,8 +30,7 @@ returns-2 c =
     let entered = c .before in
     let tagged = entered .before .before .before in
     let found = tagged .before .before in
-    let a = found .before .before .before .args in
-    closed-read accountHolder (a .s .now) (a .at) (found .account-start .ensures) (entered .enter-account .ensures) (tagged .tag .given .1)
+    closed-read accountHolder _ _ (found .account-start .ensures) (entered .enter-account .ensures) (tagged .tag .given .1)
     (c .counted .ensures)
 
 returns-3 : tie.Need-returns-3
@@ -40,8 +40,7 @@ returns-3 c =
     let entered = read .before .before in
     let tagged = entered .before .before .before in
     let found = tagged .before .before in
-    let a = found .before .before .before .args in
-    holds-read accountHolder (a .s .now) (a .at) (found .account-start .ensures) (entered .enter-account2 .ensures) (tagged .tag2 .given .1) _
+    holds-read accountHolder _ _ (found .account-start .ensures) (entered .enter-account2 .ensures) (tagged .tag2 .given .1) _
     (read .read-groups .result) (read .read-groups .ensures) (c .closed .ensures)
 
 pub read-account-spec : {M : Type 1} → statement M

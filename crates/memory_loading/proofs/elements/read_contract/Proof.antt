@@ -2,7 +2,8 @@
 use Rattle.integers.specs.Basics.{_∙_, sym, needs}
 use Rattle.limit_file.specs.Starts.{contractStart}
 use Rattle.limit_file.proofs.SmallFigures.{contract-small}
-use Rattle.memory_loading.proofs.WholeElements.{contractHolder, none-read, holds-place, closed-read, holds-read}
+use Rattle.memory_loading.proofs.Holders.{contractHolder}
+use Rattle.memory_loading.proofs.WholeElements.{none-read, holds-place, closed-read, holds-read}
 use Rattle.memory_loading.proofs.elements.read_contract.Statement.{statement}
 use Rattle.memory_loading.proofs.elements.read_contract.Tie as tie
 
@@ -27,7 +28,7 @@ read-instruments-requires c κs =
     let start = found .before .before .before in
     let a = start .args in (
       entered .enter-contract2 .ensures .kept .sound,
-      holds-place (contractHolder (a .account) (a .group)) (a .s .now) (a .at) (found .contract-start .ensures) (start .pre .1) (tagged .tag2 .given .1),
+      holds-place (contractHolder (a .account) (a .group)) _ _ (found .contract-start .ensures) (start .pre .1) (tagged .tag2 .given .1),
     )
 
 returns : tie.Need-returns
@@ -36,7 +37,7 @@ returns c =
     let found = c .before .before in
     let start = found .before .before .before in
     let a = start .args in
-    none-read (contractHolder (a .account) (a .group)) (a .s .now) (a .at) (found .contract-start .ensures) (c .enum-told .given .1) (start .pre .0)
+    none-read (contractHolder (a .account) (a .group)) _ _ (found .contract-start .ensures) (c .enum-told .given .1) (start .pre .0)
 
 returns-2 : tie.Need-returns-2
 unfolding contractStart
@@ -44,8 +45,7 @@ returns-2 c =
     let entered = c .before .before .before in
     let tagged = entered .before .before .before .before in
     let found = tagged .before .before in
-    let a = found .before .before .before .args in
-    closed-read (contractHolder (a .account) (a .group)) (a .s .now) (a .at) (found .contract-start .ensures) (entered .enter-contract .ensures)
+    closed-read (contractHolder _ _) _ _ (found .contract-start .ensures) (entered .enter-contract .ensures)
     (tagged .tag .given .1) (c .counted .ensures)
 
 returns-3 : tie.Need-returns-3
@@ -55,8 +55,7 @@ returns-3 c =
     let entered = read .before .before .before .before in
     let tagged = entered .before .before .before .before in
     let found = tagged .before .before in
-    let a = found .before .before .before .args in
-    holds-read (contractHolder (a .account) (a .group)) (a .s .now) (a .at) (found .contract-start .ensures) (entered .enter-contract2 .ensures)
+    holds-read (contractHolder _ _) _ _ (found .contract-start .ensures) (entered .enter-contract2 .ensures)
     (tagged .tag2 .given .1) _ (read .read-instruments .result) (read .read-instruments .ensures) (c .closed .ensures)
 
 pub read-contract-spec : {M : Type 1} → statement M

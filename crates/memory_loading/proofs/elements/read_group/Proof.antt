@@ -2,7 +2,8 @@
 use Rattle.integers.specs.Basics.{_∙_, sym, needs}
 use Rattle.limit_file.specs.Starts.{groupStart}
 use Rattle.limit_file.proofs.SmallFigures.{group-small}
-use Rattle.memory_loading.proofs.WholeElements.{groupHolder, none-read, holds-place, closed-read, holds-read}
+use Rattle.memory_loading.proofs.Holders.{groupHolder}
+use Rattle.memory_loading.proofs.WholeElements.{none-read, holds-place, closed-read, holds-read}
 use Rattle.memory_loading.proofs.elements.read_group.Statement.{statement}
 use Rattle.memory_loading.proofs.elements.read_group.Tie as tie
 
@@ -27,7 +28,7 @@ read-contracts-requires c κs =
     let start = found .before .before .before in
     let a = start .args in (
       entered .enter-group2 .ensures .kept .sound,
-      holds-place (groupHolder (a .account)) (a .s .now) (a .at) (found .group-start .ensures) (start .pre .1) (tagged .tag2 .given .1),
+      holds-place (groupHolder (a .account)) _ _ (found .group-start .ensures) (start .pre .1) (tagged .tag2 .given .1),
     )
 
 returns : tie.Need-returns
@@ -36,7 +37,7 @@ returns c =
     let found = c .before .before in
     let start = found .before .before .before in
     let a = start .args in
-    none-read (groupHolder (a .account)) (a .s .now) (a .at) (found .group-start .ensures) (c .enum-told .given .1) (start .pre .0)
+    none-read (groupHolder (a .account)) _ _ (found .group-start .ensures) (c .enum-told .given .1) (start .pre .0)
 
 returns-2 : tie.Need-returns-2
 unfolding groupStart
@@ -44,8 +45,7 @@ returns-2 c =
     let entered = c .before .before .before in
     let tagged = entered .before .before .before .before in
     let found = tagged .before .before in
-    let a = found .before .before .before .args in
-    closed-read (groupHolder (a .account)) (a .s .now) (a .at) (found .group-start .ensures) (entered .enter-group .ensures)
+    closed-read (groupHolder _) _ _ (found .group-start .ensures) (entered .enter-group .ensures)
     (tagged .tag .given .1) (c .counted .ensures)
 
 returns-3 : tie.Need-returns-3
@@ -55,8 +55,7 @@ returns-3 c =
     let entered = read .before .before .before .before in
     let tagged = entered .before .before .before .before in
     let found = tagged .before .before in
-    let a = found .before .before .before .args in
-    holds-read (groupHolder (a .account)) (a .s .now) (a .at) (found .group-start .ensures) (entered .enter-group2 .ensures)
+    holds-read (groupHolder _) _ _ (found .group-start .ensures) (entered .enter-group2 .ensures)
     (tagged .tag2 .given .1) _ (read .read-contracts .result) (read .read-contracts .ensures) (c .closed .ensures)
 
 pub read-group-spec : {M : Type 1} → statement M
