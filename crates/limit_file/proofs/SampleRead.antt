@@ -1,5 +1,5 @@
 -- The sample is a file of the layout, and says one group's line and one instrument's.
-use Rattle.integers.specs.Basics.{ℕ, _≡_, refl, List, [], _∷_, none, some}
+use Rattle.integers.specs.Basics.{_≡_, refl, [], _∷_, none, some}
 use Rattle.grammar.specs.Bytes.{isBlank, isDigit, isPlain, valueFrom}
 use Rattle.grammar.specs.Grammar.{Value}
 use Rattle.grammar.specs.Reader.{starts, span, pastBlanks, openingAt, digitsAt, plainAt, numberAt, textAt, numbersAt, attributesAt, tagAt}
@@ -29,8 +29,8 @@ said = (
 )
 
 pub sample-read : fileOf limitFile sample ≡ some said
-unfolding said fileOf documentAt elementAt childrenAt manyAt childlessAt tagAt attributesAt numbersAt textAt numberAt plainAt digitsAt openingAt
-    pastBlanks span starts isBlank isDigit isPlain valueFrom
+unfolding said fileOf documentAt elementAt childrenAt manyAt childlessAt tagAt attributesAt numbersAt textAt numberAt plainAt digitsAt
+    openingAt pastBlanks span starts isBlank isDigit isPlain valueFrom
 sample-read = refl
 
 pub sample-file : File limitFile said sample
