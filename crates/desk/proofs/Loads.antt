@@ -1,5 +1,5 @@
 -- A load as its LIMIT events: where every entry passes 7, 8 and 9, each event is accepted in its turn, and the memory is the same.
-use Rattle.integers.specs.Basics.{ℕ, zero, suc, _≤_, _<_, _≡_, refl, _∙_, sym, ap, subst, Bool, true, false, _&&_, cond, List, [], _∷_, _++_, _⊎_, inl, inr, ⊎-elim}
+use Rattle.integers.specs.Basics.{ℕ, _≤_, _<_, _≡_, refl, _∙_, sym, ap, Bool, true, false, List, [], _∷_, _++_, _⊎_, inl, inr, ⊎-elim}
 use Rattle.integers.specs.Basics.{Option, none, some, false≢true, leb, length, replicate, arith, leb-true}
 use Rattle.words.specs.Bytes.{Bytes}
 use Rattle.limits.specs.Questions.{firstNo}
@@ -21,14 +21,13 @@ use Rattle.memory_layout.specs.View.{marketOf, rosterOf}
 use Rattle.memory_layout.specs.Judged.{judged}
 use Rattle.memory_layout.proofs.MarketRead.{market-most}
 use Rattle.memory_soundness.specs.SoundMemory.{SoundMemory}
-use Rattle.memory_soundness.proofs.SoundDesk.{sound-in}
 use Rattle.memory_working.specs.Working.{worked}
 use Rattle.memory_working.proofs.Writes.{bytes-worked, roster-worked, market-worked}
 use Rattle.memory_working.proofs.SoundWorked.{sound-worked}
 use Rattle.memory_loading.specs.Entries.{Entry, accountEntry, groupEntry, contractEntry, instrumentEntry}
-use Rattle.memory_loading.specs.Loading.{entryAccount, entryItem, entryLine, entryQuestions, questionsOf, whereLimited, eachLimited, eventsOf}
+use Rattle.memory_loading.specs.Loading.{entryAccount, entryItem, entryLine, entryQuestions, questionsOf, whereLimited, eachLimited}
+use Rattle.memory_loading.specs.Loading.{eventsOf}
 use Rattle.memory_loading.specs.Loading.{allWorked}
-use Rattle.memory_loading.specs.Passing.{firstOf}
 use Rattle.memory_loading.proofs.Passes.{first-of-zero, second-of-zero, asked-first}
 use Rattle.memory_loading.proofs.Entered.{limit-answer}
 use Rattle.desk.specs.Step.{answerTo, afterEvent}
@@ -87,7 +86,8 @@ module _ (m : List ℕ) (bytes : Bytes m) (held : SoundMemory m) (e : Entry) (l 
   limit-read : decode (limitBytes (entryAccount e) l) ≡ Set (Limit (entryAccount e) l)
   limit-read =
       limit-decoded-fits (marketOf m .largest) (entryAccount e) l (passes .2) (market-most m)
-      (small-between (passes .0) (let b = held .book .roster .accounts in omega arith)) (small-item (rosterOf m) l (held .book .roster) (passes .1))
+      (small-between (passes .0) (let b = held .book .roster .accounts in omega arith))
+      (small-item (rosterOf m) l (held .book .roster) (passes .1))
 
   limit-judged : judged m (Set (Limit (entryAccount e) l)) ≡ 0
   unfolding firstNo
@@ -133,5 +133,6 @@ loads-worked (e ∷ es) m bytes held asked =
     let first = firstNo (entryQuestions (marketOf m) (rosterOf m) e) in
     entry-then m bytes held e (first-of-zero first _ both) (eachLimited limitBytes es) (eventsOf es)
     (λ n b h mk r. loads-worked es n b h
-    (ap (λ x. firstNo (questionsOf x (rosterOf n) es)) mk ∙ ap (λ x. firstNo (questionsOf (marketOf m) x es)) r ∙ second-of-zero first _ both))
+    (ap (λ x. firstNo (questionsOf x (rosterOf n) es)) mk ∙ ap (λ x. firstNo (questionsOf (marketOf m) x es)) r
+    ∙ second-of-zero first _ both))
     (entryLine e) refl

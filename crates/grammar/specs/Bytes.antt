@@ -19,7 +19,7 @@ isDigit b = leb 48 b && leb b 57
 unfoldable pub isPlain : ℕ → Bool
 isPlain b = not (eqb b 34 || (eqb b 38 || (eqb b 60 || eqb b 62)))
 
-unfoldable pub all : (ℕ → Bool) → List ℕ → Bool
+unfoldable pub all : {A : Type 0} → (A → Bool) → List A → Bool
 all f [] = true
 all f (b ∷ s) = f b && all f s
 

@@ -27,7 +27,8 @@ use Rattle.memory_working.specs.Working.{worked}
 use Rattle.memory_working.proofs.Writes.{length-worked, later-worked, roster-worked, market-worked}
 use Rattle.memory_working.proofs.SoundWorked.{sound-worked}
 use Rattle.memory_loading.specs.declared.progress.Progress.{Progress}
-use Rattle.memory_loading.specs.Entries.{Entry, groupEntry, contractEntry, instrumentEntry, all}
+use Rattle.grammar.specs.Bytes.{all}
+use Rattle.memory_loading.specs.Entries.{Entry, groupEntry, contractEntry, instrumentEntry}
 use Rattle.memory_loading.specs.Loading.{entryAccount, entryItem, entryLine, inPlace, entryQuestions, questionsOf, eachLimited}
 use Rattle.memory_loading.specs.Loading.{eventsOf, allWorked}
 use Rattle.memory_loading.specs.Passing.{firstOf, figuresOr, groupLineOr, Kept, Passed}

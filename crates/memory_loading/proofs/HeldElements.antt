@@ -13,7 +13,8 @@ use Rattle.memory_loading.specs.declared.progress.Progress.{Progress}
 use Rattle.memory_loading.specs.declared.elements.Element.{Element as ReadElement}
 use Rattle.memory_loading.specs.declared.elements.Element.the-variants as element
 use Rattle.memory_loading.specs.declared.elements.Children.the-variants as children
-use Rattle.memory_loading.specs.Entries.{Entry, entriesOf, all}
+use Rattle.grammar.specs.Bytes.{all}
+use Rattle.memory_loading.specs.Entries.{Entry, entriesOf}
 use Rattle.memory_loading.specs.Passing.{Passed, ElementRead, ChildrenRead}
 use Rattle.memory_loading.proofs.Passes.{and-true, all-append, kept-on, passed-none, passed-on}
 

@@ -17,7 +17,8 @@ use Rattle.memory_soundness.specs.SoundMemory.{SoundMemory}
 use Rattle.memory_loading.specs.declared.progress.Progress.{Progress}
 use Rattle.memory_loading.specs.declared.elements.Element.{Element as ReadElement}
 use Rattle.memory_loading.specs.declared.elements.Element.the-variants as element
-use Rattle.memory_loading.specs.Entries.{entries, all, countsRight}
+use Rattle.grammar.specs.Bytes.{all}
+use Rattle.memory_loading.specs.Entries.{entries, countsRight}
 use Rattle.memory_loading.specs.Loading.{inPlace, questionsOf, fileQuestions, fileEvents, allWorked}
 use Rattle.memory_loading.specs.Passing.{beginning, Kept, Passed, ElementRead, Loaded}
 use Rattle.memory_loading.proofs.Passes.{kept-self}

@@ -12,7 +12,8 @@ use Rattle.memory_layout.specs.View.{marketOf, rosterOf}
 use Rattle.memory_soundness.specs.SoundMemory.{SoundMemory}
 use Rattle.memory_working.specs.Working.{worked}
 use Rattle.memory_loading.specs.declared.progress.Progress.{Progress}
-use Rattle.memory_loading.specs.Entries.{Entry, all}
+use Rattle.grammar.specs.Bytes.{all}
+use Rattle.memory_loading.specs.Entries.{Entry}
 use Rattle.memory_loading.specs.Loading.{inPlace, entryAccount, entryLine, entryQuestions, questionsOf, whereLimited, eachLimited}
 use Rattle.memory_loading.specs.Loading.{eventsOf, allWorked}
 use Rattle.memory_loading.specs.Passing.{firstOf, Kept, Passed}

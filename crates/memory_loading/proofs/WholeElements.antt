@@ -20,7 +20,8 @@ use Rattle.memory_loading.specs.declared.elements.Element.{Element as Re
 use Rattle.memory_loading.specs.declared.elements.Element.the-variants as element
 use Rattle.memory_loading.specs.declared.elements.Children.{Children}
 use Rattle.memory_loading.specs.declared.elements.Children.the-variants as children
-use Rattle.memory_loading.specs.Entries.{Entry, entriesOf, all}
+use Rattle.grammar.specs.Bytes.{all}
+use Rattle.memory_loading.specs.Entries.{Entry, entriesOf}
 use Rattle.memory_loading.specs.Loading.{inPlace}
 use Rattle.memory_loading.specs.Passing.{withCount, closedBy, Kept, Passed, ElementRead, ChildrenRead}
 use Rattle.memory_loading.proofs.Passes.{kept-self, kept-on, passed-none, passed-on}

@@ -1,6 +1,7 @@
 -- What a file of limits says: an entry for each AcctLmt, EqvIxmLmt, ContrtLmt and IxmLmt, in the order of start tags, and whether the
 -- counts are those of the children.
 use Rattle.integers.specs.Basics.{ℕ, Bool, true, _&&_, List, [], _∷_, _++_, Option, eqb, length}
+use Rattle.grammar.specs.Bytes.{all}
 use Rattle.grammar.specs.Grammar.{Numbers, Value}
 use Rattle.limit_file.specs.Layout.{two, four, instrument, contract, group, account, request}
 
@@ -32,10 +33,6 @@ abbrev pub entries : Value request → List Entry
 entries ((n, t), vs) = entriesOf accountEntries vs
 
 -- ---- counts: NIxmLmtCfg, NContrtLmtCfg, NEqvIxmLmtCfg and NAccts
-unfoldable pub all : {A : Type 0} → (A → Bool) → List A → Bool
-all f [] = true
-all f (v ∷ vs) = f v && all f vs
-
 abbrev pub instrumentCounts : Value instrument → Bool
 instrumentCounts v = true
 

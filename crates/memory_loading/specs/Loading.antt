@@ -18,7 +18,8 @@ use Rattle.grammar.specs.Grammar.{Numbers, Value}
 use Rattle.grammar.specs.Document.{fileOf}
 use Rattle.limit_file.specs.Layout.{two, four, request, limitFile}
 use Rattle.memory_working.specs.Working.{worked}
-use Rattle.memory_loading.specs.Entries.{Entry, accountEntry, groupEntry, contractEntry, instrumentEntry, entries, all, countsRight}
+use Rattle.grammar.specs.Bytes.{all}
+use Rattle.memory_loading.specs.Entries.{Entry, accountEntry, groupEntry, contractEntry, instrumentEntry, entries, countsRight}
 
 -- ---- what an entry names
 abbrev pub entryAccount : Entry → ℕ
@@ -104,9 +105,6 @@ eventsOf es = eachLimited (λ a l. Set (Limit a l)) es
 abbrev pub fileEvents : Option (Value request) → List Event
 fileEvents none = []
 fileEvents (some v) = eventsOf (entries v)
-
-unfoldable pub loadEvents : List ℕ → List Event
-loadEvents s = fileEvents (fileOf limitFile s)
 
 -- the memory when events are worked one after the other
 unfoldable pub allWorked : List ℕ → List Event → List ℕ

@@ -21,7 +21,8 @@ use Rattle.memory_loading.specs.declared.elements.Element.{Element as Re
 use Rattle.memory_loading.specs.declared.elements.Element.the-variants as element
 use Rattle.memory_loading.specs.declared.elements.Children.{Children}
 use Rattle.memory_loading.specs.declared.elements.Children.the-variants as children
-use Rattle.memory_loading.specs.Entries.{Entry, entriesOf, entries, all}
+use Rattle.grammar.specs.Bytes.{all}
+use Rattle.memory_loading.specs.Entries.{Entry, entriesOf, entries}
 use Rattle.memory_loading.specs.Loading.{inPlace, questionsOf, eventsOf, allWorked, fileQuestions, fileEvents}
 
 -- ---- limits as code hands them on

@@ -7,7 +7,8 @@ use Rattle.memory_layout.specs.View.{rosterOf}
 use Rattle.memory_soundness.specs.SoundMemory.{SoundMemory}
 use Rattle.memory_soundness.proofs.Asked.{answered-no, answered-yes}
 use Rattle.memory_loading.specs.declared.progress.Progress.{Progress}
-use Rattle.memory_loading.specs.Entries.{accountEntry, all}
+use Rattle.grammar.specs.Bytes.{all}
+use Rattle.memory_loading.specs.Entries.{accountEntry}
 use Rattle.memory_loading.specs.Loading.{inPlace, questionsOf, eachLimited, allWorked}
 use Rattle.memory_loading.specs.Passing.{firstOf, Passed}
 use Rattle.memory_loading.proofs.Passes.{and-true, kept-self}
