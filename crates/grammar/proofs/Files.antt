@@ -71,10 +71,6 @@ module _ (d : Document) where
     unfolding documentAt
     document-sound e = stands-then declared-sound (root-sound d s (fileStarts d s) e)
 
-    pub document-within : {v : Value (d .element)} {n : ℕ} → documentAt d s ≡ upTo v n → n ≤ length s
-    unfolding documentAt
-    document-within e = root-within d s (fileStarts d s) declared-within e
-
     pub document-complete : (v : Value (d .element)) → documentReadable d ≡ true → File d v s → documentAt d s ≡ upTo v (length s)
     unfolding documentAt
     document-complete v ok (a, x, e, is, w) =

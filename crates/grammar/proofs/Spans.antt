@@ -4,7 +4,7 @@ use Rattle.integers.specs.Basics.{ℕ, zero, suc, _+_, _-_, _≤_, _<_, _≡_, 
 use Rattle.integers.specs.Basics.{false≢true, length, getD, take, drop, arith, not-true}
 use mathlib.Core.Bool.{and-eq-true-iff}
 use lib.ListN.{length-drop, drop-of-length-le}
-use lib.Seq.{drop-cons, drop-drop}
+use lib.Seq.{drop-cons}
 use native.Mathlib.Numerals.{add-one}
 use Rattle.grammar.specs.Bytes.{isBlank, all}
 use Rattle.grammar.specs.Reader.{span, pastBlanks}
@@ -44,12 +44,6 @@ module _ (f : ℕ → Bool) where
       rw (drop-cons s p 0, e, less, add-one p) (omega arith)
 
   -- ---- what they are
-  pub span-bound : (n : ℕ) (s : List ℕ) → span f n s ≤ n
-  unfolding span
-  span-bound zero s = omega arith
-  span-bound (suc n) [] = omega arith
-  span-bound (suc n) (b ∷ s) = by-test (f b) (λ e. rw e (omega (arith, span-bound n s))) (λ e. rw e (omega arith))
-
   pub span-within : (n : ℕ) (s : List ℕ) → span f n s ≤ length s
   unfolding span
   span-within zero s = omega arith
@@ -61,13 +55,6 @@ module _ (f : ℕ → Bool) where
   span-all zero s = refl
   span-all (suc n) [] = refl
   span-all (suc n) (b ∷ s) = by-test (f b) (λ e. rw e (rw e (span-all n s))) (λ e. rw e)
-
-  pub span-behind : (n : ℕ) (s : List ℕ) → span f n s < n → Stops f (drop (span f n s) s)
-  unfolding span
-  span-behind zero s h = absurd (omega arith)
-  span-behind (suc n) [] h = tt
-  span-behind (suc n) (b ∷ s) h =
-      by-test (f b) (λ e. let less = rw e at h in rw e (span-behind n s (omega arith))) (λ e. rw e e)
 
   -- ---- how many there are
   pub all-nil : all f [] ≡ true
@@ -85,15 +72,6 @@ module _ (f : ℕ → Bool) where
   span-append (suc n) (b ∷ x) y each stops h =
       let both = all-cons b x each in
       rw (both .0) (ap suc (span-append n x y (both .1) stops (omega arith)))
-
-  -- no more than are asked for
-  pub span-full : (n : ℕ) (x y : List ℕ) → all f x ≡ true → n ≤ length x → span f n (x ++ y) ≡ n
-  unfolding span
-  span-full zero x y each h = refl
-  span-full (suc n) [] y each h = absurd (omega arith)
-  span-full (suc n) (b ∷ x) y each h =
-      let both = all-cons b x each in
-      rw (both .0) (ap suc (span-full n x y (both .1) (omega arith)))
 
   -- a bound that is large enough is none
   pub span-enough : (n m : ℕ) (s : List ℕ) → length s ≤ n → length s ≤ m → span f n s ≡ span f m s
@@ -134,15 +112,7 @@ module _ (s : List ℕ) (p : ℕ) where
   unfolding pastBlanks
   past-within h = omega (arith, span-within isBlank (length s) (drop p s), length-drop p s)
 
-  -- what comes behind them is none, and they are passed alone
-  pub past-stops : Stops isBlank (drop (pastBlanks s p) s)
-  unfolding pastBlanks
-  past-stops =
-      let more : span isBlank (length s) (drop p s) ≡ span isBlank (suc (length s)) (drop p s) =
-      span-enough isBlank (length s) (suc (length s)) (drop p s) (omega (arith, length-drop p s)) (omega (arith, length-drop p s)) in
-      rw (more, ← (drop-drop (span isBlank (suc (length s)) (drop p s)) p s))
-      (span-behind isBlank (suc (length s)) (drop p s) (omega (arith, span-within isBlank (suc (length s)) (drop p s), length-drop p s)))
-
+  -- they are passed alone
   pub past-append : (x y : List ℕ) → drop p s ≡ x ++ y → all isBlank x ≡ true → Stops isBlank y → pastBlanks s p ≡ p + length x
   unfolding pastBlanks
   past-append x y e each stops =

@@ -2,15 +2,13 @@
 pub mod figures;
 
 ghost use mathlib.Core.Path.{_≡_};
-ghost use Prim.Native.Nat.{_≤_};
-ghost use lib.ListN.{length};
-ghost use Rattle.limit_file.specs.Starts.{requestStart, accountStart, groupStart, contractStart, going, leafOf};
-ghost use Rattle.limit_file.specs.Layout.{instrument};
-ghost use Rattle.grammar.specs.Reader.{elementAt};
-ghost use Rattle.grammar.specs.Reader.{literalAt};
-ghost use Rattle.grammar.specs.Inside.{insideAt};
 ghost use mathlib.Core.Bool.{cond};
-ghost use Prim.Native.Nat.{_+_};
+ghost use Prim.Native.Nat.{_+_, _≤_};
+ghost use lib.ListN.{length};
+ghost use Rattle.grammar.specs.Reader.{literalAt, elementAt};
+ghost use Rattle.grammar.specs.Inside.{insideAt};
+ghost use Rattle.limit_file.specs.Layout.{instrument};
+ghost use Rattle.limit_file.specs.Starts.{requestStart, accountStart, groupStart, contractStart, going, leafOf};
 use crate::figures::Limits;
 use crate::figures::four_at;
 use crate::figures::no_limits;

@@ -1,4 +1,4 @@
--- The numbers of the answers, as document 01 has them: the refusal by question n is answered n, an acceptance 0.
+-- The numbers of the answers, as documents 01 and 02 have them: the refusal by question n is answered n, an acceptance 0.
 use Rattle.integers.specs.Basics.{ℕ}
 use Rattle.limits.specs.declared.answer.Answer.{Answer}
 use Rattle.limits.specs.declared.answer.Answer.the-variants.{Accepted, MemoryTooShort, WrongSizes, UnknownName, WeightOutOfRange}
