@@ -1,6 +1,7 @@
 -- What an answer of 0 says: the event passed every question, each by its name.
-use Rattle.integers.specs.Basics.{ℕ, ◌≤◌, ◌≡◌, refl, ◌∙◌, sym, ap, ◌≢◌, inl, inr, true, false, List, [], ◌++◌, Option, none, some}
-use Rattle.integers.specs.Basics.{◌≤ℤ◌, arith}
+use Rattle.std.specs.Prelude.{◌≤◌, ◌≡◌, ◌≢◌, ◌++◌, ◌≤ℤ◌}
+use Rattle.integers.specs.Basics.{ℕ, refl, ◌∙◌, sym, ap, inl, inr, true, false, List, [], Option, none, some}
+use Rattle.integers.specs.Basics.{arith}
 use Rattle.ledger.specs.declared.order.Order.{Order}
 use Rattle.ledger.specs.Positions.{Way, Scope}
 use Rattle.ledger.specs.Moves.{Moves}

@@ -31,14 +31,18 @@ use Rattle.book.specs.LongerDay.{longer_tables, morning, afternoon, evening}
 
 unfoldable pub computes : Unit {0}
 unfolding
-    number u8_at u16_at u64_at i64_at signed_of sum_over below remaining filled_by replaced_total closes group_of_instrument side_of stands_in open_on
-    of_instrument group_part sum_group potential position fill_moves balance_after line_in_force limit first_no all_pass limits_set size_fits
+    number u8_at u16_at u64_at i64_at signed_of sum_over below remaining filled_by replaced_total closes group_of_instrument side_of
+    stands_in open_on
+    of_instrument group_part sum_group potential position fill_moves balance_after line_in_force limit first_no all_pass limits_set
+    size_fits
     moves_instrument
-    moves_group within position_questions derivatives one named fields_fit well_formed event_of decode find insert change kept empty_book unsets
+    moves_group within position_questions derivatives one named fields_fit well_formed event_of decode find insert change kept empty_book
+    unsets
     line_of
     group_line_of set_line set_block new_order order_after changed book_after mark is_event account_known item_known
     figures_fit not_yet_trading id_open quantity_fits entered
-    id_free place_free questions_before limit_questions answer keep memory_after state_after line_set line_over as_bytes bytes_of figure_bytes
+    id_free place_free questions_before limit_questions answer keep memory_after state_after line_set line_over as_bytes bytes_of
+    figure_bytes
     event_bytes bits_of instrument_in group_in roster_of_tables edge_tables starred_edges listing_tables listing_events longer_tables
     morning
     afternoon evening

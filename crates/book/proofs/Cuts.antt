@@ -1,5 +1,6 @@
 -- Where an order joins the open orders, where it stands in them, and what changing it changes: the list cut in two.
-use Rattle.integers.specs.Basics.{ℕ, suc, ◌+◌, ◌<◌, ◌≡◌, refl, sym, ap, ◌⊎◌, inl, inr, ⊎_elim, ◌↔◌, List, [], ◌∷◌, ◌++◌, ListMemᴰ}
+use Rattle.std.specs.Prelude.{◌+◌, ◌<◌, ◌≡◌, ◌⊎◌, ◌↔◌, ◌∷◌, ◌++◌}
+use Rattle.integers.specs.Basics.{ℕ, suc, refl, sym, ap, inl, inr, ⊎_elim, List, [], ListMemᴰ}
 use Rattle.integers.specs.Basics.{ListMemᴰ_head, ListMemᴰ_tail, none, some, ltb, eqb, length, arith, ltb-true, ltb-false, eqb-true}
 use Rattle.integers.specs.Basics.{eqb-false}
 use mathlib.Core.List.Memᴰ

@@ -1,5 +1,6 @@
 -- What bytes decode to, by kind; a decoded NEW has an id that is not 0.
-use Rattle.integers.specs.Basics.{ℕ, ◌≤◌, ◌≡◌, refl, ◌∙◌, sym, ◌≢◌, Bool, true, false, ◌&&◌, cond, true≢false, List, ℤ, eqb, length, arith}
+use Rattle.std.specs.Prelude.{◌≤◌, ◌≡◌, ◌≢◌, ◌&&◌}
+use Rattle.integers.specs.Basics.{ℕ, refl, ◌∙◌, sym, Bool, true, false, cond, true≢false, List, ℤ, eqb, length, arith}
 use mathlib.Core.Bool.{and-false}
 use Rattle.ledger.specs.declared.order.Side.{Side}
 use Rattle.ledger.proofs.Ways.{by_test}
@@ -42,7 +43,8 @@ kind_by_kind Q k a b c d e s t u v w h₁ h₂ h₃ h₄ h₅ = by (is_setting k
 -- what holds of every setting, of a NEW with the id that the bytes name, which is not 0, of every change, and of junk, holds of what
 -- bytes decode to
 pub decoded_each : (P : Event → Type 0) (e : List ℕ) → ((x : Setting) → P (Set x))
-    → ((s : Side) (a i : ℕ) (n : ℤ) → 1 ≤ id_field e → P (New s a i (id_field e) n)) → ((id : ℕ) (c : OrderChange) → P (Change id c)) → P Junk
+    → ((s : Side) (a i : ℕ) (n : ℤ) → 1 ≤ id_field e → P (New s a i (id_field e) n)) → ((id : ℕ) (c : OrderChange) → P (Change id c))
+    → P Junk
     → P (decode e)
 unfolding decode well_formed event_of named
 decoded_each P e set new change junk =

@@ -1,5 +1,6 @@
 -- Demand 3 with every premise and conclusion written out, in the order of document 01's words.
-use Rattle.integers.specs.Basics.{ℕ, ◌≡◌, ◌∙◌, sym, ap, subst, ◌⊎◌, ◌↔◌, true, List, ◌∷◌, ◌++◌, some, ◌≤ℤ◌, ◌<ℤ◌}
+use Rattle.std.specs.Prelude.{◌≡◌, ◌⊎◌, ◌↔◌, ◌∷◌, ◌++◌, ◌≤ℤ◌, ◌<ℤ◌}
+use Rattle.integers.specs.Basics.{ℕ, ◌∙◌, sym, ap, subst, true, List, some}
 use Rattle.ledger.specs.declared.order.Order.{Order}
 use Rattle.ledger.specs.Positions.{Scope, Way, position}
 use Rattle.ledger.specs.Fillings.{Filling, balance_after}

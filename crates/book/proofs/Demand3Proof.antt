@@ -1,5 +1,6 @@
 -- Demand 3, of every desk that meets the contract.
-use Rattle.integers.specs.Basics.{ℕ, ◌≡◌, ◌∙◌, sym, ap, by_cases, true, true≢false, List, [], ◌∷◌, some, ℤ, ◌≤ℤ◌, ℕ_discrete, not-true}
+use Rattle.std.specs.Prelude.{◌≡◌, ◌∷◌, ◌≤ℤ◌}
+use Rattle.integers.specs.Basics.{ℕ, ◌∙◌, sym, ap, by_cases, true, true≢false, List, [], some, ℤ, ℕ_discrete, not-true}
 use Rattle.integers.specs.Basics.{signed}
 use Rattle.ledger.specs.declared.order.Order.{Order}
 use Rattle.ledger.specs.Positions.{Scope, Way}

@@ -1,5 +1,6 @@
 -- Document 01's starred edges, computed as one table; and examples of each question's edge. Each is a day of events, in bytes.
-use Rattle.integers.specs.Basics.{ℕ, zero, suc, ◌≡◌, refl, true, cond, List, [], ◌∷◌, ◌++◌, map, ℤ, pos, neg_ℤ, eqb}
+use Rattle.std.specs.Prelude.{◌≡◌, ◌∷◌, ◌++◌}
+use Rattle.integers.specs.Basics.{ℕ, zero, suc, refl, true, cond, List, [], map, ℤ, pos, neg_ℤ, eqb}
 use Rattle.ledger.specs.declared.order.Order.{Order}
 use Rattle.ledger.specs.declared.order.Side.TheVariants.{Buy, Sell}
 use Rattle.ledger.specs.Roster.{Roster}

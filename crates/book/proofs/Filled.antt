@@ -1,7 +1,8 @@
 -- Accepted FILLs are a filling: whatever FILLs the table accepts one after the other, what they make of a sound book is
 -- what one filling of its open orders makes of it.
-use Rattle.integers.specs.Basics.{ℕ, ◌+◌, ◌*◌, ◌≤◌, ◌≡◌, refl, ◌∙◌, sym, ap, subst, fun_ext, by_cases, List, [], ◌∷◌, ◌++◌, ListMemᴰ}
-use Rattle.integers.specs.Basics.{ListMemᴰ_head, ListMemᴰ_tail, some, ℤ, pos, nat_abs, ◌+ℤ◌, +ℤ_idr, eqb, ℕ_discrete, arith, leb-true}
+use Rattle.std.specs.Prelude.{◌+◌, ◌*◌, ◌≤◌, ◌≡◌, ◌∷◌, ◌++◌, ◌+ℤ◌}
+use Rattle.integers.specs.Basics.{ℕ, refl, ◌∙◌, sym, ap, subst, fun_ext, by_cases, List, [], ListMemᴰ}
+use Rattle.integers.specs.Basics.{ListMemᴰ_head, ListMemᴰ_tail, some, ℤ, pos, nat_abs, +ℤ_idr, eqb, ℕ_discrete, arith, leb-true}
 use Rattle.integers.specs.Basics.{sum_parts}
 use Rattle.ledger.specs.declared.order.Order.{Order}
 use Rattle.ledger.specs.Orders.{remaining, filled_by}

@@ -1,6 +1,7 @@
 -- Every filling of a sound book's open orders is worked by FILLs that the table accepts one after the other.
-use Rattle.integers.specs.Basics.{ℕ, ◌+◌, ◌≤◌, ◌≡◌, refl, ◌∙◌, sym, ap, ◌≢◌, by_cases, true, List, [], ◌∷◌, ◌++◌, ListMemᴰ, ListMemᴰ_head}
-use Rattle.integers.specs.Basics.{some, ℤ, pos, ◌+ℤ◌, +ℤ_idr, le_z, ℕ_discrete, arith, le-leb, signed, sum_parts}
+use Rattle.std.specs.Prelude.{◌+◌, ◌≤◌, ◌≡◌, ◌≢◌, ◌∷◌, ◌++◌, ◌+ℤ◌}
+use Rattle.integers.specs.Basics.{ℕ, refl, ◌∙◌, sym, ap, by_cases, true, List, [], ListMemᴰ, ListMemᴰ_head}
+use Rattle.integers.specs.Basics.{some, ℤ, pos, +ℤ_idr, le_z, ℕ_discrete, arith, le-leb, signed, sum_parts}
 use mathlib.Core.List.Memᴰ
 use mathlib.Core.List.{append_assoc}
 use Rattle.ledger.specs.declared.order.Order.{Order}
@@ -51,7 +52,8 @@ pub data Fills : State → State → Type 0 where
 -- a FILL of an open order by what remains or less is accepted
 fill_accepted : (k : State) (id n : ℕ) (o : Order) → find id k.book.orders ≡ some o → 1 ≤ n → n ≤ 1000000 → n ≤ remaining o
     → answer k (fill_of id (pos n)) ≡ 0
-unfolding answer questions_before limit_questions first_no is_event account_known item_known figures_fit not_yet_trading id_open quantity_fits entered
+unfolding answer questions_before limit_questions first_no is_event account_known item_known figures_fit not_yet_trading id_open
+    quantity_fits entered
     id_free place_free
 fill_accepted k id n o found low high most = rw (quantity, found, le-leb n (remaining o) most)
   where

@@ -1,5 +1,6 @@
 -- By how much an event moves a group's potential positions: the magnitude of the weight times what it moves those of the instrument.
-use Rattle.integers.specs.Basics.{ℕ, ◌+◌, ◌*◌, ◌≡◌, refl, ◌∙◌, sym, ap, ◌≢◌, some, ℤ, pos, negsuc, neg_ℤ, nat_abs, ◌+ℤ◌, ◌-ℤ◌, ◌*ℤ◌}
+use Rattle.std.specs.Prelude.{◌+◌, ◌*◌, ◌≡◌, ◌≢◌, ◌+ℤ◌, ◌-ℤ◌, ◌*ℤ◌}
+use Rattle.integers.specs.Basics.{ℕ, refl, ◌∙◌, sym, ap, some, ℤ, pos, negsuc, neg_ℤ, nat_abs}
 use Rattle.integers.specs.Basics.{difference_parts}
 use Rattle.integers.specs.Ring.{*ℤ_neg_ℤ}
 use Rattle.ledger.specs.declared.order.Order.{Order}

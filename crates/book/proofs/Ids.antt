@@ -1,6 +1,7 @@
 -- Ids of the open orders: they stay strictly ascending, so each names at most one order, and an order is found by its id
 -- wherever it stands.
-use Rattle.integers.specs.Basics.{ℕ, ◌≤◌, ◌<◌, ◌≡◌, refl, ap, ◌⊎◌, inl, inr, ⊎_elim, ◌↔◌, ◌≢◌, Bool, true, false, cond, List, [], ◌∷◌, ◌++◌}
+use Rattle.std.specs.Prelude.{◌≤◌, ◌<◌, ◌≡◌, ◌⊎◌, ◌↔◌, ◌≢◌, ◌∷◌, ◌++◌}
+use Rattle.integers.specs.Basics.{ℕ, refl, ap, inl, inr, ⊎_elim, Bool, true, false, cond, List, []}
 use Rattle.integers.specs.Basics.{ListMemᴰ, ListMemᴰ_head, ListMemᴰ_tail, ListMemᴰ_not_nil, some, eqb, arith, eqb-true}
 use Rattle.integers.specs.Basics.{eqb-false, eq-eqb, ne_eqb}
 use mathlib.Core.List.Memᴰ

@@ -1,5 +1,6 @@
 -- The bytes of a LIMIT are bytes, and they decode to the account and the line that they were written from.
-use Rattle.integers.specs.Basics.{ℕ, zero, suc, ◌/◌, ◌≤◌, ◌<◌, ◌≡◌, refl, ◌∙◌, Bool, true, ◌&&◌, false≢true, List, [], ◌∷◌, ◌++◌, ℤ, pos}
+use Rattle.std.specs.Prelude.{◌/◌, ◌≤◌, ◌<◌, ◌≡◌, ◌&&◌, ◌∷◌, ◌++◌}
+use Rattle.integers.specs.Basics.{ℕ, zero, suc, refl, ◌∙◌, Bool, true, false≢true, List, [], ℤ, pos}
 use Rattle.integers.specs.Basics.{negsuc, arith, signed, magnitude_parts, eqb-true}
 use Rattle.integers.specs.TwosComplement.{signed_of, bits_of}
 use Rattle.words.specs.Bytes.{Bytes, number}
@@ -65,7 +66,8 @@ read_line (OfGroup g x y) = OfGroup (read_number g) (read_figure x) (read_figure
 
 limit_read : (a : ℕ) (l : LimitLine) → decode (limit_bytes a l) ≡ Set (Limit (read_number a) (read_line l))
 unfolding
-    decode well_formed fields_fit named event_of limit_bytes event_bytes figure_bytes bytes_of u8_at u16_at u64_at i64_at number signed_of bits_of
+    decode well_formed fields_fit named event_of limit_bytes event_bytes figure_bytes bytes_of u8_at u16_at u64_at i64_at number signed_of
+    bits_of
     read_number read_figure
 limit_read a (Own i f) = refl
 limit_read a (Default c f) = refl
@@ -129,6 +131,7 @@ module _ (largest : ℕ) (most : largest ≤ 1000000000) where
       by_test (is_minus_one x && is_minus_one y) (two_small is_minus_one minus_one_small x y)
       (λ t. two_small (is_limit largest) limit_small x y (rw t at fit))
 
-pub limit_decoded_fits : (largest a : ℕ) (l : LimitLine) → line_fits largest l ≡ true → largest ≤ 1000000000 → a < 65536 → number_in l < 65536
+pub limit_decoded_fits : (largest a : ℕ) (l : LimitLine) → line_fits largest l ≡ true → largest ≤ 1000000000 → a < 65536
+    → number_in l < 65536
     → decode (limit_bytes a l) ≡ Set (Limit a l)
 limit_decoded_fits largest a l fit most account item = limit_decoded a l account item (fits_small largest most l fit)

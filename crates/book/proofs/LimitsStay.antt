@@ -1,5 +1,6 @@
 -- "Set again", by lines; and a limit stays as it is unless it is set again.
-use Rattle.integers.specs.Basics.{ℕ, ◌≡◌, refl, ◌∙◌, sym, ap, inl, inr, ⊎_elim, ◌↔◌, by_cases, true, false, some, ℕ_discrete}
+use Rattle.std.specs.Prelude.{◌≡◌, ◌↔◌}
+use Rattle.integers.specs.Basics.{ℕ, refl, ◌∙◌, sym, ap, inl, inr, ⊎_elim, by_cases, true, false, some, ℕ_discrete}
 use Rattle.ledger.specs.Roster.{Roster}
 use Rattle.ledger.specs.Positions.{Way, Scope, instrument, group}
 use Rattle.ledger.proofs.Ways.{by_test}
@@ -11,7 +12,7 @@ use Rattle.book.specs.declared.LimitLine.TheVariants.{Own, Default, OfGroup}
 use Rattle.book.specs.declared.Setting.TheVariants.{Limit}
 use Rattle.book.specs.declared.Event.{Event}
 use Rattle.book.specs.declared.Event.TheVariants.{Set, New, Change, Junk}
-use Rattle.book.specs.Books.{Book, at, line_of, group_line_of, set_line, book_after}
+use Rattle.book.specs.Books.{Book, line_of, group_line_of, set_line, book_after}
 use Rattle.book.specs.States.{State, work}
 use Rattle.book.specs.SetAgain.{own_line, default_line, group_line, line_set, line_over, SetsAgain}
 use Rattle.book.specs.Demand3.{limit_of}

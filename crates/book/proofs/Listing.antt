@@ -1,7 +1,8 @@
 -- Document 01's listing from its bytes: the answers, and the positions at the end.
-use Rattle.integers.specs.Basics.{ℕ, ◌≡◌, refl, List, [], ◌∷◌, ◌++◌, pos, negsuc, get_or, set, take, arith}
+use Rattle.std.specs.Prelude.{◌≡◌, ◌∷◌, ◌++◌}
+use Rattle.integers.specs.Basics.{ℕ, refl, List, [], pos, negsuc, get_or, set, take, arith}
 use Rattle.ledger.specs.Roster.{Roster}
-use Rattle.ledger.specs.Positions.{instrument, group, long}
+use Rattle.ledger.specs.Positions.{group, long}
 use Rattle.ledger.specs.Fillings.{none, fill}
 use Rattle.ledger.specs.declared.order.Order.{Order}
 use Rattle.ledger.specs.declared.order.Side.TheVariants.{Buy, Sell}

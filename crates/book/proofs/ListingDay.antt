@@ -1,5 +1,6 @@
 -- Document 01's listing judged by demand 3: its fifth event is refused exactly as it says, and its fourth is kept to the end.
-use Rattle.integers.specs.Basics.{ℕ, ◌≤◌, refl, inl, inr, List, [], pos, nat_abs, get_or, take, drop, arith}
+use Rattle.std.specs.Prelude.{◌≤◌}
+use Rattle.integers.specs.Basics.{ℕ, refl, inl, inr, List, [], pos, nat_abs, get_or, take, drop, arith}
 use Rattle.ledger.specs.declared.order.Side.TheVariants.{Buy, Sell}
 use Rattle.ledger.specs.Roster.{Numbered}
 use Rattle.ledger.specs.Positions.{instrument, group, long}
@@ -46,7 +47,8 @@ fourth_kept : Within listing_roster (take 3 listing_events) (event 3) (drop 4 li
     × Within listing_roster (take 3 listing_events) (event 3) (drop 4 listing_events) 1 (group 1) long (pos 600000)
 unfolding computes
 fourth_kept = (
-  promised listing_roster (take 3 listing_events) (event 3) listing_fits (order 7 1 Buy 62) (refl, refl) refl (instrument 1) long (refl, refl)
+  promised listing_roster (take 3 listing_events) (event 3) listing_fits (order 7 1 Buy 62) (refl, refl) refl (instrument 1) long
+      (refl, refl)
       (drop 4 listing_events) refl,
   promised listing_roster (take 3 listing_events) (event 3) listing_fits (order 7 1 Buy 62) (refl, refl) refl (group 1) long
       (refl, weighs_more, refl) (drop 4 listing_events) refl,

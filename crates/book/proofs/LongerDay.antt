@@ -1,5 +1,6 @@
 -- The longer day, in bytes, at the plain desk: its answers, and its orders judged by demand 3.
-use Rattle.integers.specs.Basics.{ℕ, ◌≤◌, ◌≡◌, refl, inl, inr, ◌≢◌, List, [], ◌∷◌, ◌++◌, pos, negsuc, nat_abs, length, arith}
+use Rattle.std.specs.Prelude.{◌≤◌, ◌≡◌, ◌≢◌, ◌∷◌, ◌++◌}
+use Rattle.integers.specs.Basics.{ℕ, refl, inl, inr, List, [], pos, negsuc, nat_abs, length, arith}
 use Rattle.ledger.specs.declared.order.Order.{Order}
 use Rattle.ledger.specs.declared.order.Side.{Side}
 use Rattle.ledger.specs.declared.order.Side.TheVariants.{Buy, Sell}
@@ -50,11 +51,14 @@ answers_then es = answers_to es (memory_after plain opened (written_all morning)
 
 answers : (answers_to morning opened ≡ 0 ∷ 0 ∷ 0 ∷ 0 ∷ [])
     × (answers_then (too_long_event ∷ too_short_event ∷ put_sold ∷ put_bought ∷ raised_too_far ∷ []) ≡ 21 ∷ 22 ∷ 23 ∷ 24 ∷ 23 ∷ [])
-    × (answers_then (put_sold_to_the_limit ∷ (afternoon ++ evening)) ≡ 0 ∷ 0 ∷ 0 ∷ 23 ∷ 0 ∷ 0 ∷ 10 ∷ 9 ∷ 9 ∷ 0 ∷ 0 ∷ 0 ∷ 0 ∷ 0 ∷ 0 ∷ 6 ∷ 0 ∷ 0
+    × (answers_then (put_sold_to_the_limit ∷ (afternoon ++ evening))
+    ≡ 0 ∷ 0 ∷ 0 ∷ 23 ∷ 0 ∷ 0 ∷ 10 ∷ 9 ∷ 9 ∷ 0 ∷ 0 ∷ 0 ∷ 0 ∷ 0 ∷ 0 ∷ 6 ∷ 0 ∷ 0
     ∷ 0 ∷ 0 ∷ 0 ∷ [])
-    × (answers_then (put_bought_to_the_limit ∷ (afternoon ++ evening)) ≡ 0 ∷ 0 ∷ 0 ∷ 23 ∷ 0 ∷ 0 ∷ 10 ∷ 9 ∷ 9 ∷ 0 ∷ 0 ∷ 0 ∷ 0 ∷ 0 ∷ 0 ∷ 6 ∷ 0 ∷ 0
+    × (answers_then (put_bought_to_the_limit ∷ (afternoon ++ evening))
+    ≡ 0 ∷ 0 ∷ 0 ∷ 23 ∷ 0 ∷ 0 ∷ 10 ∷ 9 ∷ 9 ∷ 0 ∷ 0 ∷ 0 ∷ 0 ∷ 0 ∷ 0 ∷ 6 ∷ 0 ∷ 0
     ∷ 0 ∷ 0 ∷ 0 ∷ [])
-    × (answers_then (raised_to_the_limit ∷ (afternoon ++ evening)) ≡ 0 ∷ 0 ∷ 11 ∷ 23 ∷ 0 ∷ 0 ∷ 10 ∷ 9 ∷ 9 ∷ 0 ∷ 0 ∷ 0 ∷ 0 ∷ 0 ∷ 0 ∷ 6 ∷ 11 ∷ 0
+    × (answers_then (raised_to_the_limit ∷ (afternoon ++ evening))
+    ≡ 0 ∷ 0 ∷ 11 ∷ 23 ∷ 0 ∷ 0 ∷ 10 ∷ 9 ∷ 9 ∷ 0 ∷ 0 ∷ 0 ∷ 0 ∷ 0 ∷ 0 ∷ 6 ∷ 11 ∷ 0
     ∷ 0 ∷ 0 ∷ 0 ∷ [])
 unfolding computes
 answers = (refl, refl, refl, refl, refl)

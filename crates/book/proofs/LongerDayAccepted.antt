@@ -1,5 +1,6 @@
 -- The longer day's accepted orders: what demand 3 promises after each later list, until a LIMIT sets the limit again.
-use Rattle.integers.specs.Basics.{ℕ, ◌≡◌, refl, inl, true, List, [], ◌∷◌, ◌++◌, ℤ, pos, negsuc, arith}
+use Rattle.std.specs.Prelude.{◌≡◌, ◌∷◌, ◌++◌}
+use Rattle.integers.specs.Basics.{ℕ, refl, inl, true, List, [], ℤ, pos, negsuc, arith}
 use Rattle.ledger.specs.declared.order.Side.{Side}
 use Rattle.ledger.specs.declared.order.Side.TheVariants.{Buy, Sell}
 use Rattle.ledger.specs.Positions.{Scope, Way, instrument, group, long, short}

@@ -1,5 +1,6 @@
 -- What is known of the markets of all kinds of desk.
-use Rattle.integers.specs.Basics.{◌≢◌, ne_eqb, ℕ, ◌≤◌, ◌≡◌, refl, ap, Bool, true, false, cond, eqb, arith}
+use Rattle.std.specs.Prelude.{◌≢◌, ◌≤◌, ◌≡◌}
+use Rattle.integers.specs.Basics.{ne_eqb, ℕ, refl, ap, Bool, true, false, cond, eqb, arith}
 use Rattle.ledger.specs.Derivatives.{one}
 use Rattle.book.specs.Market.{derivatives, largest_of, market_of_kind}
 

@@ -1,5 +1,6 @@
 -- Trading marks: a NEW sets one, no other kind does, and none fades.
-use Rattle.integers.specs.Basics.{ℕ, ◌≡◌, refl, ◌⊎◌, inl, inr, Bool, true, ℤ}
+use Rattle.std.specs.Prelude.{◌≡◌, ◌⊎◌}
+use Rattle.integers.specs.Basics.{ℕ, refl, inl, inr, Bool, true, ℤ}
 use Rattle.ledger.specs.declared.order.Side.{Side}
 use Rattle.book.specs.declared.Event.{Event}
 use Rattle.book.specs.declared.Event.TheVariants.{Set, New, Change, Junk}

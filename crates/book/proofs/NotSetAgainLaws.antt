@@ -1,5 +1,6 @@
 -- "Until a limit that applies to them is set again": no event of the list that is accepted sets it, whatever stands around it.
-use Rattle.integers.specs.Basics.{ℕ, ◌≡◌, refl, sym, ap, ⊎_elim, ◌↔◌, Bool, true, false, not, ◌&&◌, ◌||◌, true≢false, List, [], ◌∷◌, ◌++◌}
+use Rattle.std.specs.Prelude.{◌≡◌, ◌↔◌, ◌&&◌, ◌||◌, ◌∷◌, ◌++◌}
+use Rattle.integers.specs.Basics.{ℕ, refl, sym, ap, ⊎_elim, Bool, true, false, not, true≢false, List, []}
 use Rattle.integers.specs.Basics.{Option, none, some, eqb, eq-eqb}
 use Rattle.ledger.specs.Positions.{Scope}
 use Rattle.limits.proofs.Answers.{both_true}

@@ -1,5 +1,6 @@
 -- What a change makes of an order, case by case. Laws that go through all the cases of a change stand here, and the others take them.
-use Rattle.integers.specs.Basics.{◌+◌, ◌-◌, ◌≤◌, ◌<◌, ◌≡◌, refl, ◌∙◌, sym, ap, true, Option, none, some, ℤ, nat_abs, ltb, arith}
+use Rattle.std.specs.Prelude.{◌+◌, ◌-◌, ◌≤◌, ◌<◌, ◌≡◌}
+use Rattle.integers.specs.Basics.{refl, ◌∙◌, sym, ap, true, Option, none, some, ℤ, nat_abs, ltb, arith}
 use Rattle.integers.specs.Basics.{leb-true, ltb-true, ltb-false}
 use Rattle.ledger.specs.declared.order.Order.{Order}
 use Rattle.ledger.specs.Orders.{remaining, filled_by, replaced_total}

@@ -1,5 +1,6 @@
 -- The event that N is: it enters or raises one order, of a marked account, and leaves every line as it is.
-use Rattle.integers.specs.Basics.{◌≡◌, refl, true, some}
+use Rattle.std.specs.Prelude.{◌≡◌}
+use Rattle.integers.specs.Basics.{refl, true, some}
 use Rattle.ledger.specs.declared.order.Order.{Order}
 use Rattle.ledger.specs.Orders.{replaced_total}
 use Rattle.limits.proofs.LineLaws.{none_some}

@@ -1,5 +1,6 @@
 -- An event of one account leaves every other account's orders, balances and lines as they were.
-use Rattle.integers.specs.Basics.{ℕ, ◌≡◌, refl, ◌∙◌, sym, ap, inr, ⊎_elim, ◌↔◌, ◌≢◌, List, ListMemᴰ, Option, none, some, ℤ, ◌+ℤ◌, +ℤ_idr}
+use Rattle.std.specs.Prelude.{◌≡◌, ◌↔◌, ◌≢◌, ◌+ℤ◌}
+use Rattle.integers.specs.Basics.{ℕ, refl, ◌∙◌, sym, ap, inr, ⊎_elim, List, ListMemᴰ, Option, none, some, ℤ, +ℤ_idr}
 use mathlib.Core.Logic.Iff
 use Rattle.ledger.specs.declared.order.Order.{Order}
 use Rattle.ledger.proofs.Amounts.{fill_apart}

@@ -1,5 +1,6 @@
 -- The contract can be met: a desk whose memory is what is kept itself.
-use Rattle.integers.specs.Basics.{ℕ, ◌≡◌, refl, ◌∙◌, ap, List}
+use Rattle.std.specs.Prelude.{◌≡◌}
+use Rattle.integers.specs.Basics.{ℕ, refl, ◌∙◌, ap, List}
 use Rattle.ledger.specs.Roster.{Roster}
 use Rattle.book.specs.Market.{Market}
 use Rattle.book.specs.States.{State, begun, work}

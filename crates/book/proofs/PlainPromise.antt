@@ -1,5 +1,6 @@
 -- Demand 3 at the plain desk, used of events in bytes: N after a list, and a later list after N.
-use Rattle.integers.specs.Basics.{ℕ, ◌≡◌, ◌⊎◌, Bool, true, List, ◌∷◌, ◌++◌, some, ℤ, ◌≤ℤ◌}
+use Rattle.std.specs.Prelude.{◌≡◌, ◌⊎◌, ◌∷◌, ◌++◌, ◌≤ℤ◌}
+use Rattle.integers.specs.Basics.{ℕ, Bool, true, List, some, ℤ}
 use Rattle.ledger.specs.declared.order.Order.{Order}
 use Rattle.ledger.specs.Roster.{Roster}
 use Rattle.ledger.specs.Positions.{Scope, Way}
@@ -70,7 +71,8 @@ module _ (r : Roster) where
     -- no accepted event of the later list sets the limit again, tested
     abbrev pub none_again : ℕ → Scope → List (List ℕ) → Bool
     none_again a p later =
-        sets_none plain (memory_with plain k₀ k₀ (written_all before) (written n)) (state_with plain k₀ k₀ (written_all before) (written n)) a p
+        sets_none plain (memory_with plain k₀ k₀ (written_all before) (written n))
+        (state_with plain k₀ k₀ (written_all before) (written n)) a p
         (written_all later)
 
     pub promised : RosterFits r → (o : Order) → Meets o → answer_to ≡ 0 → (p : Scope) (w : Way) → Moves state_before.roster o p w

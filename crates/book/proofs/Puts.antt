@@ -1,6 +1,7 @@
 -- The manual's example B, dollar options with puts (tables 8 to 14), as a day of events. A buy of a put is judged by the
 -- group's short limit.
-use Rattle.integers.specs.Basics.{ℕ, ◌-◌, ◌≡◌, refl, List, [], ◌∷◌, ℤ, pos, neg_ℤ, get_or}
+use Rattle.std.specs.Prelude.{◌-◌, ◌≡◌, ◌∷◌}
+use Rattle.integers.specs.Basics.{ℕ, refl, List, [], ℤ, pos, neg_ℤ, get_or}
 use Rattle.ledger.specs.declared.order.Side.TheVariants.{Buy, Sell}
 use Rattle.ledger.specs.Roster.{Roster}
 use Rattle.book.specs.declared.Figures.{Figures}

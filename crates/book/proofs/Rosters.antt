@@ -1,5 +1,6 @@
 -- What holds of each entry of a table holds at each number of it.
-use Rattle.integers.specs.Basics.{ℕ, zero, suc, List, [], ◌∷◌, length, get_or, arith}
+use Rattle.std.specs.Prelude.{◌∷◌}
+use Rattle.integers.specs.Basics.{ℕ, zero, suc, List, [], length, get_or, arith}
 use Rattle.ledger.specs.Roster.{Numbered}
 
 module _ {A : Type 0} (none : A) (P : A → Type 0) where

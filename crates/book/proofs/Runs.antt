@@ -1,5 +1,6 @@
 -- A list of events at a desk that meets the contract: after every list the memory shows the kept book, and that is sound.
-use Rattle.integers.specs.Basics.{ℕ, ◌≡◌, ◌∙◌, sym, ◌≢◌, by_cases, List, [], ◌∷◌, ℕ_discrete, eq-eqb, ne_eqb}
+use Rattle.std.specs.Prelude.{◌≡◌, ◌≢◌, ◌∷◌}
+use Rattle.integers.specs.Basics.{ℕ, ◌∙◌, sym, by_cases, List, [], ℕ_discrete, eq-eqb, ne_eqb}
 use Rattle.book.specs.States.{State, work}
 use Rattle.book.specs.Table.{answer}
 use Rattle.book.specs.Sound.{Sound}

@@ -1,5 +1,6 @@
 -- LIMITs that set a limit again, and LIMITs that do not, computed.
-use Rattle.integers.specs.Basics.{ℕ, ◌≡◌, refl, inl, inr, ⊎_elim, false, [], none, some, ℤ, pos, negsuc, arith}
+use Rattle.std.specs.Prelude.{◌≡◌}
+use Rattle.integers.specs.Basics.{ℕ, refl, inl, inr, ⊎_elim, false, [], none, some, ℤ, pos, negsuc, arith}
 use Rattle.ledger.specs.Roster.{Roster}
 use Rattle.ledger.specs.Positions.{Scope, instrument, group}
 use Rattle.limits.specs.Lines.{Line}

@@ -1,5 +1,6 @@
 -- "Set again" is document 01's sentence, line by line.
-use Rattle.integers.specs.Basics.{ℕ, ◌≡◌, refl, ◌∙◌, sym, ap, ◌⊎◌, inl, inr, ⊎_elim, ◌↔◌, true, false, some, ℤ, arith}
+use Rattle.std.specs.Prelude.{◌≡◌, ◌⊎◌, ◌↔◌}
+use Rattle.integers.specs.Basics.{ℕ, refl, ◌∙◌, sym, ap, inl, inr, ⊎_elim, true, false, some, ℤ, arith}
 use mathlib.Core.Logic.Iff
 use Rattle.ledger.specs.Positions.{instrument, group}
 use Rattle.ledger.proofs.Ways.{by_test}
@@ -53,7 +54,8 @@ default_line_set e a c =
     by d (Default k f) n h = (f, cc)
     by d (OfGroup g x y) n h = absurd (let z : ◌≡◌ {A = ℕ} 0 1 = cc in omega arith)
 
-pub group_line_set : (e : Event) (a g : ℕ) → (line_set e ≡ some (group_line a g)) ↔ ((x : ℤ) × (y : ℤ) × (e ≡ Set (Limit a (OfGroup g x y))))
+pub group_line_set : (e : Event) (a g : ℕ) → (line_set e ≡ some (group_line a g))
+    ↔ ((x : ℤ) × (y : ℤ) × (e ≡ Set (Limit a (OfGroup g x y))))
 unfolding line_set
 group_line_set e a g =
     (λ h. let that = (set_by_that_limit e (group_line a g)).0 h in by that.0 that.1 that.3 that.2, λ h. rw h.2)

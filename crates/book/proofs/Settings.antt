@@ -1,5 +1,6 @@
 -- A setting is a LIMIT or sets no line, and is a BALANCE or sets no balance.
-use Rattle.integers.specs.Basics.{ℕ, ◌≡◌, refl, sym, subst, Option, none, some, ℤ}
+use Rattle.std.specs.Prelude.{◌≡◌}
+use Rattle.integers.specs.Basics.{ℕ, refl, sym, subst, Option, none, some, ℤ}
 use Rattle.book.specs.declared.LimitLine.{LimitLine}
 use Rattle.book.specs.declared.Setting.{Setting}
 use Rattle.book.specs.declared.Setting.TheVariants.{Limit, Balance}

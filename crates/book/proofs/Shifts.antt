@@ -1,5 +1,6 @@
 -- What a NEW and a change do to the open orders: what counts of one order is another number, and the balances move by what is filled.
-use Rattle.integers.specs.Basics.{ℕ, ◌*◌, ◌-◌, ◌≡◌, refl, ◌∙◌, ap, fun_ext, ◌≢◌, by_cases, [], ◌∷◌, Option, none, some, ℤ, pos, ◌+ℤ◌}
+use Rattle.std.specs.Prelude.{◌*◌, ◌-◌, ◌≡◌, ◌≢◌, ◌∷◌, ◌+ℤ◌}
+use Rattle.integers.specs.Basics.{ℕ, refl, ◌∙◌, ap, fun_ext, by_cases, [], Option, none, some, ℤ, pos}
 use Rattle.integers.specs.Basics.{+ℤ_idr, ℕ_discrete, arith, ne_eqb, signed}
 use Rattle.ledger.specs.declared.order.Order.{Order}
 use Rattle.ledger.specs.declared.order.Side.{Side}

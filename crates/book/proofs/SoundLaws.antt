@@ -1,5 +1,6 @@
 -- "A desk is sound if ..": each condition of document 01's sentence, and no other.
-use Rattle.integers.specs.Basics.{ℕ, ◌≤◌, ◌<◌, ◌≡◌, ◌↔◌, true, List, [], ◌∷◌, ListMemᴰ, some, pos, nat_abs, ◌≤ℤ◌, length}
+use Rattle.std.specs.Prelude.{◌≤◌, ◌<◌, ◌≡◌, ◌↔◌, ◌∷◌, ◌≤ℤ◌}
+use Rattle.integers.specs.Basics.{ℕ, true, List, [], ListMemᴰ, some, pos, nat_abs, length}
 use Rattle.ledger.specs.declared.order.Order.{Order}
 use Rattle.ledger.specs.Orders.{remaining}
 use Rattle.ledger.specs.Roster.{Roster, Numbered}

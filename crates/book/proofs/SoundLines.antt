@@ -1,5 +1,6 @@
 -- Lines stay in range: the figures that pass question 9 make a line in range, and a line in range gives limits in range.
-use Rattle.integers.specs.Basics.{ℕ, ◌≤◌, ◌≡◌, refl, Bool, true, ◌&&◌, ◌||◌, Option, none, some, ℤ, pos, nat_abs, ◌≤ℤ◌, signed}
+use Rattle.std.specs.Prelude.{◌≤◌, ◌≡◌, ◌&&◌, ◌||◌, ◌≤ℤ◌}
+use Rattle.integers.specs.Basics.{ℕ, refl, Bool, true, Option, none, some, ℤ, pos, nat_abs, signed}
 use Rattle.integers.specs.Basics.{magnitude_parts}
 use Rattle.ledger.specs.Roster.{Roster}
 use Rattle.ledger.specs.Positions.{Way, long, short, instrument}
@@ -46,7 +47,8 @@ module _ (largest : ℕ) where
             figure_fits f.lvi h.3;
       }))
 
-  pub group_line_fits : (x y : ℤ) → (is_minus_one x && is_minus_one y) || (is_limit largest x && is_limit largest y) ≡ true → (l : GroupLine)
+  pub group_line_fits : (x y : ℤ) → (is_minus_one x && is_minus_one y) || (is_limit largest x && is_limit largest y) ≡ true
+      → (l : GroupLine)
       → group_line_of x y ≡ some l → GroupLineFits largest l
   unfolding group_line_of
   group_line_fits x y fit l e =

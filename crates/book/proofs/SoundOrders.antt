@@ -1,5 +1,6 @@
 -- Open orders stay in range, at most 256, and marked: what each kind of accepted event leaves of them.
-use Rattle.integers.specs.Basics.{ℕ, ◌≤◌, ◌≡◌, refl, ◌∙◌, ap, ⊎_elim, ◌≢◌, by_cases, true, List, ListMemᴰ, ListMemᴰ_not_nil, some, ℤ}
+use Rattle.std.specs.Prelude.{◌≤◌, ◌≡◌, ◌≢◌}
+use Rattle.integers.specs.Basics.{ℕ, refl, ◌∙◌, ap, ⊎_elim, by_cases, true, List, ListMemᴰ, ListMemᴰ_not_nil, some, ℤ}
 use Rattle.integers.specs.Basics.{nat_abs, length, ℕ_discrete, arith, not-true, ltb-true}
 use mathlib.Core.List.Memᴰ
 use Rattle.ledger.specs.declared.order.Order.{Order}

@@ -1,6 +1,7 @@
 -- The empty book is sound, and every accepted event keeps a sound book sound. So question 5 is never answered no after an
 -- accepted opening.
-use Rattle.integers.specs.Basics.{ℕ, ◌≡◌, ◌∙◌, sym, ◌≢◌, by_cases, true≢false, ListMemᴰ, ListMemᴰ_not_nil, ℤ, pos, neg_ℤ, ◌≤ℤ◌, ℕ_discrete}
+use Rattle.std.specs.Prelude.{◌≡◌, ◌≢◌, ◌≤ℤ◌}
+use Rattle.integers.specs.Basics.{ℕ, ◌∙◌, sym, by_cases, true≢false, ListMemᴰ, ListMemᴰ_not_nil, ℤ, pos, neg_ℤ, ℕ_discrete}
 use Rattle.integers.specs.Basics.{arith, not-true, signed, negation_parts}
 use Rattle.ledger.specs.declared.order.Order.{Order}
 use Rattle.ledger.specs.Roster.{Roster}

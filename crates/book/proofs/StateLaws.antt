@@ -1,5 +1,6 @@
 -- "The plain book is kept from the roster, the events and their answers": what is kept after a list, event by event.
-use Rattle.integers.specs.Basics.{ℕ, ◌<◌, ◌≡◌, refl, ◌∙◌, false, List, [], ◌∷◌, ◌++◌, none, pos, eqb, get_or}
+use Rattle.std.specs.Prelude.{◌<◌, ◌≡◌, ◌∷◌, ◌++◌}
+use Rattle.integers.specs.Basics.{ℕ, refl, ◌∙◌, false, List, [], none, pos, eqb, get_or}
 use Rattle.ledger.specs.Roster.{Roster}
 use Rattle.ledger.proofs.Ways.{by_test}
 use Rattle.book.specs.declared.Event.{Event}

@@ -1,5 +1,6 @@
 -- The order that the later questions of an event's table are asked of.
-use Rattle.integers.specs.Basics.{ℕ, ◌<◌, ◌≡◌, sym, ap, ◌⊎◌, inl, inr, ⊎_elim, ◌↔◌, some, ℤ, nat_abs, lt-ltb}
+use Rattle.std.specs.Prelude.{◌<◌, ◌≡◌, ◌⊎◌, ◌↔◌}
+use Rattle.integers.specs.Basics.{ℕ, sym, ap, inl, inr, ⊎_elim, some, ℤ, nat_abs, lt-ltb}
 use Rattle.ledger.specs.declared.order.Order.{Order}
 use Rattle.ledger.specs.Orders.{replaced_total}
 use Rattle.limits.proofs.LineLaws.{none_some}

@@ -1,5 +1,6 @@
 -- Tables changed at one number, and tests turned into facts.
-use Rattle.integers.specs.Basics.{ℕ, ◌≡◌, ◌≢◌, true, cond, ℤ, pos, nat_abs, ◌≤ℤ◌, le_z, leb, leb-true, eq-eqb, ne_eqb, signed}
+use Rattle.std.specs.Prelude.{◌≡◌, ◌≢◌, ◌≤ℤ◌}
+use Rattle.integers.specs.Basics.{ℕ, true, cond, ℤ, pos, nat_abs, le_z, leb, leb-true, eq-eqb, ne_eqb, signed}
 use Rattle.integers.specs.Basics.{magnitude_parts}
 use Rattle.ledger.specs.Roster.{Numbered}
 use Rattle.ledger.proofs.Ways.{by_number}

@@ -1,5 +1,6 @@
 -- A number written out in bytes is read back as itself, and so are a figure of an event and a weight of a roster, whatever their sign.
-use Rattle.integers.specs.Basics.{ℕ, zero, suc, ◌+◌, ◌*◌, ◌/◌, ◌%◌, ◌^◌, ◌<◌, ◌≡◌, refl, ◌∙◌, ap, List, ◌∷◌, ◌++◌, ℤ, get_or, arith}
+use Rattle.std.specs.Prelude.{◌+◌, ◌*◌, ◌/◌, ◌%◌, ◌^◌, ◌<◌, ◌≡◌, ◌∷◌, ◌++◌}
+use Rattle.integers.specs.Basics.{ℕ, zero, suc, refl, ◌∙◌, ap, List, ℤ, get_or, arith}
 use Rattle.integers.specs.TwosComplement.{InBits, signed_of, bits_of, signed_bits, bits_below}
 use native.Mathlib.Nat.{pow-suc}
 use native.Mathlib.Numerals.{add-one}

@@ -1,5 +1,6 @@
 -- Document 01, "The plain book", and what an accepted event does to it.
-use Rattle.integers.specs.Basics.{ℕ, Bool, false, not, ◌&&◌, cond, List, [], Option, none, some, ℤ, pos, negsuc, nat_abs, ◌+ℤ◌, eqb}
+use Rattle.std.specs.Prelude.{◌&&◌, ◌+ℤ◌}
+use Rattle.integers.specs.Basics.{ℕ, Bool, false, not, cond, List, [], Option, none, some, ℤ, pos, negsuc, nat_abs, eqb}
 use Rattle.ledger.specs.declared.order.Order.{Order}
 use Rattle.ledger.specs.declared.order.Side.{Side}
 use Rattle.ledger.specs.Orders.{filled_by, replaced_total}

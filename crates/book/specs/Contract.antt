@@ -1,5 +1,5 @@
 -- What demand 3 asks of a desk: that its answers are the table's, and that its memory shows what is kept.
-use Rattle.integers.specs.Basics.{◌≡◌, ◌≢◌}
+use Rattle.std.specs.Prelude.{◌≡◌, ◌≢◌}
 use Rattle.book.specs.States.{State, work}
 use Rattle.book.specs.Table.{answer}
 use Rattle.book.specs.Sound.{Sound}

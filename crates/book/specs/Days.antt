@@ -1,5 +1,6 @@
 -- A day, computed: the answers to a list of events, and what is kept at its end.
-use Rattle.integers.specs.Basics.{ℕ, Bool, true, ◌&&◌, List, [], ◌∷◌, ltb}
+use Rattle.std.specs.Prelude.{◌&&◌, ◌∷◌}
+use Rattle.integers.specs.Basics.{ℕ, Bool, true, List, [], ltb}
 use Rattle.book.specs.declared.Event.{Event}
 use Rattle.book.specs.Decoding.{decode}
 use Rattle.book.specs.States.{State}

@@ -1,5 +1,6 @@
 -- Document 01, "Events": 48 bytes decoded (question 6); any other bytes are junk.
-use Rattle.integers.specs.Basics.{ℕ, ◌+◌, ◌*◌, Bool, true, false, not, ◌&&◌, ◌||◌, cond, List, ℤ, leb, ltb, eqb, length}
+use Rattle.std.specs.Prelude.{◌+◌, ◌*◌, ◌&&◌, ◌||◌}
+use Rattle.integers.specs.Basics.{ℕ, Bool, true, false, not, cond, List, ℤ, leb, ltb, eqb, length}
 use Rattle.words.specs.Fields.{u8_at, u16_at, u64_at, i64_at}
 use Rattle.ledger.specs.Records.{side_of}
 use Rattle.limits.specs.Asked.{is_zero}

@@ -1,5 +1,6 @@
 -- Demand 3, of a desk D whose memory m₀ holds what k₀ says: a single claim about every list of events.
-use Rattle.integers.specs.Basics.{ℕ, ◌≡◌, ◌⊎◌, ◌↔◌, true, List, [], ◌∷◌, some, ℤ, ◌≤ℤ◌, ◌<ℤ◌}
+use Rattle.std.specs.Prelude.{◌≡◌, ◌⊎◌, ◌↔◌, ◌∷◌, ◌≤ℤ◌, ◌<ℤ◌}
+use Rattle.integers.specs.Basics.{ℕ, true, List, [], some, ℤ}
 use Rattle.ledger.specs.declared.order.Order.{Order}
 use Rattle.ledger.specs.Positions.{Scope, Way, position}
 use Rattle.ledger.specs.Fillings.{Filling, balance_after}

@@ -1,5 +1,6 @@
 -- Document 01's starred edges as one table of cases, in bytes, and what the plain book gives of a case.
-use Rattle.integers.specs.Basics.{ℕ, Bool, true, List, [], ◌∷◌, ◌++◌, ℤ, pos, negsuc, neg_ℤ}
+use Rattle.std.specs.Prelude.{◌∷◌, ◌++◌}
+use Rattle.integers.specs.Basics.{ℕ, Bool, true, List, [], ℤ, pos, negsuc, neg_ℤ}
 use Rattle.ledger.specs.Roster.{Roster}
 use Rattle.book.specs.Market.{derivatives}
 use Rattle.book.specs.Decoding.{between, decode}

@@ -1,5 +1,6 @@
 -- Events written out in their 48 bytes: document 01, "Events".
-use Rattle.integers.specs.Basics.{ℕ, zero, suc, ◌/◌, ◌%◌, List, [], ◌∷◌, ◌++◌, ℤ, pos}
+use Rattle.std.specs.Prelude.{◌/◌, ◌%◌, ◌∷◌, ◌++◌}
+use Rattle.integers.specs.Basics.{ℕ, zero, suc, List, [], ℤ, pos}
 use Rattle.integers.specs.TwosComplement.{bits_of}
 
 -- the n bytes of a number, least significant first

@@ -1,5 +1,6 @@
 -- A list of events at a desk, and what is kept from the events and their answers alone.
-use Rattle.integers.specs.Basics.{ℕ, cond, List, [], ◌∷◌, eqb}
+use Rattle.std.specs.Prelude.{◌∷◌}
+use Rattle.integers.specs.Basics.{ℕ, cond, List, [], eqb}
 use Rattle.words.specs.Bytes.{Bytes}
 use Rattle.book.specs.declared.Event.{Event}
 use Rattle.book.specs.Decoding.{decode}

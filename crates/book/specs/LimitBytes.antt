@@ -1,5 +1,6 @@
 -- A LIMIT in its 48 bytes, by the line that it sets: document 01, "Events".
-use Rattle.integers.specs.Basics.{ℕ, ◌≤◌, List, ℤ, pos, nat_abs}
+use Rattle.std.specs.Prelude.{◌≤◌}
+use Rattle.integers.specs.Basics.{ℕ, List, ℤ, pos, nat_abs}
 use Rattle.book.specs.declared.Figures.{Figures}
 use Rattle.book.specs.declared.LimitLine.{LimitLine}
 use Rattle.book.specs.declared.LimitLine.TheVariants.{Own, Default, OfGroup}

@@ -1,5 +1,6 @@
 -- Document 01's listing: its roster, and its events in bytes.
-use Rattle.integers.specs.Basics.{ℕ, List, [], ◌∷◌, pos, negsuc, neg_ℤ}
+use Rattle.std.specs.Prelude.{◌∷◌}
+use Rattle.integers.specs.Basics.{ℕ, List, [], pos, negsuc, neg_ℤ}
 use Rattle.book.specs.EventBytes.{line, group_line, balance, buy, sell, fill_bytes, cancel_bytes}
 use Rattle.book.specs.Rosters.{Tables}
 

@@ -1,6 +1,7 @@
 -- A day with puts, in bytes, longer than document 01's listing: each way of refusing an order for a position limit, an order that is
 -- accepted at its limit, and what may come after it.
-use Rattle.integers.specs.Basics.{ℕ, List, [], ◌∷◌, ◌++◌, pos, negsuc, neg_ℤ, take}
+use Rattle.std.specs.Prelude.{◌∷◌, ◌++◌}
+use Rattle.integers.specs.Basics.{ℕ, List, [], pos, negsuc, neg_ℤ, take}
 use Rattle.book.specs.EventBytes.{limit_bytes, line, group_line, balance_bytes, balance, block_bytes, buy, sell, replace_bytes}
 use Rattle.book.specs.EventBytes.{cancel_bytes, fill_bytes}
 use Rattle.book.specs.Rosters.{Tables}

@@ -1,5 +1,6 @@
 -- What a desk's figures run to, and what its orders count for.
-use Rattle.integers.specs.Basics.{ℕ, ◌≡◌, refl, cond, eqb}
+use Rattle.std.specs.Prelude.{◌≡◌}
+use Rattle.integers.specs.Basics.{ℕ, refl, cond, eqb}
 use Rattle.ledger.specs.declared.order.Order.{Order}
 use Rattle.ledger.specs.Orders.{filled_by, replaced_total}
 use Rattle.ledger.specs.Derivatives.{one}

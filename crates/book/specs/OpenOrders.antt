@@ -1,5 +1,6 @@
 -- The open orders of the plain book: a list ascending by id.
-use Rattle.integers.specs.Basics.{ℕ, cond, List, [], ◌∷◌, ◌++◌, Option, none, some, ltb, eqb}
+use Rattle.std.specs.Prelude.{◌∷◌, ◌++◌}
+use Rattle.integers.specs.Basics.{ℕ, cond, List, [], Option, none, some, ltb, eqb}
 use Rattle.ledger.specs.declared.order.Order.{Order}
 use Rattle.ledger.specs.Orders.{closes}
 

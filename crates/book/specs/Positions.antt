@@ -1,5 +1,6 @@
 -- The positions that a state gives: those of its plain book, counted as its market counts.
-use Rattle.integers.specs.Basics.{ℕ, List, [], ◌∷◌, ℤ}
+use Rattle.std.specs.Prelude.{◌∷◌}
+use Rattle.integers.specs.Basics.{ℕ, List, [], ℤ}
 use Rattle.ledger.specs.Positions.{Scope, Way, long, short, instrument, group, potential}
 use Rattle.book.specs.States.{State}
 

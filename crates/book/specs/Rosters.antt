@@ -1,5 +1,6 @@
 -- A roster written out as tables, and in bytes: document 01, "Roster".
-use Rattle.integers.specs.Basics.{ℕ, List, [], ◌∷◌, ◌++◌, ℤ, pos, length, get_or}
+use Rattle.std.specs.Prelude.{◌∷◌, ◌++◌}
+use Rattle.integers.specs.Basics.{ℕ, List, [], ℤ, pos, length, get_or}
 use Rattle.integers.specs.TwosComplement.{bits_of}
 use Rattle.ledger.specs.Roster.{Roster}
 use Rattle.book.specs.EventBytes.{bytes_of}

@@ -1,6 +1,7 @@
 -- "A limit that applies is set again by an accepted LIMIT, −1 included, on the group's line or on a line in force before or
 -- after it": lines are known by name, not by figures.
-use Rattle.integers.specs.Basics.{ℕ, ◌≡◌, ◌⊎◌, cond, Option, none, some}
+use Rattle.std.specs.Prelude.{◌≡◌, ◌⊎◌}
+use Rattle.integers.specs.Basics.{ℕ, cond, Option, none, some}
 use Rattle.ledger.specs.Roster.{Roster}
 use Rattle.ledger.specs.Positions.{Scope, instrument, group}
 use Rattle.limits.specs.Lines.{is_set}

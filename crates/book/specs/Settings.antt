@@ -1,6 +1,7 @@
 -- A setting, in document 01's words: what a LIMIT, a BALANCE and a BLOCK name, and which of the three it is. Whatever does not ask that
 -- takes a setting as it is.
-use Rattle.integers.specs.Basics.{ℕ, ◌≡◌, refl, Option, none, some, ℤ}
+use Rattle.std.specs.Prelude.{◌≡◌}
+use Rattle.integers.specs.Basics.{ℕ, refl, Option, none, some, ℤ}
 use Rattle.book.specs.declared.LimitLine.{LimitLine}
 use Rattle.book.specs.declared.LimitLine.TheVariants.{Own, Default, OfGroup}
 use Rattle.book.specs.declared.Blocked.{Blocked}

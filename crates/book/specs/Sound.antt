@@ -1,6 +1,7 @@
 -- Document 01's "sound", sentence by sentence, of what a desk holds. B and V are what the orders say, so that
 -- they equal the orders' sums is no condition.
-use Rattle.integers.specs.Basics.{ℕ, ◌≤◌, ◌<◌, ◌≡◌, true, List, [], ◌∷◌, ListMemᴰ, some, pos, nat_abs, ◌≤ℤ◌, length}
+use Rattle.std.specs.Prelude.{◌≤◌, ◌<◌, ◌≡◌, ◌∷◌, ◌≤ℤ◌}
+use Rattle.integers.specs.Basics.{ℕ, true, List, [], ListMemᴰ, some, pos, nat_abs, length}
 use Rattle.ledger.specs.declared.order.Order.{Order}
 use Rattle.ledger.specs.Orders.{remaining}
 use Rattle.ledger.specs.Roster.{Roster, Numbered}

@@ -1,6 +1,7 @@
 -- Document 01, "Questions, in order": each question about an event is one definition, true also of an event that is not
 -- asked it, and the table has them in the document's order. Question 5 is asked of the memory, before these.
-use Rattle.integers.specs.Basics.{ℕ, Bool, true, false, not, ◌&&◌, ◌||◌, cond, List, [], ◌∷◌, ◌++◌, Option, none, some, ℤ, pos, neg_ℤ}
+use Rattle.std.specs.Prelude.{◌&&◌, ◌||◌, ◌∷◌, ◌++◌}
+use Rattle.integers.specs.Basics.{ℕ, Bool, true, false, not, cond, List, [], Option, none, some, ℤ, pos, neg_ℤ}
 use Rattle.integers.specs.Basics.{nat_abs, le_z, leb, ltb, length}
 use Rattle.ledger.specs.declared.order.Order.{Order}
 use Rattle.ledger.specs.declared.order.Side.TheVariants.{Buy, Sell}

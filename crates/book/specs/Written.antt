@@ -1,5 +1,6 @@
 -- Events of a list, from numbers written out.
-use Rattle.integers.specs.Basics.{ℕ, zero, suc, ◌%◌, List, [], ◌∷◌, arith}
+use Rattle.std.specs.Prelude.{◌%◌, ◌∷◌}
+use Rattle.integers.specs.Basics.{ℕ, zero, suc, List, [], arith}
 use Rattle.words.specs.Bytes.{Bytes}
 use Rattle.book.specs.EventLists.{RawEvent}
 

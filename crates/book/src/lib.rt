@@ -1,4 +1,6 @@
 // Events as plain data. The crate's definitions and laws are in specs/ and proofs/.
+#![tactic(auto)]
+
 pub mod market;
 
 ghost use Rattle.std.specs.Prelude.{◌≡◌};
@@ -7,7 +9,7 @@ ghost use Rattle.book.specs.Books.{is_minus_one, unsets};
 use ledger::order::Side;
 
 // The four figures of an instrument's or a contract's line, as an event names them.
-#[derive(Drop)]
+#[derive(Clone, Copy)]
 pub struct Figures {
     pub tci: i64,
     pub tvi: i64,
@@ -41,7 +43,7 @@ impl Figures {
 }
 
 // The line that a LIMIT sets, with its figures: levels 1, 2 and 3.
-#[derive(Drop)]
+#[derive(Clone, Copy)]
 pub enum LimitLine {
     Own { instrument: u64, figures: Figures },
     Default { contract: u64, figures: Figures },
@@ -49,7 +51,7 @@ pub enum LimitLine {
 }
 
 // What a BLOCK blocks: levels 1, 2 and 3.
-#[derive(Drop)]
+#[derive(Clone, Copy)]
 pub enum Blocked {
     Account { account: u64 },
     Instrument { instrument: u64 },
@@ -57,7 +59,7 @@ pub enum Blocked {
 }
 
 // The fields that a kind and level names, and how many figures.
-#[derive(Drop)]
+#[derive(Clone, Copy)]
 pub struct Named {
     pub side: bool,
     pub account: bool,
@@ -68,7 +70,7 @@ pub struct Named {
 }
 
 // What changes an open order.
-#[derive(Drop)]
+#[derive(Clone, Copy)]
 pub enum OrderChange {
     Replace { total: i64 },
     Cancel,
@@ -76,7 +78,7 @@ pub enum OrderChange {
 }
 
 // What sets something of a desk: a line, a balance, a block.
-#[derive(Drop)]
+#[derive(Clone, Copy)]
 pub enum Setting {
     Limit {
         account: u64,
@@ -95,7 +97,7 @@ pub enum Setting {
 
 // An event of each kind, or bytes that are none; LIMIT, BALANCE and BLOCK are one case, what is set; REPLACE, CANCEL and FILL are one, an
 // open order's id and the change.
-#[derive(Drop)]
+#[derive(Clone, Copy)]
 pub enum Event {
     Set {
         setting: Setting,

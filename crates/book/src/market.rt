@@ -2,7 +2,7 @@
 ghost use Rattle.std.specs.Prelude.{◌≡◌};
 ghost use Rattle.book.specs.Market.{market_of_kind};
 
-#[derive(Drop)]
+#[derive(Clone, Copy)]
 pub struct Market {
     pub largest: u64,
 }

@@ -1,5 +1,6 @@
 -- A figure that is read: as a signed number, and as bits that are tested for zero.
-use Rattle.integers.specs.Basics.{ℕ, zero, suc, ◌^◌, ◌<◌, ◌≡◌, refl, ◌∙◌, sym, ◌≢◌, false, List, ℤ, pos, negsuc, eqb, w64, SFits, to_z, of_z}
+use Rattle.std.specs.Prelude.{◌^◌, ◌<◌, ◌≡◌, ◌≢◌}
+use Rattle.integers.specs.Basics.{ℕ, zero, suc, refl, ◌∙◌, sym, false, List, ℤ, pos, negsuc, eqb, w64, SFits, to_z, of_z}
 use Rattle.integers.specs.Basics.{to_z-of_z, arith, ne_eqb}
 use Rattle.integers.specs.TwosComplement.{signed_of, bits_of, bits_signed}
 use Rattle.words.specs.Fields.{u64_at, i64_at}

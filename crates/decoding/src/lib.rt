@@ -1,4 +1,6 @@
 // 48 bytes to an event, by value: question 6. Any other bytes are junk.
+#![tactic(auto)]
+
 ghost use Rattle.std.specs.Prelude.{◌≡◌, not, ◌||◌, cond, ◌+◌, ◌≤◌, eqb, length};
 ghost use Rattle.words.specs.Fields.{u16_at, i64_at};
 ghost use Rattle.limits.specs.Asked.{is_zero};

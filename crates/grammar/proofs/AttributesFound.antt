@@ -1,6 +1,7 @@
 -- Attributes that are written are found.
 use Prim.Native.String.{String}
-use Rattle.integers.specs.Basics.{ℕ, ◌+◌, ◌≤◌, ◌≡◌, refl, ◌∙◌, Bool, true, false, ◌&&◌, List, [], ◌∷◌, ◌++◌, none, some, length, take, drop}
+use Rattle.std.specs.Prelude.{◌+◌, ◌≤◌, ◌≡◌, ◌&&◌, ◌∷◌, ◌++◌}
+use Rattle.integers.specs.Basics.{ℕ, refl, ◌∙◌, Bool, true, false, List, [], none, some, length, take, drop}
 use Rattle.integers.specs.Basics.{arith, le-leb, lt-ltb, le-ltb, false≢true}
 use mathlib.Core.Bool.{and-eq-true_iff}
 use mathlib.Core.List.{append_assoc}

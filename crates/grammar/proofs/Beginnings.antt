@@ -1,6 +1,7 @@
 -- How tags and elements begin: with bytes that are known, so with no blank, and many elements have a byte each at least.
 use Prim.Native.String.{String}
-use Rattle.integers.specs.Basics.{ℕ, ◌≤◌, ◌≡◌, refl, ap, inl, inr, true, false≢true, List, [], ◌∷◌, ◌++◌, length, arith}
+use Rattle.std.specs.Prelude.{◌≤◌, ◌≡◌, ◌∷◌, ◌++◌}
+use Rattle.integers.specs.Basics.{ℕ, refl, ap, inl, inr, true, false≢true, List, [], length, arith}
 use mathlib.Core.List.{append_assoc}
 use lib.ListN.{length-append}
 use Rattle.grammar.specs.Bytes.{is_blank, Then}

@@ -1,5 +1,6 @@
 -- A loop that compares the bytes of a literal l with those of s from a place on, byte by byte or n at once, as one number.
-use Rattle.integers.specs.Basics.{ℕ, zero, suc, ◌+◌, ◌-◌, ◌≤◌, ◌<◌, ◌≡◌, refl, ◌∙◌, sym, by_cases, true, false, List, length, get_or, drop}
+use Rattle.std.specs.Prelude.{◌+◌, ◌-◌, ◌≤◌, ◌<◌, ◌≡◌}
+use Rattle.integers.specs.Basics.{ℕ, zero, suc, refl, ◌∙◌, sym, by_cases, true, false, List, length, get_or, drop}
 use Rattle.integers.specs.Basics.{ℕ_discrete, arith}
 use lib.ListN.{length-drop}
 use Rattle.words.specs.Bytes.{Bytes, number}

@@ -1,6 +1,7 @@
 -- Elements that are written are found.
 use Prim.Native.String.{String}
-use Rattle.integers.specs.Basics.{ℕ, zero, suc, ◌+◌, ◌<◌, ◌≡◌, refl, ◌∙◌, ap, inl, inr, true, false, ◌&&◌, cond, List, [], ◌∷◌, ◌++◌}
+use Rattle.std.specs.Prelude.{◌+◌, ◌<◌, ◌≡◌, ◌&&◌, ◌∷◌, ◌++◌}
+use Rattle.integers.specs.Basics.{ℕ, zero, suc, refl, ◌∙◌, ap, inl, inr, true, false, cond, List, []}
 use Rattle.integers.specs.Basics.{length, drop, arith}
 use mathlib.Core.Bool.{and-eq-true_iff}
 use mathlib.Core.List.{append_assoc}

@@ -1,6 +1,7 @@
 -- A loop that counts the bytes of a class from a place on, up to a bound, and what is read where a quote must stand behind them.
 use Prim.Native.Nat.{min}
-use Rattle.integers.specs.Basics.{ℕ, ◌+◌, ◌-◌, ◌≤◌, ◌<◌, ◌≡◌, ◌∙◌, sym, by_cases, Bool, true, false, ◌&&◌, cond, List, length}
+use Rattle.std.specs.Prelude.{◌+◌, ◌-◌, ◌≤◌, ◌<◌, ◌≡◌, ◌&&◌}
+use Rattle.integers.specs.Basics.{ℕ, ◌∙◌, sym, by_cases, Bool, true, false, cond, List, length}
 use Rattle.integers.specs.Basics.{get_or, drop, arith, ne_eqb}
 use mathlib.Core.Bool.{and-false}
 use native.Mathlib.Decide.{dec_le}

@@ -1,6 +1,7 @@
 -- What is not there ends with the file, and there nothing more is read: a value behind its name needs no test between them, and every
 -- place that code goes to is in the file.
-use Rattle.integers.specs.Basics.{ℕ, ◌+◌, ◌≤◌, ◌≡◌, refl, ◌∙◌, ap, cond, List, length, arith}
+use Rattle.std.specs.Prelude.{◌+◌, ◌≤◌, ◌≡◌}
+use Rattle.integers.specs.Basics.{ℕ, refl, ◌∙◌, ap, cond, List, length, arith}
 use Rattle.grammar.specs.Bytes.{bytes}
 use Rattle.grammar.specs.Reader.{Reading, nothing, up_to, next, literal_at, past_blanks, opening_at, digits_at, plain_at, number_at, text_at}
 use Rattle.grammar.specs.Ends.{end_of, number_of}

@@ -1,6 +1,7 @@
 -- A file is read as what it is, and is one thing at most.
-use Rattle.integers.specs.Basics.{ℕ, ◌≤◌, ◌≡◌, refl, ◌∙◌, sym, ap, subst, ◌⊎◌, inl, inr, ◌↔◌, true, false, ◌&&◌, true≢false, false≢true}
-use Rattle.integers.specs.Basics.{List, [], ◌∷◌, ◌++◌, some, eqb, length, drop, arith, not-true, eqb-true, eq-eqb, ne_eqb}
+use Rattle.std.specs.Prelude.{◌≤◌, ◌≡◌, ◌⊎◌, ◌↔◌, ◌&&◌, ◌∷◌, ◌++◌}
+use Rattle.integers.specs.Basics.{ℕ, refl, ◌∙◌, sym, ap, subst, inl, inr, true, false, true≢false, false≢true}
+use Rattle.integers.specs.Basics.{List, [], some, eqb, length, drop, arith, not-true, eqb-true, eq-eqb, ne_eqb}
 use mathlib.Core.Bool.{and-eq-true_iff}
 use mathlib.Core.List.{append-nil}
 use lib.ListN.{length-drop}

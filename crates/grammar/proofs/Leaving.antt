@@ -1,5 +1,6 @@
 -- What a reader finds and what it leaves behind that: one reader behind another, and bytes that are there.
-use Rattle.integers.specs.Basics.{ℕ, ◌≡◌, ◌∙◌, ap, true, List, ◌++◌, drop}
+use Rattle.std.specs.Prelude.{◌≡◌, ◌++◌}
+use Rattle.integers.specs.Basics.{ℕ, ◌∙◌, ap, true, List, drop}
 use mathlib.Core.List.{append_assoc}
 use Rattle.grammar.specs.Bytes.{is_blank, Each}
 use Rattle.grammar.specs.Reader.{Reading, up_to, next, with, literal_at, past_blanks}

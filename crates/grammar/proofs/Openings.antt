@@ -1,5 +1,6 @@
 -- What code finds of a blank or more and a literal l behind them, by the byte at p: no byte, no blank, or a blank.
-use Rattle.integers.specs.Basics.{ℕ, ◌+◌, ◌≤◌, ◌<◌, ◌≡◌, ◌∙◌, sym, Bool, true, false, cond, List, length, get_or, arith, lt-ltb, le-ltb}
+use Rattle.std.specs.Prelude.{◌+◌, ◌≤◌, ◌<◌, ◌≡◌}
+use Rattle.integers.specs.Basics.{ℕ, ◌∙◌, sym, Bool, true, false, cond, List, length, get_or, arith, lt-ltb, le-ltb}
 use Rattle.grammar.specs.Bytes.{is_blank}
 use Rattle.grammar.specs.Reader.{nothing, up_to, literal_at, past_blanks, opening_at}
 use Rattle.grammar.proofs.Spans.{past_end, past_off, past_on, past_least}

@@ -1,5 +1,6 @@
 -- What stands in a list from a place on: cut in two, and how much of it there is.
-use Rattle.integers.specs.Basics.{ℕ, ◌+◌, ◌-◌, ◌≡◌, ◌∙◌, sym, ap, List, ◌++◌, length, take, drop}
+use Rattle.std.specs.Prelude.{◌+◌, ◌-◌, ◌≡◌, ◌++◌}
+use Rattle.integers.specs.Basics.{ℕ, ◌∙◌, sym, ap, List, length, take, drop}
 use lib.ListN.{length-append, length-drop, take-append-drop}
 use lib.Seq.{drop-drop, drop-append_seam}
 

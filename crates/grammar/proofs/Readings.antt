@@ -1,5 +1,6 @@
 -- What is known of the parts of something that was read.
-use Rattle.integers.specs.Basics.{ℕ, ◌+◌, ◌≡◌, refl, ◌⊎◌, inl, inr, ⊎_elim, Bool, true, false, ◌&&◌, cond, List, length, arith}
+use Rattle.std.specs.Prelude.{◌+◌, ◌≡◌, ◌⊎◌, ◌&&◌}
+use Rattle.integers.specs.Basics.{ℕ, refl, inl, inr, ⊎_elim, Bool, true, false, cond, List, length, arith}
 use mathlib.Core.Bool.{and-eq-true_iff}
 use Rattle.grammar.specs.Bytes.{bytes}
 use Rattle.grammar.specs.Reader.{Reading, nothing, up_to, next, with, literal_at, past_blanks}
@@ -40,7 +41,8 @@ module _ {A : Type 0} where
 
   -- what an element holds
   pub read_enclosed : (s : List ℕ) (v : A) (f : ℕ → Reading A) (p : ℕ) {w : A} {n : ℕ}
-      → cond (literal_at s (bytes "/>") p) (up_to v (p + 2)) (cond (literal_at s (bytes ">") p) (f (past_blanks s (p + 1))) nothing) ≡ up_to w n
+      → cond (literal_at s (bytes "/>") p) (up_to v (p + 2))
+      (cond (literal_at s (bytes ">") p) (f (past_blanks s (p + 1))) nothing) ≡ up_to w n
       → ((literal_at s (bytes "/>") p ≡ true) × (v ≡ w) × (p + 2 ≡ n))
       ⊎ ((literal_at s (bytes ">") p ≡ true) × (f (past_blanks s (p + 1)) ≡ up_to w n))
   read_enclosed s v f p e =

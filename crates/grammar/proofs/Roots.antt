@@ -1,5 +1,6 @@
 -- The root of a file, with the element in it: what is read of it is written, lies in the file, and is read where it is written.
-use Rattle.integers.specs.Basics.{ℕ, ◌+◌, ◌≤◌, ◌≡◌, refl, ◌∙◌, sym, ap, true, cond, List, [], ◌++◌, length, drop}
+use Rattle.std.specs.Prelude.{◌+◌, ◌≤◌, ◌≡◌, ◌++◌}
+use Rattle.integers.specs.Basics.{ℕ, refl, ◌∙◌, sym, ap, true, cond, List, [], length, drop}
 use mathlib.Core.List.{append-nil}
 use Rattle.grammar.specs.Bytes.{is_blank, Then, Each}
 use Rattle.grammar.specs.Grammar.{Value, Written}

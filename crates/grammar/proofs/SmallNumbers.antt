@@ -1,6 +1,7 @@
 -- Numbers that are read have ten digits at most, so they are below 10 to the tenth.
 use Prim.Native.String.{String}
-use Rattle.integers.specs.Basics.{ℕ, ◌+◌, ◌*◌, ◌-◌, ◌^◌, ◌≤◌, ◌<◌, ◌≡◌, refl, subst, true, List, [], ◌∷◌, Option, none, some, length, arith}
+use Rattle.std.specs.Prelude.{◌+◌, ◌*◌, ◌-◌, ◌^◌, ◌≤◌, ◌<◌, ◌≡◌, ◌∷◌}
+use Rattle.integers.specs.Basics.{ℕ, refl, subst, true, List, [], Option, none, some, length, arith}
 use native.Mathlib.Nat.{pow-suc, pow-le-pow_right, mul_comm, mul_assoc}
 use Rattle.grammar.specs.Bytes.{is_digit, value_from, all}
 use Rattle.grammar.specs.Grammar.{Attribute, number, text, together, Numbers, Values, Digits}

@@ -1,6 +1,7 @@
 -- What the reader finds is written there.
 use Prim.Native.String.{String}
-use Rattle.integers.specs.Basics.{ℕ, zero, suc, ◌+◌, ◌<◌, ◌≡◌, refl, ◌∙◌, sym, ap, subst, ⊎_elim, inl, inr, ◌&&◌, cond, List, [], ◌∷◌, ◌++◌}
+use Rattle.std.specs.Prelude.{◌+◌, ◌<◌, ◌≡◌, ◌&&◌, ◌∷◌, ◌++◌}
+use Rattle.integers.specs.Basics.{ℕ, zero, suc, refl, ◌∙◌, sym, ap, subst, ⊎_elim, inl, inr, cond, List, []}
 use Rattle.integers.specs.Basics.{Option, leb, ltb, length, drop, arith, leb-true, ltb-true}
 use mathlib.Core.Bool.{and-eq-true_iff}
 use Rattle.grammar.specs.Bytes.{bytes, is_blank, is_digit, is_plain, value_of, Then, Literal}
@@ -86,7 +87,8 @@ module _ (s : List ℕ) where
       let same = read_same e in
       subst (λ z. Stands s p n (Attributes (together ns ∷ l) (z, v))) same.0 (stands_then (each y k refl) (rw same.1 a))
 
-  pub attributes_sound : (l : List Attribute) (p : ℕ) {v : Values l} {n : ℕ} → attributes_at s l p ≡ up_to v n → Stands s p n (Attributes l v)
+  pub attributes_sound : (l : List Attribute) (p : ℕ) {v : Values l} {n : ℕ} → attributes_at s l p ≡ up_to v n
+      → Stands s p n (Attributes l v)
   unfolding attributes_at
   attributes_sound [] p e = let same = read_same e in rw (← same.1) (stands_nothing s p)
   attributes_sound (number m ∷ l) p {n} e =
@@ -118,7 +120,8 @@ module _ (s : List ℕ) where
 
   enclosed_sound : {A : Type 0} (name : String) (P : A → List ℕ → Type 0) (v : A) → P v [] → (f : ℕ → Reading A)
       → ((q : ℕ) (w : A) (k : ℕ) → f q ≡ up_to w k → Ended (P w) (closing name) q k) → (p : ℕ) {w : A} {n : ℕ}
-      → cond (literal_at s (bytes "/>") p) (up_to v (p + 2)) (cond (literal_at s (bytes ">") p) (f (past_blanks s (p + 1))) nothing) ≡ up_to w n
+      → cond (literal_at s (bytes "/>") p) (up_to v (p + 2))
+      (cond (literal_at s (bytes ">") p) (f (past_blanks s (p + 1))) nothing) ≡ up_to w n
       → Stands s p n (Enclosed name (P w))
   enclosed_sound name P v empty f each p {w} {n} e =
       ⊎_elim (λ r. subst (λ u. Stands s p n (Enclosed name (P u))) r.1 (rw (← r.2) (stands_as (λ x is. inl (is, empty))

@@ -1,6 +1,7 @@
 -- Laws of how many bytes in a row are of a class: turn by turn, for a loop that counts them; that they are of the class, and what comes
 -- behind them is not; and how many there are where that is known. Blanks are such a class.
-use Rattle.integers.specs.Basics.{ℕ, zero, suc, ◌+◌, ◌-◌, ◌≤◌, ◌<◌, ◌≡◌, refl, ◌∙◌, sym, ap, Bool, true, false, List, [], ◌∷◌, ◌++◌}
+use Rattle.std.specs.Prelude.{◌+◌, ◌-◌, ◌≤◌, ◌<◌, ◌≡◌, ◌∷◌, ◌++◌}
+use Rattle.integers.specs.Basics.{ℕ, zero, suc, refl, ◌∙◌, sym, ap, Bool, true, false, List, []}
 use Rattle.integers.specs.Basics.{false≢true, length, get_or, take, drop, arith, not-true}
 use mathlib.Core.Bool.{and-eq-true_iff}
 use lib.ListN.{length-drop, drop_of_length-le}

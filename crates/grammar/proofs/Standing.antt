@@ -1,5 +1,6 @@
 -- What stands between two places of a file: one piece behind another, and bytes that were looked at.
-use Rattle.integers.specs.Basics.{ℕ, ◌+◌, ◌≡◌, refl, ◌∙◌, sym, ap, Bool, true, List, [], ◌++◌, length, take, drop}
+use Rattle.std.specs.Prelude.{◌+◌, ◌≡◌, ◌++◌}
+use Rattle.integers.specs.Basics.{ℕ, refl, ◌∙◌, sym, ap, Bool, true, List, [], length, take, drop}
 use mathlib.Core.List.{append_assoc}
 use lib.Seq.{drop-drop, length-take-le}
 use Rattle.grammar.specs.Bytes.{is_blank, Then, Each}

@@ -1,5 +1,6 @@
 -- Laws of bytes that begin with others: turn by turn, for a loop that compares; where they do; and where they cannot, since they differ.
-use Rattle.integers.specs.Basics.{ℕ, ◌+◌, ◌≤◌, ◌<◌, ◌≡◌, refl, sym, ap, true, false, false≢true, List, [], ◌∷◌, ◌++◌, eqb, length, get_or}
+use Rattle.std.specs.Prelude.{◌+◌, ◌≤◌, ◌<◌, ◌≡◌, ◌∷◌, ◌++◌}
+use Rattle.integers.specs.Basics.{ℕ, refl, sym, ap, true, false, false≢true, List, [], eqb, length, get_or}
 use Rattle.integers.specs.Basics.{drop, arith, eqb-true, eqb-false, eq-eqb, ne_eqb}
 use mathlib.Core.Bool.{and-eq-true_iff}
 use lib.ListN.{drop_of_length-le, length-append}

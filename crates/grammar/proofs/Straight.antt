@@ -1,7 +1,8 @@
 -- Code that reads attribute after attribute with no branch, and asks what stands behind the last alone, finds what the reader finds.
 use Prim.Native.String.{String}
-use Rattle.integers.specs.Basics.{ℕ, ◌+◌, ◌≡◌, refl, ◌∙◌, sym, true, false, false≢true, cond, List, [], ◌∷◌, Option, none, some}
-use Rattle.integers.specs.Basics.{length, drop, eqb, arith, eqb-true, ltb, ltb-true, ◌&&◌}
+use Rattle.std.specs.Prelude.{◌+◌, ◌≡◌, ◌∷◌, ◌&&◌}
+use Rattle.integers.specs.Basics.{ℕ, refl, ◌∙◌, sym, true, false, false≢true, cond, List, [], Option, none, some}
+use Rattle.integers.specs.Basics.{length, drop, eqb, arith, eqb-true, ltb, ltb-true}
 use mathlib.Core.Bool.{and-eq-true_iff}
 use Rattle.grammar.specs.Bytes.{bytes, is_blank}
 use Rattle.grammar.specs.Grammar.{Attribute, number, text, together, Numbers, Values}
@@ -199,7 +200,8 @@ module _ (s : List ℕ) where
         (λ e. rw e (straight_end l k ends))
 
     -- whatever is made of the tag, if it is z where there is none
-    pub tag_made : (name : String) (l : List Attribute) → attributes_readable l ≡ true → (k : Values l → ℕ → X) → Ends k → (p : ℕ) (made : X)
+    pub tag_made : (name : String) (l : List Attribute) → attributes_readable l ≡ true → (k : Values l → ℕ → X) → Ends k
+        → (p : ℕ) (made : X)
         → (tag_at s name l p ≡ nothing → z ≡ made) → ((v : Values l) (n : ℕ) → tag_at s name l p ≡ up_to v n → k v n ≡ made)
         → straight l k (cond (literal_at s (opening name) p) (p + length (opening name)) (length s)) ≡ made
     tag_made name l ok k ends p made absent there =

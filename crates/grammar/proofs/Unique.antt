@@ -1,5 +1,6 @@
 -- Bytes are one element at most: the reader finds each of two that they are.
-use Rattle.integers.specs.Basics.{ℕ, ◌≡◌, sym, true, List, []}
+use Rattle.std.specs.Prelude.{◌≡◌}
+use Rattle.integers.specs.Basics.{ℕ, sym, true, List, []}
 use mathlib.Core.List.{append-nil}
 use Rattle.grammar.specs.Grammar.{Element, Value, Written}
 use Rattle.grammar.specs.Readable.{readable}

@@ -1,6 +1,7 @@
 -- What is read where a loop over digits or plain bytes ends: at a quote, at another byte, or where there are too many.
 use Prim.Native.Nat.{min}
-use Rattle.integers.specs.Basics.{ℕ, ◌+◌, ◌-◌, ◌≤◌, ◌<◌, ◌≡◌, refl, ◌∙◌, sym, ap, Bool, false, ◌&&◌, leb, List, length, get_or, take, drop}
+use Rattle.std.specs.Prelude.{◌+◌, ◌-◌, ◌≤◌, ◌<◌, ◌≡◌, ◌&&◌}
+use Rattle.integers.specs.Basics.{ℕ, refl, ◌∙◌, sym, ap, Bool, false, leb, List, length, get_or, take, drop}
 use Rattle.integers.specs.Basics.{arith, le-leb}
 use Rattle.grammar.specs.Bytes.{is_digit, is_plain, value_of}
 use Rattle.grammar.specs.Reader.{nothing, up_to, digits_at, plain_at}

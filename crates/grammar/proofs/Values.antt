@@ -1,5 +1,6 @@
 -- The number that digits say, digit by digit, and that it fits: below 10 to their number.
-use Rattle.integers.specs.Basics.{ℕ, suc, ◌+◌, ◌*◌, ◌-◌, ◌^◌, ◌≤◌, ◌<◌, ◌≡◌, refl, true, List, [], ◌∷◌, ◌++◌, leb, length, get_or}
+use Rattle.std.specs.Prelude.{◌+◌, ◌*◌, ◌-◌, ◌^◌, ◌≤◌, ◌<◌, ◌≡◌, ◌∷◌, ◌++◌}
+use Rattle.integers.specs.Basics.{ℕ, suc, refl, true, List, [], leb, length, get_or}
 use Rattle.integers.specs.Basics.{take, drop, arith, leb-true}
 use mathlib.Core.Bool.{and-eq-true_iff}
 use native.Mathlib.Nat.{pow-suc, pow-le-pow_right}

@@ -1,5 +1,6 @@
 -- A file by its pieces: the root's start tag, the element in it, and what ends the file.
-use Rattle.integers.specs.Basics.{ℕ, ◌+◌, ◌≡◌, refl, Bool, true, false, ◌&&◌, cond, List, none, some, eqb, length}
+use Rattle.std.specs.Prelude.{◌+◌, ◌≡◌, ◌&&◌}
+use Rattle.integers.specs.Basics.{ℕ, refl, Bool, true, false, cond, List, none, some, eqb, length}
 use Rattle.grammar.specs.Grammar.{Value}
 use Rattle.grammar.specs.Reader.{nothing, up_to, literal_at, past_blanks, element_at}
 use Rattle.grammar.specs.Document.{Document, root_opens, root_closes, file_starts, document_at, wholly, file_of, file_ends}

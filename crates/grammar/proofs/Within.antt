@@ -1,6 +1,7 @@
 -- What is read from a place of a file on ends in the file, behind that place.
 use Prim.Native.String.{String}
-use Rattle.integers.specs.Basics.{ℕ, zero, suc, ◌+◌, ◌≤◌, ◌<◌, ◌≡◌, refl, Bool, ⊎_elim, true, ◌&&◌, cond, List, [], ◌∷◌, Option, length}
+use Rattle.std.specs.Prelude.{◌+◌, ◌≤◌, ◌<◌, ◌≡◌, ◌&&◌, ◌∷◌}
+use Rattle.integers.specs.Basics.{ℕ, zero, suc, refl, Bool, ⊎_elim, true, cond, List, [], Option, length}
 use Rattle.integers.specs.Basics.{drop, leb, ltb, arith, ltb-true}
 use lib.ListN.{length-drop}
 use Rattle.grammar.specs.Bytes.{bytes, is_digit, is_plain}
@@ -124,7 +125,8 @@ module _ (s : List ℕ) where
       (omega arith, b.1)
 
   enclosed_within : {A : Type 0} (v : A) (f : ℕ → Reading A) (p : ℕ) {w : A} {n : ℕ} → Onward f → p ≤ length s
-      → cond (literal_at s (bytes "/>") p) (up_to v (p + 2)) (cond (literal_at s (bytes ">") p) (f (past_blanks s (p + 1))) nothing) ≡ up_to w n
+      → cond (literal_at s (bytes "/>") p) (up_to v (p + 2))
+      (cond (literal_at s (bytes ">") p) (f (past_blanks s (p + 1))) nothing) ≡ up_to w n
       → Behind p n
   enclosed_within v f p {w} {n} onward h e =
       ⊎_elim (λ r. let a = literal_within (bytes "/>") p h r.0 in (omega arith, omega arith))

@@ -1,7 +1,8 @@
 -- The bytes of a file: how a text stands in them, the classes that a layout speaks of, and pieces one after the other.
 use Prim.Native.Char.{code}
 use Prim.Native.String.{String, [] as empty, ◌∷◌ as ◌before◌}
-use Rattle.integers.specs.Basics.{ℕ, ◌+◌, ◌*◌, ◌-◌, ◌≡◌, Bool, true, not, ◌&&◌, ◌||◌, List, [], ◌∷◌, ◌++◌, leb, eqb}
+use Rattle.std.specs.Prelude.{◌+◌, ◌*◌, ◌-◌, ◌≡◌, ◌&&◌, ◌||◌, ◌∷◌, ◌++◌}
+use Rattle.integers.specs.Basics.{ℕ, Bool, true, not, List, [], leb, eqb}
 
 -- a text in ASCII
 abbrev pub bytes : String → List ℕ

@@ -1,6 +1,7 @@
 -- A file: an element in its root, with a declaration before it or none, and blanks around tags.
 use Prim.Native.String.{String}
-use Rattle.integers.specs.Basics.{ℕ, ◌+◌, ◌≡◌, ◌⊎◌, Bool, ◌&&◌, cond, List, [], ◌++◌, Option, none, some, eqb, length}
+use Rattle.std.specs.Prelude.{◌+◌, ◌≡◌, ◌⊎◌, ◌&&◌, ◌++◌}
+use Rattle.integers.specs.Basics.{ℕ, Bool, cond, List, [], Option, none, some, eqb, length}
 use Rattle.grammar.specs.Bytes.{bytes, is_blank, Then, Literal, Each}
 use Rattle.grammar.specs.Grammar.{Element, Value, Written}
 use Rattle.grammar.specs.Reader.{Reading, nothing, up_to, next, literal_at, past_blanks, element_at}

@@ -1,6 +1,7 @@
 -- A layout of nested elements as data, and its meaning: which bytes are which element. Nothing here says how a file is read.
 use Prim.Native.String.{String}
-use Rattle.integers.specs.Basics.{ℕ, ◌≤◌, ◌≡◌, ◌⊎◌, List, [], ◌∷◌, Option, none, some, length}
+use Rattle.std.specs.Prelude.{◌≤◌, ◌≡◌, ◌⊎◌, ◌∷◌}
+use Rattle.integers.specs.Basics.{ℕ, List, [], Option, none, some, length}
 use Rattle.grammar.specs.Bytes.{bytes, is_blank, is_digit, is_plain, value_of, Then, Literal, Each}
 
 -- an attribute, by its name: a number, a text, or numbers of which all are there or none

@@ -1,5 +1,6 @@
 -- How an element goes on behind its attributes.
-use Rattle.integers.specs.Basics.{ℕ, ◌+◌, cond, List}
+use Rattle.std.specs.Prelude.{◌+◌}
+use Rattle.integers.specs.Basics.{ℕ, cond, List}
 use Rattle.grammar.specs.Bytes.{bytes}
 use Rattle.grammar.specs.Reader.{literal_at, past_blanks}
 use Rattle.grammar.specs.declared.tags.Inside.{Inside}

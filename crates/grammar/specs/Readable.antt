@@ -1,6 +1,7 @@
 -- The test of a grammar that a byte or two ahead tell what comes next, so that bytes are one element at most.
 use Prim.Native.String.{String}
-use Rattle.integers.specs.Basics.{ℕ, Bool, true, false, not, ◌&&◌, ◌||◌, List, [], ◌∷◌, eqb}
+use Rattle.std.specs.Prelude.{◌&&◌, ◌||◌, ◌∷◌}
+use Rattle.integers.specs.Basics.{ℕ, Bool, true, false, not, List, [], eqb}
 use Rattle.grammar.specs.Bytes.{bytes, is_blank}
 use Rattle.grammar.specs.Grammar.{Attribute, number, text, together, Element, leaf, holding}
 use Rattle.grammar.specs.Reader.{opened, opening}

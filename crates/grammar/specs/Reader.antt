@@ -1,7 +1,8 @@
 -- How an element is read, by places in a file: what is written from place p on. Code is proved equal to it, and it is proved to find
 -- exactly what the grammar has.
 use Prim.Native.String.{String}
-use Rattle.integers.specs.Basics.{ℕ, zero, suc, ◌+◌, Bool, true, false, ◌&&◌, cond, List, [], ◌∷◌, ◌++◌, Option, none, some}
+use Rattle.std.specs.Prelude.{◌+◌, ◌&&◌, ◌∷◌, ◌++◌}
+use Rattle.integers.specs.Basics.{ℕ, zero, suc, Bool, true, false, cond, List, [], Option, none, some}
 use Rattle.integers.specs.Basics.{leb, ltb, eqb, length, take, drop}
 use Rattle.grammar.specs.Bytes.{bytes, is_blank, is_digit, is_plain, value_of}
 use Rattle.grammar.specs.Grammar.{Attribute, number, text, together, Element, leaf, holding, Numbers, Values, Value}

@@ -7,7 +7,7 @@ ghost use Rattle.grammar.specs.Ends.{end_of, number_of};
 use crate::bytes::{is_blank, is_digit, is_plain, literal_at, past_blanks};
 
 // A number, and the place behind it.
-#[derive(Drop)]
+#[derive(Clone, Copy)]
 pub struct Number {
     pub value: u64,
     pub next: usize,

@@ -5,7 +5,7 @@ ghost use Rattle.grammar.specs.Inside.{inside_at};
 use crate::bytes::{literal_at, past_blanks};
 
 // It closes with "/>", or holds what stands from the place behind ">" and blanks on, or is none.
-#[derive(Drop)]
+#[derive(Clone, Copy)]
 pub enum Inside {
     Closed { next: usize },
     Holds { at: usize },

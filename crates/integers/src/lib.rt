@@ -1,1 +1,2 @@
 // Laws of the integers, in specs/. There is no code.
+#![tactic(auto)]

@@ -1,5 +1,6 @@
 -- Positions ask a roster and balances only about the instruments on the roster.
-use Rattle.integers.specs.Basics.{ℕ, suc, ◌<◌, ◌≡◌, ◌∙◌, ap, List, ℤ, arith}
+use Rattle.std.specs.Prelude.{◌<◌, ◌≡◌}
+use Rattle.integers.specs.Basics.{ℕ, suc, ◌∙◌, ap, List, ℤ, arith}
 use Rattle.integers.specs.Sum.{sum_to, sum_to_same}
 use Rattle.ledger.specs.declared.order.Order.{Order}
 use Rattle.ledger.specs.Roster.{Roster, Numbered, group_of_instrument}
@@ -20,7 +21,8 @@ Asked r (instrument i) = Numbered r.instruments i
 Asked r (group g) = Unit
 
 module _ (unit : Order → ℕ) (orders : List Order) (a : ℕ) (r r' : Roster) (S S' : ℕ → ℤ) (same : Agree r r' S S') where
-  of_instrument_lem : (i : ℕ) → Numbered r.instruments i → (w : Way) → of_instrument unit orders a S i w ≡ of_instrument unit orders a S' i w
+  of_instrument_lem : (i : ℕ) → Numbered r.instruments i → (w : Way)
+      → of_instrument unit orders a S i w ≡ of_instrument unit orders a S' i w
   unfolding of_instrument
   of_instrument_lem i on w = rw (same.balance i on)
 

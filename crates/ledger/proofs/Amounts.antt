@@ -1,6 +1,7 @@
 -- Amounts: what n contracts of one order count for on a side of an account and instrument. Each open order adds its
 -- amount to a sum, and each fill moves a balance by its amount.
-use Rattle.integers.specs.Basics.{ℕ, ◌+◌, ◌*◌, ◌≤◌, ◌≡◌, refl, by_cases, Bool, true, false, ◌&&◌, cond, ℤ, pos, neg_ℤ, ◌+ℤ◌, ◌-ℤ◌, ◌≤ℤ◌, eqb}
+use Rattle.std.specs.Prelude.{◌+◌, ◌*◌, ◌≤◌, ◌≡◌, ◌&&◌, ◌+ℤ◌, ◌-ℤ◌, ◌≤ℤ◌}
+use Rattle.integers.specs.Basics.{ℕ, refl, by_cases, Bool, true, false, cond, ℤ, pos, neg_ℤ, eqb}
 use Rattle.integers.specs.Basics.{signed, negation_parts, difference_parts}
 use native.Mathlib.Nat.{mul-le-mul_left}
 use Rattle.ledger.specs.declared.order.Order.{Order}
@@ -95,7 +96,8 @@ pub fill_amounts : (unit : Order → ℕ) (a i : ℕ) (o : Order) (n : ℕ) (w :
 unfolding fill_moves amount
 fill_amounts unit a i o n w = go (stands_in a i o) o.side w (unit o * n)
   where
-    go : (t : Bool) (s : Side) (v : Way) (x : ℕ) → toward v (cond t (toward (way_of s) (pos x)) (pos 0)) ≡ cond (same_side s (side_to v) && t)
+    go : (t : Bool) (s : Side) (v : Way) (x : ℕ) → toward v (cond t (toward (way_of s) (pos x)) (pos 0))
+        ≡ cond (same_side s (side_to v) && t)
         (pos x) (pos 0) -ℤ cond (same_side s (side_to (opposite v)) && t) (pos x) (pos 0)
     go true Buy long x = omega (signed, difference_parts (pos x) (pos 0))
     go true Buy short x = omega (signed, negation_parts (pos x), difference_parts (pos 0) (pos x))

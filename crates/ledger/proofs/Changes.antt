@@ -1,7 +1,8 @@
 -- What each change of the open orders does to every potential position. A change is a shift, what counts of one order goes from m
 -- contracts to m' and nothing else changes, and it may fill some of that order, by which the balances move.
-use Rattle.integers.specs.Basics.{ℕ, ◌+◌, ◌*◌, ◌-◌, ◌≤◌, ◌≡◌, refl, ◌∙◌, sym, ap, ◌≢◌, List, ListMemᴰ, ℤ, pos, nat_abs, ◌+ℤ◌, ◌-ℤ◌, ◌*ℤ◌}
-use Rattle.integers.specs.Basics.{◌≤ℤ◌, by_cases, ℕ_discrete, sum_parts, difference_parts}
+use Rattle.std.specs.Prelude.{◌+◌, ◌*◌, ◌-◌, ◌≤◌, ◌≡◌, ◌≢◌, ◌+ℤ◌, ◌-ℤ◌, ◌*ℤ◌, ◌≤ℤ◌}
+use Rattle.integers.specs.Basics.{ℕ, refl, ◌∙◌, sym, ap, List, ListMemᴰ, ℤ, pos, nat_abs}
+use Rattle.integers.specs.Basics.{by_cases, ℕ_discrete, sum_parts, difference_parts}
 use lib.IntN.{+ℤ_comm, +ℤ_assoc}
 use Rattle.ledger.specs.declared.order.Order.{Order}
 use Rattle.ledger.specs.declared.order.Side.{Side}
@@ -22,7 +23,8 @@ use Rattle.ledger.proofs.Linear.{linear}
 
 -- what counts of order o goes from m contracts to m'
 pub record CountChanged (unit : Order → ℕ) (o : Order) (m m' : ℕ) (orders orders' : List Order) : Type 0 where
-  pub sums : (s : Side) (a i : ℕ) → open_on unit orders' s a i +ℤ amount unit s a i o m ≡ open_on unit orders s a i +ℤ amount unit s a i o m'
+  pub sums : (s : Side) (a i : ℕ) → open_on unit orders' s a i +ℤ amount unit s a i o m
+      ≡ open_on unit orders s a i +ℤ amount unit s a i o m'
 
 pub shifted_back : {unit : Order → ℕ} {o : Order} {m m' : ℕ} {orders orders' : List Order} → CountChanged unit o m m' orders orders'
     → CountChanged unit o m' m orders' orders

@@ -1,5 +1,6 @@
 -- What the order of an id and a detail says, and details joined bit by bit: each figure is at most that of the whole.
-use Rattle.integers.specs.Basics.{ℕ, ◌+◌, ◌*◌, ◌-◌, ◌/◌, ◌%◌, ◌^◌, ◌≤◌, ◌<◌, ◌≡◌, refl, ◌∙◌, ap, Bool, true, false, cond, List, eqb}
+use Rattle.std.specs.Prelude.{◌+◌, ◌*◌, ◌-◌, ◌/◌, ◌%◌, ◌^◌, ◌≤◌, ◌<◌, ◌≡◌}
+use Rattle.integers.specs.Basics.{ℕ, refl, ◌∙◌, ap, Bool, true, false, cond, List, eqb}
 use Rattle.integers.specs.Basics.{ℕ_discrete, arith, eq-eqb, ne_eqb}
 use native.Mathlib.Nat.{div-div-eq-div-mul}
 use lib.Bits.{bit_or, or_comm, or_shr, or_mod}

@@ -1,5 +1,6 @@
 -- The source documents' examples, computed by the definitions with unit 1, groups in ten-thousandths; and the laws at work on them.
-use Rattle.integers.specs.Basics.{ℕ, ◌-◌, ◌≡◌, refl, List, [], ◌∷◌, ℤ, pos, neg_ℤ, ◌<ℤ◌, get_or, arith}
+use Rattle.std.specs.Prelude.{◌-◌, ◌≡◌, ◌∷◌, ◌<ℤ◌}
+use Rattle.integers.specs.Basics.{ℕ, refl, List, [], ℤ, pos, neg_ℤ, get_or, arith}
 use lib.Signed.{lt_z_yes}
 use Rattle.integers.specs.Sum.{sum_over, below}
 use Rattle.ledger.specs.declared.order.Order.{Order}

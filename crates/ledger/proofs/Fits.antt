@@ -1,6 +1,7 @@
 -- What the machine does with signed numbers of bounded magnitude: a sum, a difference, a negation and a product fit, and are read back as
 -- themselves.
-use Rattle.integers.specs.Basics.{◌+◌, ◌≤◌, ◌≡◌, ℤ, pos, neg_ℤ, nat_abs, ◌+ℤ◌, ◌-ℤ◌, ◌*ℤ◌, +ℤ_idl, w64, SFits, to_z, of_z, to_z-of_z}
+use Rattle.std.specs.Prelude.{◌+◌, ◌≤◌, ◌≡◌, ◌+ℤ◌, ◌-ℤ◌, ◌*ℤ◌}
+use Rattle.integers.specs.Basics.{ℤ, pos, neg_ℤ, nat_abs, +ℤ_idl, w64, SFits, to_z, of_z, to_z-of_z}
 use Rattle.integers.specs.Magnitude.{sized, magnitude_sum, magnitude_difference, magnitude_negation, magnitude_product_≤}
 
 -- the bits of a signed number, read again

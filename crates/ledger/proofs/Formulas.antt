@@ -1,5 +1,6 @@
 -- Document 01's formulas as it writes them: S is the balance, B (`buys`) and V (`sells`) the sums of open orders, K the weight.
-use Rattle.integers.specs.Basics.{ℕ, suc, ◌≡◌, refl, ap, cond, List, ℤ, pos, negsuc, neg_ℤ, ◌+ℤ◌, ◌-ℤ◌, ◌*ℤ◌, non_neg}
+use Rattle.std.specs.Prelude.{◌≡◌, ◌+ℤ◌, ◌-ℤ◌, ◌*ℤ◌}
+use Rattle.integers.specs.Basics.{ℕ, suc, refl, ap, cond, List, ℤ, pos, negsuc, neg_ℤ, non_neg}
 use lib.IntN.{+ℤ_comm}
 use Rattle.ledger.specs.declared.order.Order.{Order}
 use Rattle.ledger.specs.declared.order.Side.TheVariants.{Buy, Sell}

@@ -1,5 +1,6 @@
 -- Sums over the instruments of a group: order, strictness, sides.
-use Rattle.integers.specs.Basics.{ℕ, zero, suc, ◌<◌, ◌≡◌, refl, ◌∙◌, sym, ◌≢◌, cond, ℤ, pos, neg_ℤ, ◌+ℤ◌, ◌≤ℤ◌, ◌<ℤ◌, eqb, arith, eq-eqb}
+use Rattle.std.specs.Prelude.{◌<◌, ◌≡◌, ◌≢◌, ◌+ℤ◌, ◌≤ℤ◌, ◌<ℤ◌}
+use Rattle.integers.specs.Basics.{ℕ, zero, suc, refl, ◌∙◌, sym, cond, ℤ, pos, neg_ℤ, eqb, arith, eq-eqb}
 use Rattle.integers.specs.Basics.{signed, difference_parts}
 use Rattle.integers.specs.Sum.{sum_to, below, sum_to_mono, sum_to_same, sum_to_change, sum_over_negated}
 use Rattle.ledger.specs.Roster.{Roster, group_of_instrument, Numbered}

@@ -1,6 +1,7 @@
 -- Fillings, moves and positions in document 01's words.
-use Rattle.integers.specs.Basics.{ℕ, ◌≤◌, ◌≡◌, refl, sym, ap, ◌⊎◌, inl, inr, ⊎_elim, ◌↔◌, ◌≢◌, List, [], ◌∷◌, ℤ, pos, negsuc, neg_ℤ, ◌+ℤ◌}
-use Rattle.integers.specs.Basics.{◌*ℤ◌, ◌<ℤ◌, signed}
+use Rattle.std.specs.Prelude.{◌≤◌, ◌≡◌, ◌⊎◌, ◌↔◌, ◌≢◌, ◌∷◌, ◌+ℤ◌, ◌*ℤ◌, ◌<ℤ◌}
+use Rattle.integers.specs.Basics.{ℕ, refl, sym, ap, inl, inr, ⊎_elim, List, [], ℤ, pos, negsuc, neg_ℤ}
+use Rattle.integers.specs.Basics.{signed}
 use Rattle.ledger.specs.declared.order.Order.{Order}
 use Rattle.ledger.specs.declared.order.Side.{Side}
 use Rattle.ledger.specs.declared.order.Side.TheVariants.{Buy, Sell}

@@ -1,5 +1,6 @@
 -- A sum or a difference of two integers, read and proved by `omega linear` with no fact for it: rules before those of `signed`.
-use Rattle.integers.specs.Basics.{◌+◌, ◌≤◌, ◌≡◌, ℤ, ◌+ℤ◌, ◌-ℤ◌, ◌≤ℤ◌, signed, sum_parts, difference_parts}
+use Rattle.std.specs.Prelude.{◌+◌, ◌≤◌, ◌≡◌, ◌+ℤ◌, ◌-ℤ◌, ◌≤ℤ◌}
+use Rattle.integers.specs.Basics.{ℤ, signed, sum_parts, difference_parts}
 use Rattle.integers.specs.Parts.{up, down}
 
 -- of two sums

@@ -1,5 +1,6 @@
 -- An order's fills raise a position on a side exactly where `Moves` says so.
-use Rattle.integers.specs.Basics.{ℕ, ◌*◌, ◌≤◌, ◌≡◌, refl, ◌∙◌, sym, ap, ◌↔◌, by_cases, ℤ, pos, ◌+ℤ◌, ◌-ℤ◌, +ℤ_idr, ◌≤ℤ◌, ◌<ℤ◌, ℕ_discrete}
+use Rattle.std.specs.Prelude.{◌*◌, ◌≤◌, ◌≡◌, ◌↔◌, ◌+ℤ◌, ◌-ℤ◌, ◌≤ℤ◌, ◌<ℤ◌}
+use Rattle.integers.specs.Basics.{ℕ, refl, ◌∙◌, sym, ap, by_cases, ℤ, pos, +ℤ_idr, ℕ_discrete}
 use Rattle.integers.specs.Basics.{signed, difference_parts}
 use mathlib.Core.Logic.Dec
 use native.Mathlib.Decide.{map_dec}
@@ -59,7 +60,8 @@ after_fill unit a S o n i = S i +ℤ fill_moves unit a i o n
 
 -- on a side, what the fill buys or sells there comes, and what it does on the other side goes
 pub fill_moves_lem : (unit : Order → ℕ) (a : ℕ) (S : ℕ → ℤ) (o : Order) (n i : ℕ) (v : Way)
-    → toward v (after_fill unit a S o n i) ≡ toward v (S i) +ℤ (amount unit (side_to v) a i o n -ℤ amount unit (side_to (opposite v)) a i o n)
+    → toward v (after_fill unit a S o n i)
+    ≡ toward v (S i) +ℤ (amount unit (side_to v) a i o n -ℤ amount unit (side_to (opposite v)) a i o n)
 fill_moves_lem unit a S o n i v = rw (toward_sum v (S i) (fill_moves unit a i o n), fill_amounts unit a i o n v)
 
 module _ (unit : Order → ℕ) (r : Roster) (o : Order) (S : ℕ → ℤ) (n : ℕ) (p : Scope) (w : Way) where

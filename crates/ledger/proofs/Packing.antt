@@ -1,5 +1,6 @@
 -- Laws of an order's detail: what goes in is read back, and every number is the detail of what is read from it.
-use Rattle.integers.specs.Basics.{ℕ, ◌+◌, ◌*◌, ◌-◌, ◌/◌, ◌%◌, ◌^◌, ◌<◌, ◌≡◌, by_cases, ℕ_discrete, arith, eq-eqb, ne_eqb}
+use Rattle.std.specs.Prelude.{◌+◌, ◌*◌, ◌-◌, ◌/◌, ◌%◌, ◌^◌, ◌<◌, ◌≡◌}
+use Rattle.integers.specs.Basics.{ℕ, by_cases, ℕ_discrete, arith, eq-eqb, ne_eqb}
 use native.Mathlib.Nat.{div-div-eq-div-mul}
 use Rattle.ledger.specs.declared.order.Order.{Order}
 use Rattle.ledger.specs.declared.order.Side.{Side}

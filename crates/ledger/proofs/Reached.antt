@@ -1,6 +1,7 @@
 -- Every potential position is reached by a filling: the one that fills wholly the orders that move their instrument the
 -- way that the scope wants, and no other. So a potential position is past a bound exactly where some filling is.
-use Rattle.integers.specs.Basics.{ℕ, ◌≤◌, ◌≡◌, refl, ◌∙◌, sym, ap, ◌↔◌, ◌≢◌, by_cases, cond, List, [], ◌∷◌, ℤ, pos, ◌<ℤ◌, arith, signed}
+use Rattle.std.specs.Prelude.{◌≤◌, ◌≡◌, ◌↔◌, ◌≢◌, ◌∷◌, ◌<ℤ◌}
+use Rattle.integers.specs.Basics.{ℕ, refl, ◌∙◌, sym, ap, by_cases, cond, List, [], ℤ, pos, arith, signed}
 use Rattle.ledger.specs.declared.order.Order.{Order}
 use Rattle.ledger.specs.Orders.{remaining}
 use Rattle.ledger.specs.Roster.{Roster}

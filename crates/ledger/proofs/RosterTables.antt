@@ -1,5 +1,6 @@
 -- The tables of a roster say what the roster says: word n of each is that of number n. And how long each is.
-use Rattle.integers.specs.Basics.{ℕ, ◌≤◌, ◌≡◌, ap, List, length, arith}
+use Rattle.std.specs.Prelude.{◌≤◌, ◌≡◌}
+use Rattle.integers.specs.Basics.{ℕ, ap, List, length, arith}
 use Rattle.integers.specs.TwosComplement.{signed_of}
 use Rattle.words.specs.Words.{word_at, signed_at}
 use Rattle.words.proofs.Parts.{word_part, length_part}

@@ -1,8 +1,9 @@
 -- What a scope makes of an amount for each instrument: an instrument's own amount, or the sum over a group of
 -- |K| times the amounts. Potential positions and positions are both such figures, of amounts taken on the way in which
 -- each instrument moves the scope. So every law of scopes and ways is a law of `weighted_at`, stated once.
-use Rattle.integers.specs.Basics.{ℕ, suc, ◌≡◌, refl, ◌∙◌, sym, ap, ◌≢◌, by_cases, List, ℤ, pos, negsuc, neg_ℤ, nat_abs, ◌+ℤ◌, ◌*ℤ◌, ◌≤ℤ◌}
-use Rattle.integers.specs.Basics.{◌<ℤ◌, signed, magnitude_parts}
+use Rattle.std.specs.Prelude.{◌≡◌, ◌≢◌, ◌+ℤ◌, ◌*ℤ◌, ◌≤ℤ◌, ◌<ℤ◌}
+use Rattle.integers.specs.Basics.{ℕ, suc, refl, ◌∙◌, sym, ap, by_cases, List, ℤ, pos, negsuc, neg_ℤ, nat_abs}
+use Rattle.integers.specs.Basics.{signed, magnitude_parts}
 use lib.IntN.{neg_ℤ-neg_ℤ, ℤ_discrete}
 use Rattle.integers.specs.Parts.{scaled_parts, differs}
 use Rattle.integers.specs.Ring.{neg_ℤ_*ℤ, *ℤ_neg_ℤ, *ℤ_+ℤ}

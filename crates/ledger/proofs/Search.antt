@@ -1,5 +1,6 @@
 -- The search from record p on: what a turn of it finds, which records it may leave out, and what it says of the place that it answers.
-use Rattle.integers.specs.Basics.{ℕ, zero, suc, ◌+◌, ◌-◌, ◌≤◌, ◌<◌, ◌≡◌, refl, ◌∙◌, sym, ap, ◌≢◌, by_cases, cond, List, eqb, ℕ_discrete}
+use Rattle.std.specs.Prelude.{◌+◌, ◌-◌, ◌≤◌, ◌<◌, ◌≡◌, ◌≢◌}
+use Rattle.integers.specs.Basics.{ℕ, zero, suc, refl, ◌∙◌, sym, ap, by_cases, cond, List, eqb, ℕ_discrete}
 use Rattle.integers.specs.Basics.{arith, eq-eqb, ne_eqb}
 use Rattle.ledger.specs.declared.find.Found.{Found}
 use Rattle.ledger.specs.declared.find.Found.TheVariants.{At, Nothing}

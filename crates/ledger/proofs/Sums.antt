@@ -1,6 +1,7 @@
 -- The sums of open orders, `open_on`: what an order adds, and what a change of the list changes. They depend on the list
 -- only through sums over it, so that where in the list a change happens, and the list's order, make no difference.
-use Rattle.integers.specs.Basics.{ℕ, ◌≡◌, refl, ◌∙◌, List, [], ◌∷◌, ◌++◌, ListMemᴰ, ℤ, pos, ◌+ℤ◌, ◌≤ℤ◌, signed, sum_parts}
+use Rattle.std.specs.Prelude.{◌≡◌, ◌∷◌, ◌++◌, ◌+ℤ◌, ◌≤ℤ◌}
+use Rattle.integers.specs.Basics.{ℕ, refl, ◌∙◌, List, [], ListMemᴰ, ℤ, pos, signed, sum_parts}
 use Rattle.integers.specs.Sum.{sum_over, sum_over_cons, sum_over_append, sum_over_nonneg, sum_over_zero}
 use Rattle.ledger.specs.declared.order.Order.{Order}
 use Rattle.ledger.specs.declared.order.Side.{Side}
@@ -37,7 +38,13 @@ pub joined_between : (o : Order) (xs ys : List Order) → Joined o (xs ++ ys) (x
 joined_between o xs ys h =
     let s = sum_over h xs in
     let t = sum_over h ys in
-    simp (sum_over_append, sum_over_cons) (omega (signed, sum_parts s (h o +ℤ t), sum_parts (h o) t, sum_parts s t, sum_parts (h o) (s +ℤ t)))
+    simp (sum_over_append, sum_over_cons) (omega (
+      signed,
+      sum_parts s (h o +ℤ t),
+      sum_parts (h o) t,
+      sum_parts s t,
+      sum_parts (h o) (s +ℤ t),
+    ))
 
 pub changed_between : (o o' : Order) (xs ys : List Order) → Changed o o' (xs ++ (o ∷ ys)) (xs ++ (o' ∷ ys))
 changed_between o o' xs ys h =

@@ -1,5 +1,6 @@
 -- No filling passes a potential position, of any instrument or group and on any side.
-use Rattle.integers.specs.Basics.{ℕ, List, ℤ, ◌≤ℤ◌, arith}
+use Rattle.std.specs.Prelude.{◌≤ℤ◌}
+use Rattle.integers.specs.Basics.{ℕ, List, ℤ, arith}
 use Rattle.ledger.specs.declared.order.Order.{Order}
 use Rattle.ledger.specs.Orders.{remaining}
 use Rattle.ledger.specs.Roster.{Roster}

@@ -1,5 +1,6 @@
 -- Ways and sides: each tells the other, two of them are the same or opposite, and how a test between two is decided.
-use Rattle.integers.specs.Basics.{ℕ, ◌≡◌, refl, ◌≢◌, Bool, true, false, ℤ, pos, ◌+ℤ◌, eqb, arith, eqb-true, eqb-false}
+use Rattle.std.specs.Prelude.{◌≡◌, ◌≢◌, ◌+ℤ◌}
+use Rattle.integers.specs.Basics.{ℕ, refl, Bool, true, false, ℤ, pos, eqb, arith, eqb-true, eqb-false}
 use lib.IntN.{neg_ℤ-+ℤ}
 use Rattle.ledger.specs.declared.order.Side.{Side}
 use Rattle.ledger.specs.declared.order.Side.TheVariants.{Buy, Sell}

@@ -1,5 +1,6 @@
 -- A derivatives desk: one contract of an order counts for 1.
-use Rattle.integers.specs.Basics.{ℕ, ◌&&◌, cond}
+use Rattle.std.specs.Prelude.{◌&&◌}
+use Rattle.integers.specs.Basics.{ℕ, cond}
 use Rattle.ledger.specs.declared.order.Order.{Order}
 use Rattle.ledger.specs.declared.order.Side.{Side}
 use Rattle.ledger.specs.Orders.{remaining}

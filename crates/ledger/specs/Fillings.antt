@@ -1,5 +1,6 @@
 -- Fillings: each open order is filled by any whole number from 0 to its remaining, and balances move as under FILL.
-use Rattle.integers.specs.Basics.{ℕ, ◌*◌, ◌≤◌, cond, List, [], ◌∷◌, ℤ, pos, ◌+ℤ◌}
+use Rattle.std.specs.Prelude.{◌*◌, ◌≤◌, ◌∷◌, ◌+ℤ◌}
+use Rattle.integers.specs.Basics.{ℕ, cond, List, [], ℤ, pos}
 use Rattle.ledger.specs.declared.order.Order.{Order}
 use Rattle.ledger.specs.Orders.{remaining}
 use Rattle.ledger.specs.Positions.{toward, way_of, stands_in}

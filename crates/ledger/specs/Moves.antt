@@ -1,5 +1,6 @@
 -- Which side of which position an order's fills move.
-use Rattle.integers.specs.Basics.{◌≡◌, ◌≢◌, pos}
+use Rattle.std.specs.Prelude.{◌≡◌, ◌≢◌}
+use Rattle.integers.specs.Basics.{pos}
 use Rattle.ledger.specs.declared.order.Order.{Order}
 use Rattle.ledger.specs.Roster.{Roster, group_of_instrument}
 use Rattle.ledger.specs.Positions.{Way, Scope, instrument, group, way_of, way_by}

@@ -1,5 +1,6 @@
 -- An order: what remains of it, what a fill and a replace make of it, when it closes, and how it is found.
-use Rattle.integers.specs.Basics.{ℕ, ◌+◌, ◌-◌, Bool, cond, List, [], ◌∷◌, eqb}
+use Rattle.std.specs.Prelude.{◌+◌, ◌-◌, ◌∷◌}
+use Rattle.integers.specs.Basics.{ℕ, Bool, cond, List, [], eqb}
 use Rattle.ledger.specs.declared.order.Order.{Order}
 use Rattle.ledger.specs.declared.find.Found.{Found}
 use Rattle.ledger.specs.declared.find.Found.TheVariants.{At, Nothing}

@@ -1,6 +1,7 @@
 -- Document 01, "Positions", of one account: S is its balance of each instrument, `orders` all open orders, `unit o` what
 -- one contract of order o counts for (1 on a derivatives desk). What concerns long and short, instrument and group, is said once.
-use Rattle.integers.specs.Basics.{ℕ, suc, ◌*◌, Bool, true, false, ◌&&◌, cond, List, ℤ, pos, negsuc, neg_ℤ, ◌+ℤ◌, ◌*ℤ◌, eqb}
+use Rattle.std.specs.Prelude.{◌*◌, ◌&&◌, ◌+ℤ◌, ◌*ℤ◌}
+use Rattle.integers.specs.Basics.{ℕ, suc, Bool, true, false, cond, List, ℤ, pos, negsuc, neg_ℤ, eqb}
 use Rattle.integers.specs.Sum.{sum_over, sum_to}
 use Rattle.ledger.specs.declared.order.Order.{Order}
 use Rattle.ledger.specs.declared.order.Side.{Side}

@@ -1,5 +1,6 @@
 -- Orders as flat records in lent bytes, two words each; balances; and a roster of 76 words.
-use Rattle.integers.specs.Basics.{ℕ, zero, suc, ◌+◌, ◌*◌, ◌-◌, ◌/◌, ◌%◌, ◌≤◌, ◌<◌, cond, List, [], ◌∷◌, ℤ, eqb}
+use Rattle.std.specs.Prelude.{◌+◌, ◌*◌, ◌-◌, ◌/◌, ◌%◌, ◌≤◌, ◌<◌, ◌∷◌}
+use Rattle.integers.specs.Basics.{ℕ, zero, suc, cond, List, [], ℤ, eqb}
 use Rattle.words.specs.Words.{word_at, signed_at, part_of}
 use Rattle.ledger.specs.declared.order.Order.{Order}
 use Rattle.ledger.specs.declared.order.Side.{Side}

@@ -1,5 +1,6 @@
 -- The roster: how many accounts, groups, contracts and instruments there are, each numbered from 1, and what hangs on what.
-use Rattle.integers.specs.Basics.{ℕ, ◌≤◌, ℤ}
+use Rattle.std.specs.Prelude.{◌≤◌}
+use Rattle.integers.specs.Basics.{ℕ, ℤ}
 
 pub record Roster : Type 0 where
   pub accounts : ℕ

@@ -6,7 +6,7 @@ ghost use Rattle.ledger.specs.Records.{detail_filled, detail_remaining, Storable
 use crate::order::Order;
 use crate::records::{account_of, filled_of, instrument_of, pack, packed_side, remaining_of};
 
-#[derive(Drop)]
+#[derive(Clone, Copy)]
 pub struct Detail(pub u64);
 
 impl Detail {

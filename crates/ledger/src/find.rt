@@ -6,7 +6,7 @@ ghost use Rattle.ledger.specs.Records.{orders_from};
 use crate::records::id_in;
 
 // The place of an open order, if there is one.
-#[derive(Drop)]
+#[derive(Clone, Copy)]
 pub enum Found {
     At(usize),
     Nothing,

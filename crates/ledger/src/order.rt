@@ -3,14 +3,14 @@ ghost use Rattle.std.specs.Prelude.{◌≡◌, ◌+◌, ◌^◌, ◌<◌};
 ghost use Rattle.ledger.specs.Orders.{remaining, filled_by, replaced_total};
 
 // The sides of an order.
-#[derive(Drop)]
+#[derive(Clone, Copy)]
 pub enum Side {
     Buy,
     Sell,
 }
 
 // An open order: `total` contracts, of which `filled` are filled.
-#[derive(Drop)]
+#[derive(Clone, Copy)]
 pub struct Order {
     pub id: u64,
     pub account: u64,

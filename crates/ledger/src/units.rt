@@ -3,11 +3,11 @@ ghost use Rattle.std.specs.Prelude.{◌≡◌, ◌+◌, ◌≤◌, pos, neg_ℤ,
 ghost use Rattle.std.specs.Int.Signed.{le_z};
 
 // A number of contracts, signed.
-#[derive(Drop)]
+#[derive(Clone, Copy)]
 pub struct Contracts(pub i64);
 
 // Contracts times a weight in ten-thousandths.
-#[derive(Drop)]
+#[derive(Clone, Copy)]
 pub struct Weighted(pub i64);
 
 impl Contracts {

@@ -1,5 +1,6 @@
 -- The layout passes the grammar's test, so what is read of bytes is just what the layout has, and they are one file of limits at most.
-use Rattle.integers.specs.Basics.{ℕ, ◌≡◌, refl, ◌↔◌, true, List, some}
+use Rattle.std.specs.Prelude.{◌≡◌, ◌↔◌}
+use Rattle.integers.specs.Basics.{ℕ, refl, true, List, some}
 use Rattle.grammar.specs.Bytes.{is_blank}
 use Rattle.grammar.specs.Readable.{apart, begins_solid, names_solid, told, attributes_readable, readable}
 use Rattle.grammar.specs.Document.{document_readable, file_of, File}

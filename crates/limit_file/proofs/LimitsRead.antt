@@ -1,6 +1,7 @@
 -- Limits by the numbers that code reads one behind the other: they are those that the reader finds, unless the file ends with them.
 use Prim.Native.String.{String}
-use Rattle.integers.specs.Basics.{ℕ, ◌≤◌, ◌≡◌, refl, ◌∙◌, cond, List, Option, none, some, eqb, length, eq-eqb}
+use Rattle.std.specs.Prelude.{◌≤◌, ◌≡◌}
+use Rattle.integers.specs.Basics.{ℕ, refl, ◌∙◌, cond, List, Option, none, some, eqb, length, eq-eqb}
 use Rattle.grammar.specs.Grammar.{Numbers}
 use Rattle.grammar.specs.Reader.{Reading, nothing, up_to, numbers_at}
 use Rattle.grammar.proofs.Tests.{by_test}
@@ -35,7 +36,8 @@ module _ (s : List ℕ) (ns : List String) (f : Option (Numbers ns) → Limits) 
 
   -- what code hands on
   module _ {l : LimitsAt} (is : l ≡ limits_or f (length s) p (numbers_at s ns p)) where
-    pub limits_read : l ≡ record { limits = f (numbers_or (length s) (numbers_at s ns p)); next = place_or (length s) p (numbers_at s ns p) }
+    pub limits_read : l
+        ≡ record { limits = f (numbers_or (length s) (numbers_at s ns p)); next = place_or (length s) p (numbers_at s ns p) }
     limits_read = is ∙ limits_parts f (length s) p (numbers_at s ns p)
 
     pub limits_end : p ≤ length s → l.next ≤ length s

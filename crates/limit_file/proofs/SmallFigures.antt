@@ -1,5 +1,6 @@
 -- No figure of a start tag has more than ten digits.
-use Rattle.integers.specs.Basics.{ℕ, ◌≡◌, List, Option, none, some, arith}
+use Rattle.std.specs.Prelude.{◌≡◌}
+use Rattle.integers.specs.Basics.{ℕ, List, Option, none, some, arith}
 use Rattle.grammar.specs.Grammar.{Numbers}
 use Rattle.grammar.specs.Reader.{tag_at, childless_at, element_at}
 use Rattle.grammar.specs.Inside.{inside_at}

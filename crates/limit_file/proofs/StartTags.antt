@@ -1,6 +1,7 @@
 -- What is made of a start tag by the places that code goes to is what is made of the one that the reader finds.
 use Prim.Native.String.{String}
-use Rattle.integers.specs.Basics.{ℕ, ◌+◌, ◌≡◌, true, cond, List, length}
+use Rattle.std.specs.Prelude.{◌+◌, ◌≡◌}
+use Rattle.integers.specs.Basics.{ℕ, true, cond, List, length}
 use Rattle.grammar.specs.Grammar.{Attribute, Values}
 use Rattle.grammar.specs.Bytes.{bytes}
 use Rattle.grammar.specs.Reader.{nothing, up_to, with, literal_at, past_blanks, opening, closing, tag_at, childless_at, element_at}
@@ -22,7 +23,8 @@ use Rattle.limit_file.proofs.LayoutReadable.{instrument_readable}
 module _ (s : List ℕ) (name : String) (l : List Attribute) (ok : attributes_readable l ≡ true) (f : Values l → Tag) (p : ℕ) where
   pub start_made : (made : Start) → (tag_at s name l p ≡ nothing → start.Nothing ≡ made)
       → ((v : Values l) (n : ℕ) → tag_at s name l p ≡ up_to v n → going (f v) (inside_at s n) ≡ made)
-      → straight s l (λ v n. going (f v) (inside_at s n)) (cond (literal_at s (opening name) p) (p + length (opening name)) (length s)) ≡ made
+      → straight s l (λ v n. going (f v) (inside_at s n))
+      (cond (literal_at s (opening name) p) (p + length (opening name)) (length s)) ≡ made
   start_made = tag_made s start.Nothing name l ok (λ v n. going (f v) (inside_at s n)) (λ v n e. rw e) p
 
 -- ---- an instrument, up to its end
@@ -47,5 +49,6 @@ module _ (s : List ℕ) where
       ≡ leaf_of (element_at s instrument p)
   unfolding element_at
   instrument_made p =
-      tag_made s leaf.Nothing "IxmLmt" of_instrument instrument_readable (λ v n. ending (instrument_tag v) (inside_at s n)) (λ v n e. rw e) p
+      tag_made s leaf.Nothing "IxmLmt" of_instrument instrument_readable (λ v n. ending (instrument_tag v) (inside_at s n))
+      (λ v n e. rw e) p
       _ (λ e. rw e) (λ v n e. rw e (childless_ending v n))

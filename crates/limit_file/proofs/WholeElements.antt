@@ -1,6 +1,7 @@
 -- An element by its start tag and how it goes on: whole where it closes at once, else with the children that are read behind it.
 use Prim.Native.String.{String}
-use Rattle.integers.specs.Basics.{ℕ, suc, ◌≡◌, refl, ◌∙◌, sym, ap, subst, Bool, true, false, cond, List, [], length}
+use Rattle.std.specs.Prelude.{◌≡◌}
+use Rattle.integers.specs.Basics.{ℕ, suc, refl, ◌∙◌, sym, ap, subst, Bool, true, false, cond, List, [], length}
 use Rattle.grammar.specs.Bytes.{bytes}
 use Rattle.grammar.specs.Grammar.{Attribute, Element, holding, Values}
 use Rattle.grammar.specs.Reader.{Reading, nothing, up_to, next, with, literal_at, tag_at, children_at, many_at, closing, element_at}

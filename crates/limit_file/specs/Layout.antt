@@ -2,7 +2,8 @@
 -- EqvIxm, Contrt and Sym hold roster numbers; LongLmt and ShortLmt are a group's LCC and LVC and a line's LCI and LVI, MaxBidQty and
 -- MaxOfrQty a line's TCI and TVI.
 use Prim.Native.String.{String}
-use Rattle.integers.specs.Basics.{List, [], ◌∷◌}
+use Rattle.std.specs.Prelude.{◌∷◌}
+use Rattle.integers.specs.Basics.{List, []}
 use Rattle.grammar.specs.Grammar.{Attribute, number, text, together, Element, leaf, holding}
 use Rattle.grammar.specs.Document.{Document}
 

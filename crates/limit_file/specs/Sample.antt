@@ -1,6 +1,7 @@
 -- The sample of document 000, section 7.7.2, line by line, with roster numbers and figures in it.
 use Prim.Native.String.{String}
-use Rattle.integers.specs.Basics.{ℕ, List, [], ◌∷◌, ◌++◌}
+use Rattle.std.specs.Prelude.{◌∷◌, ◌++◌}
+use Rattle.integers.specs.Basics.{ℕ, List, []}
 use Rattle.grammar.specs.Bytes.{bytes}
 
 -- lines, each with a line feed behind it

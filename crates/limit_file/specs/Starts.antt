@@ -1,5 +1,6 @@
 -- What code hands on of a start tag: the element's number, its limits and its count of children, and how the element goes on.
-use Rattle.integers.specs.Basics.{ℕ, ◌≤◌, true, false, cond, List, Option, none, some, eqb}
+use Rattle.std.specs.Prelude.{◌≤◌}
+use Rattle.integers.specs.Basics.{ℕ, true, false, cond, List, Option, none, some, eqb}
 use Rattle.grammar.specs.Grammar.{Numbers, Values, Value}
 use Rattle.grammar.specs.Reader.{Reading, nothing, up_to, tag_at}
 use Rattle.grammar.specs.declared.tags.Inside.{Inside}

@@ -7,7 +7,7 @@ ghost use Rattle.limit_file.specs.Starts.{no_limits, of_two, of_four, limits_or}
 use grammar::attributes::{digits_at, opening_at};
 
 // Limits in the file's order, 0 where there are none. A group has no bid and no offer.
-#[derive(Drop)]
+#[derive(Clone, Copy)]
 pub struct Limits {
     pub there: bool,
     pub long: u64,
@@ -17,7 +17,7 @@ pub struct Limits {
 }
 
 // Limits, and the place behind them.
-#[derive(Drop)]
+#[derive(Clone, Copy)]
 pub struct LimitsAt {
     pub limits: Limits,
     pub next: usize,

@@ -1,4 +1,6 @@
 // A file of limits: its start tags, one function for each element. The layout is in specs/Layout.
+#![tactic(auto)]
+
 pub mod figures;
 
 ghost use Rattle.std.specs.Prelude.{◌≡◌, cond, ◌+◌, ◌≤◌, length};
@@ -13,7 +15,7 @@ use grammar::bytes::literal_at;
 use grammar::tags::{Inside, inside_at};
 
 // An element's number, its limits and its count of children.
-#[derive(Drop)]
+#[derive(Clone, Copy)]
 pub struct Tag {
     pub number: u64,
     pub limits: Limits,
@@ -21,7 +23,7 @@ pub struct Tag {
 }
 
 // An element that closes with its start tag, or that holds what stands from a place on; or no such element.
-#[derive(Drop)]
+#[derive(Clone, Copy)]
 pub enum Start {
     Closed { tag: Tag, next: usize },
     Holds { tag: Tag, at: usize },
@@ -29,7 +31,7 @@ pub enum Start {
 }
 
 // An element without children, up to a place; or no such element.
-#[derive(Drop)]
+#[derive(Clone, Copy)]
 pub enum Leaf {
     Read { tag: Tag, next: usize },
     Nothing,

@@ -1,5 +1,6 @@
 -- The questions of an order ask a roster and balances only about the instruments on the roster.
-use Rattle.integers.specs.Basics.{ℕ, ◌≡◌, refl, List, ℤ}
+use Rattle.std.specs.Prelude.{◌≡◌}
+use Rattle.integers.specs.Basics.{ℕ, refl, List, ℤ}
 use Rattle.ledger.specs.declared.order.Order.{Order}
 use Rattle.ledger.specs.Roster.{Roster, Numbered, group_of_instrument}
 use Rattle.ledger.specs.Positions.{Way, long, short, Scope, instrument, group}

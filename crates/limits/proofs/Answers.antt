@@ -1,6 +1,7 @@
 -- Laws of a list of questions: the first no, and what an answer of 0 says of each question.
-use Rattle.integers.specs.Basics.{ℕ, ◌≤◌, ◌≡◌, refl, ◌∙◌, sym, ◌≢◌, Bool, true, false, not, ◌&&◌, ◌||◌, cond, true≢false, false≢true, List}
-use Rattle.integers.specs.Basics.{[], ◌∷◌, ◌++◌, eqb, arith, eq-eqb, ne_eqb}
+use Rattle.std.specs.Prelude.{◌≤◌, ◌≡◌, ◌≢◌, ◌&&◌, ◌||◌, ◌∷◌, ◌++◌}
+use Rattle.integers.specs.Basics.{ℕ, refl, ◌∙◌, sym, Bool, true, false, not, cond, true≢false, false≢true, List}
+use Rattle.integers.specs.Basics.{[], eqb, arith, eq-eqb, ne_eqb}
 use Rattle.ledger.proofs.Ways.{by_test, by_number}
 use Rattle.limits.specs.Questions.{Question, first_no, behind, all_pass}
 

@@ -1,5 +1,6 @@
 -- Which of questions 21 to 24 an order is asked: those of the sides to which its own fills move a position.
-use Rattle.integers.specs.Basics.{◌≡◌, refl, ◌↔◌, ◌≢◌, true, false, not, true≢false, ℤ, pos, negsuc, not-true, ne_eqb}
+use Rattle.std.specs.Prelude.{◌≡◌, ◌↔◌, ◌≢◌}
+use Rattle.integers.specs.Basics.{refl, true, false, not, true≢false, ℤ, pos, negsuc, not-true, ne_eqb}
 use Rattle.ledger.specs.declared.order.Order.{Order}
 use Rattle.ledger.specs.Roster.{Roster, group_of_instrument}
 use Rattle.ledger.specs.Positions.{Way, long, short, instrument, group, way_of, way_by}

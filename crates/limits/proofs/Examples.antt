@@ -1,5 +1,6 @@
 -- Examples of lines and limits, computed.
-use Rattle.integers.specs.Basics.{ℕ, ◌≡◌, refl, Bool, true, false, cond, [], ◌∷◌, Option, none, some, ℤ, pos, negsuc, eqb}
+use Rattle.std.specs.Prelude.{◌≡◌, ◌∷◌}
+use Rattle.integers.specs.Basics.{ℕ, refl, Bool, true, false, cond, [], Option, none, some, ℤ, pos, negsuc, eqb}
 use Rattle.integers.specs.Sum.{sum_over, below}
 use Rattle.ledger.specs.declared.order.Order.{Order}
 use Rattle.ledger.specs.declared.order.Side.{Side}
@@ -46,7 +47,8 @@ by_its_number t u h = passed (record { number = 17; passes = t } ∷ record { nu
 
 -- all that they compute with, as one name
 unfoldable computes : Unit {0}
-unfolding sum_over below remaining group_of_instrument stands_in open_on of_instrument group_part sum_group potential line_in_force limit first_no
+unfolding sum_over below remaining group_of_instrument stands_in open_on of_instrument group_part sum_group potential line_in_force limit
+    first_no
     limits_set size_fits moves_instrument moves_group within position_questions
 computes = tt
 

@@ -1,6 +1,7 @@
 -- The first no of each table, by the tests that the code makes.
-use Rattle.integers.specs.Basics.{ℕ, ◌≡◌, refl, ◌∙◌, ◌≢◌, Bool, true, false, not, ◌&&◌, ◌||◌, cond, List, [], ◌∷◌, Option, none, some, ℤ}
-use Rattle.integers.specs.Basics.{pos, nat_abs, ◌+ℤ◌, ◌*ℤ◌, le_z, leb, eq-eqb, ne_eqb}
+use Rattle.std.specs.Prelude.{◌≡◌, ◌≢◌, ◌&&◌, ◌||◌, ◌∷◌, ◌+ℤ◌, ◌*ℤ◌}
+use Rattle.integers.specs.Basics.{ℕ, refl, ◌∙◌, Bool, true, false, not, cond, List, [], Option, none, some, ℤ}
+use Rattle.integers.specs.Basics.{pos, nat_abs, le_z, leb, eq-eqb, ne_eqb}
 use native.Mathlib.Nat.{one-mul}
 use Rattle.ledger.specs.declared.order.Order.{Order}
 use Rattle.ledger.specs.declared.order.Side.{Side}

@@ -1,5 +1,6 @@
 -- Laws of lines: the line in force, and a limit that is set.
-use Rattle.integers.specs.Basics.{ℕ, ◌*◌, ◌≡◌, refl, true, false, false≢true, Option, none, some, pos, arith}
+use Rattle.std.specs.Prelude.{◌*◌, ◌≡◌}
+use Rattle.integers.specs.Basics.{ℕ, refl, true, false, false≢true, Option, none, some, pos, arith}
 use Rattle.ledger.specs.Roster.{Roster}
 use Rattle.ledger.specs.Positions.{Way, instrument, group}
 use Rattle.limits.specs.Lines.{Line, GroupLine, Lines, line_in_force, is_set, limit, largest_position, largest_of_group}

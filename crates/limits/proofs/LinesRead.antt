@@ -1,5 +1,6 @@
 -- Laws of lines in lent bytes: a side's figure, the part that holds the line in force, and which lines are set.
-use Rattle.integers.specs.Basics.{ℕ, ◌+◌, ◌*◌, ◌^◌, ◌≤◌, ◌<◌, ◌≡◌, ◌∙◌, Bool, true, false, cond, false≢true, List, none, some, length}
+use Rattle.std.specs.Prelude.{◌+◌, ◌*◌, ◌^◌, ◌≤◌, ◌<◌, ◌≡◌}
+use Rattle.integers.specs.Basics.{ℕ, ◌∙◌, Bool, true, false, cond, false≢true, List, none, some, length}
 use Rattle.integers.specs.Basics.{arith}
 use native.Mathlib.Nat.{add-zero}
 use Rattle.words.specs.Bytes.{Bytes}

@@ -1,6 +1,7 @@
 -- What an event that raises B or V does to the potential positions of the order's own instrument and group, and that a NEW
 -- and a REPLACE to a larger total are such events.
-use Rattle.integers.specs.Basics.{ℕ, ◌+◌, ◌-◌, ◌≤◌, ◌≡◌, refl, sym, ap, List, ℤ, pos, nat_abs, ◌+ℤ◌, ◌*ℤ◌, arith}
+use Rattle.std.specs.Prelude.{◌+◌, ◌-◌, ◌≤◌, ◌≡◌, ◌+ℤ◌, ◌*ℤ◌}
+use Rattle.integers.specs.Basics.{ℕ, refl, sym, ap, List, ℤ, pos, nat_abs, arith}
 use native.Mathlib.Nat.{one-mul}
 use Rattle.ledger.specs.declared.order.Order.{Order}
 use Rattle.ledger.specs.declared.order.Side.{Side}

@@ -1,7 +1,8 @@
 -- Questions 21 to 24 by fillings: an order is refused by one of them exactly when some filling of the open orders passes a
 -- limit on a side to which the order's own fills move the position.
-use Rattle.integers.specs.Basics.{ℕ, ◌≡◌, refl, ◌≢◌, ◌⊎◌, inl, inr, ⊎_elim, ◌↔◌, Bool, true, false, not, ◌||◌, cond, List, ◌++◌, ℤ, ◌≤ℤ◌}
-use Rattle.integers.specs.Basics.{◌<ℤ◌, arith, signed}
+use Rattle.std.specs.Prelude.{◌≡◌, ◌≢◌, ◌⊎◌, ◌↔◌, ◌||◌, ◌++◌, ◌≤ℤ◌, ◌<ℤ◌}
+use Rattle.integers.specs.Basics.{ℕ, refl, inl, inr, ⊎_elim, Bool, true, false, not, cond, List, ℤ}
+use Rattle.integers.specs.Basics.{arith, signed}
 use Rattle.ledger.specs.declared.order.Order.{Order}
 use Rattle.ledger.specs.Roster.{Roster, group_of_instrument}
 use Rattle.ledger.specs.Positions.{Way, long, short, Scope, instrument, group, potential, position}

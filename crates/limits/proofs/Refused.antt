@@ -1,27 +1,19 @@
 -- An answer that is no acceptance has a number that is not 0: computed over the enum's own variants, so that a new one joins by itself.
-use Rattle.integers.specs.Basics.{ℕ, suc, ◌≡◌, refl, ◌∙◌, ap, subst, inl, inr, ◌≢◌, Bool, true, false, not, ◌&&◌, ◌||◌, cond, false≢true}
-use Rattle.integers.specs.Basics.{List, [], ◌∷◌, eqb, eqb-true, eq-eqb}
+use Rattle.std.specs.Prelude.{◌≡◌, ◌≢◌, ◌&&◌, ◌||◌, ◌∷◌}
+use Rattle.integers.specs.Basics.{ℕ, refl, ◌∙◌, ap, inl, inr, Bool, true, false, not, false≢true, rules}
+use Rattle.integers.specs.Basics.{List, [], eqb, eqb-true, eq-eqb}
 use denote.Struct.Field.{Field}
 use denote.Enum.Enum.{tag}
+use denote.Enum.Bare.{tag_one}
 use denote.Enum.Declared.{Choice, rowss, intoss, tag_of}
-use types.Run.{OneOf, miss}
 use Rattle.limits.specs.declared.answer.Answer.{Answer}
 use Rattle.limits.specs.declared.answer.Answer.TheVariants.{Accepted}
 use Rattle.limits.specs.Answers.{number_of}
 use Rattle.limits.specs.contracts.answer.Answer.{the_parts as parts, as_values, the_make as make, the_eta as eta, the_type}
 use Rattle.limits.proofs.Answers.{both_true, asked_true}
 
--- the places of variants from n on, without place k
-abbrev places_but : ℕ → ℕ → List (List Field) → List ℕ
-places_but k n [] = []
-places_but k n (v ∷ vs) = cond (eqb n k) (places_but k (suc n) vs) (n ∷ places_but k (suc n) vs)
-
-abbrev refusals : List ℕ
-refusals = places_but (tag_of the_type Accepted) 0 parts
-
--- by its place among the answers
 abbrev pub Refusal : Answer → Type 0
-Refusal a = OneOf refusals (tag_of the_type a)
+Refusal a = a ≢ Accepted
 
 -- does a test hold of each variant, none of which holds anything
 abbrev of_each : (vs : List (List Field)) → (Choice vs → Bool) → Bool
@@ -43,6 +35,7 @@ pub not_zero : (a : Answer) → Refusal a → number_of a ≢ 0
 unfolding zero_accepts
 not_zero a h z =
     let v = as_values a in
-    let e = asked_true (eqb (number_of (make v)) 0) (eqb (tag_of the_type a) (tag_of the_type Accepted)) (of_each_lem parts zero_accepts refl v)
+    let e = asked_true (eqb (number_of (make v)) 0) (eqb (tag_of the_type a) (tag_of the_type Accepted))
+    (of_each_lem parts zero_accepts refl v)
     (eq-eqb (number_of (make v)) 0 (ap number_of (eta a) ∙ z)) in
-    miss refusals (tag_of the_type Accepted) tt (subst (OneOf refusals) (eqb-true (tag_of the_type a) (tag_of the_type Accepted) e) h)
+    h (tag_one the_type (search rules) a Accepted (eqb-true (tag_of the_type a) (tag_of the_type Accepted) e))

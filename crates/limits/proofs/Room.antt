@@ -1,5 +1,6 @@
 -- Potential positions as the code makes them up by the cells, and how large they are within the bounds.
-use Rattle.integers.specs.Basics.{ℕ, ◌≤◌, ◌≡◌, refl, ◌∙◌, sym, ap, List, ℤ, pos, nat_abs, ◌+ℤ◌, ◌*ℤ◌, get_or, arith}
+use Rattle.std.specs.Prelude.{◌≤◌, ◌≡◌, ◌+ℤ◌, ◌*ℤ◌}
+use Rattle.integers.specs.Basics.{ℕ, refl, ◌∙◌, sym, ap, List, ℤ, pos, nat_abs, get_or, arith}
 use lib.IntN.{+ℤ_assoc}
 use Rattle.integers.specs.Magnitude.{magnitude_product_≤}
 use Rattle.ledger.specs.declared.order.Order.{Order}
@@ -51,7 +52,8 @@ module _ (cells balances roster : List ℕ) where
         ∙ ap (λ (z : ℤ). z +ℤ x) (by_cells_potential cells (balances_in balances) before o.account gathered w o.instrument
         (instrument_bounds o n bounds).instrument)
 
-    pub of_group_lem : (g : ℕ) (y : ℤ) → y ≡ sum_by_cells cells (balances_in balances) (roster_in roster) g (roster_in roster).instruments w +ℤ x
+    pub of_group_lem : (g : ℕ) (y : ℤ) → y ≡ sum_by_cells cells (balances_in balances) (roster_in roster) g
+        (roster_in roster).instruments w +ℤ x
         → y ≡ potential one (roster_in roster) before o.account (balances_in balances) (group g) w +ℤ x
     of_group_lem g y e =
         e

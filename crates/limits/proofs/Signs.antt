@@ -1,5 +1,6 @@
 -- A weight's sign: the side to which it turns, and its magnitude.
-use Rattle.integers.specs.Basics.{◌≡◌, refl, ℤ, pos, negsuc, neg_ℤ, nat_abs, ◌≤ℤ◌, ◌<ℤ◌, signed}
+use Rattle.std.specs.Prelude.{◌≡◌, ◌≤ℤ◌, ◌<ℤ◌}
+use Rattle.integers.specs.Basics.{refl, ℤ, pos, negsuc, neg_ℤ, nat_abs, signed}
 use Rattle.ledger.specs.Positions.{Way, opposite, way_by}
 
 pub turns : (K : ℤ) (w : Way) → K <ℤ pos 0 → opposite w ≡ way_by K w

@@ -1,5 +1,6 @@
 -- Questions 17 and 19 to 24, of an order as the event enters it or raises it to.
-use Rattle.integers.specs.Basics.{ℕ, ◌*◌, Bool, true, false, not, ◌&&◌, ◌||◌, List, [], ◌∷◌, ℤ, pos, negsuc, le_z, eqb}
+use Rattle.std.specs.Prelude.{◌*◌, ◌&&◌, ◌||◌, ◌∷◌}
+use Rattle.integers.specs.Basics.{ℕ, Bool, true, false, not, List, [], ℤ, pos, negsuc, le_z, eqb}
 use Rattle.ledger.specs.declared.order.Order.{Order}
 use Rattle.ledger.specs.declared.order.Side.{Side}
 use Rattle.ledger.specs.Roster.{Roster, group_of_instrument}

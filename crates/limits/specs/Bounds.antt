@@ -1,5 +1,6 @@
 -- What the questions need of the lent bytes, and which lines stand in them.
-use Rattle.integers.specs.Basics.{ℕ, ◌≤◌, ◌≡◌, List, some, ℤ, nat_abs}
+use Rattle.std.specs.Prelude.{◌≤◌, ◌≡◌}
+use Rattle.integers.specs.Basics.{ℕ, List, some, ℤ, nat_abs}
 use Rattle.ledger.specs.declared.order.Order.{Order}
 use Rattle.ledger.specs.Roster.{Roster, Numbered, group_of_instrument}
 use Rattle.ledger.specs.Records.{roster_in}

@@ -1,5 +1,6 @@
 -- Lines in lent bytes: two words for a line, one for a group's, and a word of its own that says whether a line is set.
-use Rattle.integers.specs.Basics.{ℕ, ◌+◌, ◌*◌, Bool, not, cond, List, Option, none, some, eqb}
+use Rattle.std.specs.Prelude.{◌+◌, ◌*◌}
+use Rattle.integers.specs.Basics.{ℕ, Bool, not, cond, List, Option, none, some, eqb}
 use Rattle.words.specs.Words.{word_at, lower, upper, part_of}
 use Rattle.ledger.specs.declared.order.Side.{Side}
 use Rattle.ledger.specs.declared.order.Side.TheVariants.{Buy, Sell}

@@ -1,5 +1,6 @@
 -- Document 01, "Limit lines", of one account.
-use Rattle.integers.specs.Basics.{ℕ, Bool, true, false, Option, none, some, ℤ, pos, negsuc, ◌*ℤ◌}
+use Rattle.std.specs.Prelude.{◌*ℤ◌}
+use Rattle.integers.specs.Basics.{ℕ, Bool, true, false, Option, none, some, ℤ, pos, negsuc}
 use Rattle.ledger.specs.declared.order.Side.{Side}
 use Rattle.ledger.specs.declared.order.Side.TheVariants.{Buy, Sell}
 use Rattle.ledger.specs.Roster.{Roster}

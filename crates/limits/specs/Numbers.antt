@@ -1,5 +1,6 @@
 -- Questions 17, 19 and 20 as tables, and the number of a side's question.
-use Rattle.integers.specs.Basics.{ℕ, List, [], ◌∷◌}
+use Rattle.std.specs.Prelude.{◌∷◌}
+use Rattle.integers.specs.Basics.{ℕ, List, []}
 use Rattle.ledger.specs.declared.order.Order.{Order}
 use Rattle.ledger.specs.declared.order.Side.{Side}
 use Rattle.ledger.specs.declared.order.Side.TheVariants.{Buy, Sell}

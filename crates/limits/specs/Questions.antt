@@ -1,5 +1,6 @@
 -- Questions in order: a "no" gives the number, and the first "no" is the answer.
-use Rattle.integers.specs.Basics.{ℕ, Bool, true, ◌&&◌, cond, List, [], ◌∷◌, map, eqb}
+use Rattle.std.specs.Prelude.{◌&&◌, ◌∷◌}
+use Rattle.integers.specs.Basics.{ℕ, Bool, true, cond, List, [], map, eqb}
 
 pub record Question : Type 0 where
   pub number : ℕ

@@ -1,5 +1,6 @@
 -- What an event adds to B and V: a NEW the order's quantity, a REPLACE that raises a total the rise.
-use Rattle.integers.specs.Basics.{ℕ, ◌≡◌, ◌&&◌, cond, List, ℤ, pos, ◌+ℤ◌}
+use Rattle.std.specs.Prelude.{◌≡◌, ◌&&◌, ◌+ℤ◌}
+use Rattle.integers.specs.Basics.{ℕ, cond, List, ℤ, pos}
 use Rattle.ledger.specs.declared.order.Order.{Order}
 use Rattle.ledger.specs.declared.order.Side.{Side}
 use Rattle.ledger.specs.Positions.{same_side, stands_in, open_on}

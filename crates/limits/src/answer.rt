@@ -2,7 +2,7 @@
 ghost use Rattle.std.specs.Prelude.{◌≡◌};
 ghost use Rattle.limits.specs.Answers.{number_of};
 
-#[derive(Drop)]
+#[derive(Clone, Copy)]
 pub enum Answer {
     Accepted,
     MemoryTooShort,
@@ -34,7 +34,7 @@ pub enum Answer {
 }
 
 // An answer and its number.
-#[derive(Drop)]
+#[derive(Clone, Copy)]
 struct AnswerNumber(Answer, u8);
 
 // The table of answers and numbers. The answer is named again beside its number, so that the prover finds each line by itself.

@@ -1,7 +1,3 @@
--- Laws of the list of order structs: an order in memory, a loop that counts up, a list made in a local and lent.
-mod Orders
-mod Locals
-mod CountingUp
-mod Local
+-- Laws of the list of order structs: what its places count for, and the orders loaded into it.
 mod Sums
 mod Loading

@@ -1,5 +1,6 @@
 -- The orders of the records loaded into a list, place by place, and what they count for.
-use Rattle.integers.specs.Basics.{ℕ, zero, suc, ◌+◌, ◌≤◌, ◌<◌, ◌≡◌, refl, ◌∙◌, by_cases, List, pos, nat_abs, ◌+ℤ◌, +ℤ_idl, length, set}
+use Rattle.std.specs.Prelude.{◌+◌, ◌≤◌, ◌<◌, ◌≡◌, ◌+ℤ◌}
+use Rattle.integers.specs.Basics.{ℕ, zero, suc, refl, ◌∙◌, by_cases, List, pos, nat_abs, +ℤ_idl, length, set}
 use Rattle.integers.specs.Basics.{replicate, length-set, ℕ_discrete, arith}
 use native.Mathlib.Numerals.{add-one}
 use lib.ListN.{length-replicate}
@@ -44,7 +45,8 @@ module _ (orders : List Order) (records : List ℕ) where
     counted_so_far zero h = rw (counted_none (loaded_to orders records n) s a i) (+ℤ_idl _)
     counted_so_far (suc p) h =
         let list = loaded_to orders records n in
-        let more = counted_more records n s a i (counted_to list p s a i) p (counted (order_in list p) s a i) (order_in list p) (omega arith)
+        let order = order_in list p in
+        let more = counted_more records n s a i (counted_to list p s a i) p (counted order s a i) order (omega arith)
         (loaded_at n p long (omega arith)) refl (counted_so_far p (omega arith)) in
         rw (← add-one, ← counted_next list s a i p) more
 
@@ -58,7 +60,8 @@ module _ (records : List ℕ) (n : ℕ) where
   loaded_free = refl
 
   -- what it counts for is B or V of the records
-  pub listed_open : n ≤ 256 → (s : Side) (a i : ℕ) → pos (counted_to (listed records n) n s a i) ≡ open_on one (orders_from records 0 n) s a i
+  pub listed_open : n ≤ 256 → (s : Side) (a i : ℕ)
+      → pos (counted_to (listed records n) n s a i) ≡ open_on one (orders_from records 0 n) s a i
   unfolding listed
   listed_open few s a i =
       let long : n ≤ length (replicate 256 no_order) = rw (length-replicate 256 no_order) few in

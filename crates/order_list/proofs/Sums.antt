@@ -1,5 +1,6 @@
 -- What the orders at the first places of a list count for, place by place.
-use Rattle.integers.specs.Basics.{ℕ, zero, suc, ◌+◌, ◌-◌, ◌≤◌, ◌≡◌, refl, List, arith}
+use Rattle.std.specs.Prelude.{◌+◌, ◌-◌, ◌≤◌, ◌≡◌}
+use Rattle.integers.specs.Basics.{ℕ, zero, suc, refl, List, arith}
 use native.Mathlib.Numerals.{add-one}
 use Rattle.ledger.specs.declared.order.Order.{Order}
 use Rattle.ledger.specs.declared.order.Side.{Side}

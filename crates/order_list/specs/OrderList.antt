@@ -1,5 +1,6 @@
 -- A list of order structs: the order at a place, the orders of the records loaded into it, and what they count for.
-use Rattle.integers.specs.Basics.{ℕ, zero, suc, ◌+◌, List, get_or, set}
+use Rattle.std.specs.Prelude.{◌+◌}
+use Rattle.integers.specs.Basics.{ℕ, zero, suc, List, get_or, set}
 use Rattle.ledger.specs.declared.order.Order.{Order}
 use Rattle.ledger.specs.declared.order.Side.{Side}
 use Rattle.ledger.specs.declared.order.Side.TheVariants.{Buy}

@@ -1,4 +1,6 @@
 // The open orders as a list of 256 order structs, lent as a slice.
+#![tactic(auto)]
+
 ghost use Rattle.std.specs.Prelude.{◌≡◌, ◌*◌, ◌≤◌, pos, nat_abs, length};
 ghost use Rattle.ledger.specs.declared.order.Side.{Side};
 ghost use Rattle.ledger.specs.declared.order.Side.TheVariants.{Buy, Sell};
@@ -16,7 +18,7 @@ use positions::{InstrumentPosition, counted, position_by};
 use words::signed_word;
 
 // B and V of an account and instrument: what remains of its open buys and sells.
-#[derive(Drop)]
+#[derive(Clone, Copy)]
 pub struct Open {
     pub buys: u64,
     pub sells: u64,

@@ -1,5 +1,6 @@
 -- B and V order by order: what an order counts for, and what is left to count from record p on.
-use Rattle.integers.specs.Basics.{ℕ, zero, suc, ◌+◌, ◌*◌, ◌-◌, ◌≤◌, ◌<◌, ◌≡◌, ap, ◌≢◌, true, false, ◌&&◌, List, ◌∷◌, ℤ, pos, nat_abs, ◌+ℤ◌}
+use Rattle.std.specs.Prelude.{◌+◌, ◌*◌, ◌-◌, ◌≤◌, ◌<◌, ◌≡◌, ◌≢◌, ◌&&◌, ◌∷◌, ◌+ℤ◌}
+use Rattle.integers.specs.Basics.{ℕ, zero, suc, ap, true, false, List, ℤ, pos, nat_abs}
 use Rattle.integers.specs.Basics.{arith, eq-eqb, ne_eqb, magnitude_parts}
 use mathlib.Core.Bool.{and-false}
 use native.Mathlib.Nat.{one-mul}

@@ -1,5 +1,6 @@
 -- The cells in which B and V are gathered, order by order: of one account, or of each account in a row of its own.
-use Rattle.integers.specs.Basics.{ℕ, zero, suc, ◌+◌, ◌≤◌, ◌<◌, ◌≡◌, refl, ◌∙◌, sym, ap, ◌≢◌, true, cond, List, pos, ◌+ℤ◌, +ℤ_idl, eqb}
+use Rattle.std.specs.Prelude.{◌+◌, ◌≤◌, ◌<◌, ◌≡◌, ◌≢◌, ◌+ℤ◌}
+use Rattle.integers.specs.Basics.{ℕ, zero, suc, refl, ◌∙◌, sym, ap, true, cond, List, pos, +ℤ_idl, eqb}
 use Rattle.integers.specs.Basics.{length, get_or, replicate, length-set, ℕ_discrete, arith, eq-eqb, ne_eqb}
 use lib.Seq.{get_or-set_same, get_or-set_other}
 use Rattle.ledger.specs.declared.order.Order.{Order}

@@ -1,6 +1,7 @@
 -- An instrument's part in its group's position, by the sign of its weight, and the sum of the parts by the cells.
-use Rattle.integers.specs.Basics.{ℕ, suc, ◌+◌, ◌*◌, ◌≤◌, ◌≡◌, refl, ◌∙◌, sym, ap, ◌≢◌, cond, List, ℤ, pos, negsuc, neg_ℤ, nat_abs, ◌+ℤ◌, ◌*ℤ◌}
-use Rattle.integers.specs.Basics.{+ℤ_idr, ◌≤ℤ◌, ◌<ℤ◌, eqb, get_or, arith, eq-eqb, ne_eqb, signed}
+use Rattle.std.specs.Prelude.{◌+◌, ◌*◌, ◌≤◌, ◌≡◌, ◌≢◌, ◌+ℤ◌, ◌*ℤ◌, ◌≤ℤ◌, ◌<ℤ◌}
+use Rattle.integers.specs.Basics.{ℕ, suc, refl, ◌∙◌, sym, ap, cond, List, ℤ, pos, negsuc, neg_ℤ, nat_abs}
+use Rattle.integers.specs.Basics.{+ℤ_idr, eqb, get_or, arith, eq-eqb, ne_eqb, signed}
 use native.Mathlib.Numerals.{add-one}
 use Rattle.integers.specs.Magnitude.{magnitude_sum, magnitude_negation, magnitude_product_≤}
 use Rattle.integers.specs.Sum.{sum_to_none, sum_to_more, sum_to_same, sum_to_magnitude}
@@ -73,7 +74,8 @@ module _ (cells : List ℕ) (S : ℕ → ℤ) (i : ℕ) where
     unfolding part_by_cells
     part_small weight balance small =
         let magnitude = part_magnitude w (r.weight i) (by_cells cells S i) 1000000 200000000000 weight in
-        by_test (eqb (group_of_instrument r i) g) (λ t. rw t (magnitude (λ v. by_cells_magnitude v balance small))) (λ t. rw t (omega arith))
+        by_test (eqb (group_of_instrument r i) g) (λ t. rw t (magnitude (λ v. by_cells_magnitude v balance small)))
+        (λ t. rw t (omega arith))
 
 -- an account's cells alone
 pub gathered_at : {cells : List ℕ} {orders : List Order} {a : ℕ} → Gathered cells 0 orders a → (s : Side) (i : ℕ) → Numbered 32 i

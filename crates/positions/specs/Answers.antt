@@ -1,5 +1,6 @@
 -- What the answers of the code are to be, by the definitions, on a derivatives desk.
-use Rattle.integers.specs.Basics.{ℕ, ◌≡◌, List}
+use Rattle.std.specs.Prelude.{◌≡◌}
+use Rattle.integers.specs.Basics.{ℕ, List}
 use Rattle.positions.specs.declared.InstrumentPosition.{InstrumentPosition}
 use Rattle.positions.specs.declared.GroupPosition.{GroupPosition}
 use Rattle.ledger.specs.Positions.{long, short, group, of_instrument, potential}

@@ -1,5 +1,6 @@
 -- What the positions of an account need of the lent bytes: that the records are there, and that no number is too large.
-use Rattle.integers.specs.Basics.{ℕ, ◌+◌, ◌*◌, ◌≤◌, ◌≡◌, List, nat_abs, length, get_or}
+use Rattle.std.specs.Prelude.{◌+◌, ◌*◌, ◌≤◌, ◌≡◌}
+use Rattle.integers.specs.Basics.{ℕ, List, nat_abs, length, get_or}
 use Rattle.ledger.specs.declared.order.Side.{Side}
 use Rattle.ledger.specs.Roster.{Roster, Numbered}
 use Rattle.ledger.specs.Positions.{open_on}

@@ -1,6 +1,7 @@
 -- What remains of an account's open orders, gathered into cells: from the account's first cell on, cell i holds the buys and
 -- cell 32 + i the sells of instrument i.
-use Rattle.integers.specs.Basics.{ℕ, suc, ◌+◌, ◌≡◌, cond, List, ℤ, pos, ◌+ℤ◌, eqb, get_or, set}
+use Rattle.std.specs.Prelude.{◌+◌, ◌≡◌, ◌+ℤ◌}
+use Rattle.integers.specs.Basics.{ℕ, suc, cond, List, ℤ, pos, eqb, get_or, set}
 use Rattle.integers.specs.Sum.{sum_to}
 use Rattle.ledger.specs.declared.order.Order.{Order}
 use Rattle.ledger.specs.declared.order.Side.{Side}

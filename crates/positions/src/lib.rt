@@ -1,4 +1,6 @@
 // The potential positions of an account on a derivatives desk, by instrument and by group. They know no limit: `limits` stands above.
+#![tactic(auto)]
+
 ghost use Rattle.std.specs.Prelude.{◌≡◌, ℕ, ◌+◌, ◌≤◌, ◌<◌, pos, neg_ℤ, nat_abs, ◌+ℤ◌, ◌≤ℤ◌, length, get_or};
 ghost use Rattle.ledger.specs.declared.order.Side.{Side};
 ghost use Rattle.ledger.specs.Roster.{Numbered};
@@ -16,7 +18,7 @@ use ledger::units::{Contracts, Weighted};
 use words::signed_word;
 
 // The balance of an instrument and its potential positions.
-#[derive(Drop)]
+#[derive(Clone, Copy)]
 pub struct InstrumentPosition {
     pub balance: Contracts,
     pub long: Contracts,
@@ -24,7 +26,7 @@ pub struct InstrumentPosition {
 }
 
 // The potential positions of a group.
-#[derive(Drop)]
+#[derive(Clone, Copy)]
 pub struct GroupPosition {
     pub long: Weighted,
     pub short: Weighted,

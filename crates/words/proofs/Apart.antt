@@ -1,5 +1,6 @@
 -- Stores that lie apart can change places.
-use Rattle.integers.specs.Basics.{ℕ, zero, suc, ◌+◌, ◌*◌, ◌/◌, ◌%◌, ◌≤◌, ◌<◌, ◌≡◌, refl, ◌∙◌, ap, List, [], ◌∷◌, length, set, arith}
+use Rattle.std.specs.Prelude.{◌+◌, ◌*◌, ◌/◌, ◌%◌, ◌≤◌, ◌<◌, ◌≡◌, ◌∷◌}
+use Rattle.integers.specs.Basics.{ℕ, zero, suc, refl, ◌∙◌, ap, List, [], length, set, arith}
 use lib.Seq.{set_comm}
 use Rattle.words.specs.Bytes.{store}
 use Rattle.words.specs.Words.{put_word, put_words}

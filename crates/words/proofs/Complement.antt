@@ -1,5 +1,6 @@
 -- Two's complement by the code's own steps, at each width: −1 − (2 ^ bits − 1 − n) for bits n of the upper half, and the way back.
-use Rattle.integers.specs.Basics.{ℕ, ◌*◌, ◌-◌, ◌^◌, ◌≤◌, ◌<◌, ◌≡◌, ◌∙◌, sym, ap, ℤ, pos, negsuc, nat_abs, ◌-ℤ◌, ◌<ℤ◌, SFits, to_z, of_z}
+use Rattle.std.specs.Prelude.{◌*◌, ◌-◌, ◌^◌, ◌≤◌, ◌<◌, ◌≡◌, ◌-ℤ◌, ◌<ℤ◌}
+use Rattle.integers.specs.Basics.{ℕ, ◌∙◌, sym, ap, ℤ, pos, negsuc, nat_abs, SFits, to_z, of_z}
 use Rattle.integers.specs.Basics.{to_z-of_z, arith, signed, magnitude_parts, difference_parts}
 use mir.Syntax.{Width}
 use mir.Val.{bits, hbits}

@@ -1,5 +1,6 @@
 -- The halves of a word, as fields of 32 bits and as they were joined.
-use Rattle.integers.specs.Basics.{ℕ, ◌+◌, ◌*◌, ◌^◌, ◌<◌, ◌≡◌, List, arith}
+use Rattle.std.specs.Prelude.{◌+◌, ◌*◌, ◌^◌, ◌<◌, ◌≡◌}
+use Rattle.integers.specs.Basics.{ℕ, List, arith}
 use native.Mathlib.Nat.{add_assoc}
 use Rattle.words.specs.Bytes.{Bytes, number}
 use Rattle.words.specs.Fields.{u32_at}

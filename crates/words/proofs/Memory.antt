@@ -1,5 +1,6 @@
 -- Laws of a memory as words: what a stored word changes and what it leaves.
-use Rattle.integers.specs.Basics.{ℕ, ◌+◌, ◌*◌, ◌/◌, ◌^◌, ◌≤◌, ◌<◌, ◌≡◌, ◌≢◌, List, length, get_or, arith}
+use Rattle.std.specs.Prelude.{◌+◌, ◌*◌, ◌/◌, ◌^◌, ◌≤◌, ◌<◌, ◌≡◌, ◌≢◌}
+use Rattle.integers.specs.Basics.{ℕ, List, length, get_or, arith}
 use Rattle.words.specs.Bytes.{Bytes}
 use Rattle.words.specs.Words.{word_at, put_word}
 use Rattle.words.proofs.Numbers.{length_store, byte_store_other, number_store_other, number_store_same, number_below, store_back}

@@ -1,5 +1,6 @@
 -- Words moved up and down: what the turns of each move have stored, or leave to be stored.
-use Rattle.integers.specs.Basics.{ℕ, suc, ◌+◌, ◌-◌, ◌≤◌, ◌<◌, ◌≡◌, refl, ◌∙◌, sym, List, length, arith}
+use Rattle.std.specs.Prelude.{◌+◌, ◌-◌, ◌≤◌, ◌<◌, ◌≡◌}
+use Rattle.integers.specs.Basics.{ℕ, suc, refl, ◌∙◌, sym, List, length, arith}
 use Rattle.words.specs.Words.{word_at, put_word, words_at, put_words}
 use Rattle.words.proofs.Runs.{word_puts_other, words_put_other}
 use Rattle.words.proofs.Apart.{put_past_words}

@@ -1,5 +1,6 @@
 -- Laws of parts of a memory: a number in a part is a number of the whole.
-use Rattle.integers.specs.Basics.{ℕ, zero, suc, ◌+◌, ◌*◌, ◌-◌, ◌/◌, ◌%◌, ◌≤◌, ◌<◌, ◌≡◌, refl, ◌∙◌, ap, List, [], ◌∷◌, ◌++◌, length, set}
+use Rattle.std.specs.Prelude.{◌+◌, ◌*◌, ◌-◌, ◌/◌, ◌%◌, ◌≤◌, ◌<◌, ◌≡◌, ◌∷◌, ◌++◌}
+use Rattle.integers.specs.Basics.{ℕ, zero, suc, refl, ◌∙◌, ap, List, [], length, set}
 use Rattle.integers.specs.Basics.{take, drop, arith}
 use mathlib.Core.List.{append-nil}
 use native.Mathlib.Nat.{add_assoc}

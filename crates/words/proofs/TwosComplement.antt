@@ -1,5 +1,6 @@
 -- Laws of signed words and fields: a signed number that is stored is read back as itself, whatever its sign.
-use Rattle.integers.specs.Basics.{ℕ, ◌+◌, ◌*◌, ◌≤◌, ◌≡◌, refl, ◌∙◌, ap, ◌≢◌, List, [], ◌∷◌, ℤ, negsuc, length, w64, SFits, arith}
+use Rattle.std.specs.Prelude.{◌+◌, ◌*◌, ◌≤◌, ◌≡◌, ◌≢◌, ◌∷◌}
+use Rattle.integers.specs.Basics.{ℕ, refl, ◌∙◌, ap, List, [], ℤ, negsuc, length, w64, SFits, arith}
 use Rattle.integers.specs.TwosComplement.{signed_of, bits_of, signed_bits, bits_below, fits_in_bits}
 use Rattle.words.specs.Bytes.{number}
 use Rattle.words.specs.Fields.{i32_at, i64_at}

@@ -1,5 +1,6 @@
 -- Numbers of four and eight bytes, and the store of eight, as the code has them, byte by byte.
-use Rattle.integers.specs.Basics.{ℕ, ◌+◌, ◌*◌, ◌/◌, ◌%◌, ◌≡◌, List, get_or, set}
+use Rattle.std.specs.Prelude.{◌+◌, ◌*◌, ◌/◌, ◌%◌, ◌≡◌}
+use Rattle.integers.specs.Basics.{ℕ, List, get_or, set}
 use native.Mathlib.Nat.{add_assoc, div-div-eq-div-mul}
 use Rattle.words.specs.Bytes.{number, store}
 

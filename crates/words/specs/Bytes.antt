@@ -1,5 +1,6 @@
 -- Little-endian numbers in a list of bytes, of any width.
-use Rattle.integers.specs.Basics.{ℕ, zero, suc, ◌+◌, ◌*◌, ◌/◌, ◌%◌, ◌<◌, List, get_or, set}
+use Rattle.std.specs.Prelude.{◌+◌, ◌*◌, ◌/◌, ◌%◌, ◌<◌}
+use Rattle.integers.specs.Basics.{ℕ, zero, suc, List, get_or, set}
 
 -- every element is a byte
 abbrev pub Bytes : List ℕ → Type 0

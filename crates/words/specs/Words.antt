@@ -1,5 +1,6 @@
 -- A list of bytes as little-endian words of 64 bits: word k is bytes 8 k to 8 k + 7.
-use Rattle.integers.specs.Basics.{ℕ, zero, suc, ◌+◌, ◌*◌, ◌/◌, ◌%◌, ◌^◌, ◌<◌, List, [], ◌∷◌, ℤ, get_or, take, drop}
+use Rattle.std.specs.Prelude.{◌+◌, ◌*◌, ◌/◌, ◌%◌, ◌^◌, ◌<◌, ◌∷◌}
+use Rattle.integers.specs.Basics.{ℕ, zero, suc, List, [], ℤ, get_or, take, drop}
 use Rattle.integers.specs.TwosComplement.{signed_of, bits_of}
 use Rattle.words.specs.Bytes.{number, store}
 

@@ -1,4 +1,6 @@
 // Little-endian words of 64 bits in lent bytes, fields at any byte, and bytes copied.
+#![tactic(auto)]
+
 pub mod copies;
 pub mod fields;
 pub mod signed;

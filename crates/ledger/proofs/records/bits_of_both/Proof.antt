@@ -1,8 +1,0 @@
--- The joined detail is at least either in each figure: the bits of both are in it (`joined_before`, `joined_here`).
-use Rattle.ledger.proofs.Details.{joined_before, joined_here}
-use Rattle.ledger.proofs.records.bits_of_both.Statement.{statement}
-use Rattle.ledger.proofs.records.bits_of_both.Tie as tie
-
-pub bits_of_both_spec : {M : Type 1} → statement M
-bits_of_both_spec =
-    tie.close (tie.spec (λ c. (λ o. joined_before c.args.all c.args.w o, λ id. joined_here c.args.all id c.args.w)))

@@ -1,9 +1,0 @@
--- The first word is the number of accounts, by definition.
-use Rattle.integers.specs.Basics.{needs}
-use Rattle.ledger.specs.Records.{roster_in}
-use Rattle.ledger.proofs.roster.accounts_in.Statement.{statement}
-use Rattle.ledger.proofs.roster.accounts_in.Tie as tie
-
-pub accounts_in_spec : {M : Type 1} → statement M
-unfolding roster_in
-accounts_in_spec = tie.close (tie.spec (λ c κs. search needs) (λ c. c.word.ensures))

@@ -1,9 +1,0 @@
--- The word is that number's in the table of groups of contracts, by definition.
-use Rattle.integers.specs.Basics.{needs}
-use Rattle.ledger.specs.Records.{roster_in}
-use Rattle.ledger.proofs.roster.group_in.Statement.{statement}
-use Rattle.ledger.proofs.roster.group_in.Tie as tie
-
-pub group_in_spec : {M : Type 1} → statement M
-unfolding roster_in
-group_in_spec = tie.close (tie.spec (λ c. search needs) (λ c κs. search needs) (λ c. c.word.ensures))
