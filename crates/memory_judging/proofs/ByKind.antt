@@ -1,5 +1,6 @@
 -- The table's first no: of an event by its answers to 7 to 9, and of a change by that to 11 too; and what 12 asks of the order found.
-use Rattle.integers.specs.Basics.{ℕ, ◌≡◌, refl, Bool, true, false, cond, List, Option, some, ℤ}
+use Rattle.std.specs.Prelude.{◌≡◌}
+use Rattle.integers.specs.Basics.{ℕ, refl, Bool, true, false, cond, List, Option, some, ℤ}
 use Rattle.ledger.specs.declared.order.Order.{Order}
 use Rattle.ledger.specs.declared.order.Side.{Side}
 use Rattle.limits.specs.Lines.{is_set}

@@ -1,5 +1,6 @@
 -- The cells of one account, of those of all.
-use Rattle.integers.specs.Basics.{ℕ, ◌+◌, ◌*◌, ◌≤◌, ◌<◌, ◌≡◌, ◌∙◌, ap, List, pos, length, get_or, drop, arith}
+use Rattle.std.specs.Prelude.{◌+◌, ◌*◌, ◌≤◌, ◌<◌, ◌≡◌}
+use Rattle.integers.specs.Basics.{ℕ, ◌∙◌, ap, List, pos, length, get_or, drop, arith}
 use lib.ListN.{length-take, length-drop}
 use lib.Seq.{get_or-take, get_or-drop}
 use Rattle.ledger.specs.declared.order.Order.{Order}

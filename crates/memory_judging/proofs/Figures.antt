@@ -1,5 +1,6 @@
 -- Tests of a signed figure by its size, as the code makes them.
-use Rattle.integers.specs.Basics.{ℕ, ◌≡◌, refl, ◌∙◌, ap, Bool, true, false, ◌&&◌, ℤ, pos, negsuc, neg_ℤ, nat_abs, ◌-ℤ◌, le_z, lt_z, mag}
+use Rattle.std.specs.Prelude.{◌≡◌, ◌&&◌, ◌-ℤ◌}
+use Rattle.integers.specs.Basics.{ℕ, refl, ◌∙◌, ap, Bool, true, false, ℤ, pos, negsuc, neg_ℤ, nat_abs, le_z, lt_z, mag}
 use Rattle.integers.specs.Basics.{leb, ltb, le-leb, lt-leb, lt-ltb, le-ltb, signed, magnitude_parts, negation_parts, difference_parts}
 use Rattle.book.specs.Table.{between_ℤ, is_limit}
 use Rattle.memory_soundness.proofs.Asked.{same_test}

@@ -1,5 +1,6 @@
 -- Figures handed on: what a test said of one or of two, and that a quantity is a whole number.
-use Rattle.integers.specs.Basics.{◌≡◌, ◌∙◌, ap, Bool, true, ℤ, pos, nat_abs, non_neg, T, w64, Fits, SFits, to_z, of_z, to_z-of_z, signed}
+use Rattle.std.specs.Prelude.{◌≡◌}
+use Rattle.integers.specs.Basics.{◌∙◌, ap, Bool, true, ℤ, pos, nat_abs, non_neg, T, w64, Fits, SFits, to_z, of_z, to_z-of_z, signed}
 use Rattle.integers.specs.Basics.{magnitude_parts}
 use Rattle.book.specs.Table.{is_quantity}
 use Rattle.book.proofs.Tables.{between_ℤ_both}
@@ -18,7 +19,8 @@ whole_quantity n e =
     omega (signed, magnitude_parts n)
 
 -- so that it fits
-pub quantity_cast : (n : ℤ) → SFits w64 n → is_quantity n ≡ true → T (non_neg (to_z w64 (of_z w64 n))) × Fits w64 (nat_abs (to_z w64 (of_z w64 n)))
+pub quantity_cast : (n : ℤ) → SFits w64 n → is_quantity n ≡ true
+    → T (non_neg (to_z w64 (of_z w64 n))) × Fits w64 (nat_abs (to_z w64 (of_z w64 n)))
 quantity_cast n f e =
     let h = between_ℤ_both (pos 1) (pos 1000000) n e in
     rw (to_z-of_z w64 n f) (omega signed, omega (signed, magnitude_parts n))

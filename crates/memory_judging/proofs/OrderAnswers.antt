@@ -1,5 +1,6 @@
 -- Questions 19 to 24 at a sound desk, as the functions below answer them.
-use Rattle.integers.specs.Basics.{ℕ, ◌≡◌, ◌∙◌, sym, ap, ◌≢◌, true, List, ℤ, pos, nat_abs, length, arith}
+use Rattle.std.specs.Prelude.{◌≡◌, ◌≢◌}
+use Rattle.integers.specs.Basics.{ℕ, ◌∙◌, sym, ap, true, List, ℤ, pos, nat_abs, length, arith}
 use Rattle.ledger.specs.declared.order.Order.{Order}
 use Rattle.ledger.specs.Roster.{Numbered, group_of_instrument}
 use Rattle.ledger.specs.Records.{balances_in, roster_in}

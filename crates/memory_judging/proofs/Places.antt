@@ -1,5 +1,6 @@
 -- The order that an id names: where the search finds it in the memory, and how the book finds it.
-use Rattle.integers.specs.Basics.{ℕ, ◌+◌, ◌-◌, ◌≤◌, ◌<◌, ◌≡◌, refl, by_cases, Bool, true, false, cond, List, [], ◌∷◌, none, some, eqb}
+use Rattle.std.specs.Prelude.{◌+◌, ◌-◌, ◌≤◌, ◌<◌, ◌≡◌, ◌∷◌}
+use Rattle.integers.specs.Basics.{ℕ, refl, by_cases, Bool, true, false, cond, List, [], none, some, eqb}
 use Rattle.integers.specs.Basics.{ℕ_discrete, arith, eq-eqb, ne_eqb}
 use Rattle.ledger.specs.declared.order.Order.{Order}
 use Rattle.ledger.specs.declared.find.Found.TheVariants.{At, Nothing}

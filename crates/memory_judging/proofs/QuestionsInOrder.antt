@@ -1,5 +1,6 @@
 -- Two lists of questions in turn: the second is asked where the first is answered by an acceptance.
-use Rattle.integers.specs.Basics.{ℕ, ◌≡◌, ◌∙◌, sym, true, List, ◌++◌, arith}
+use Rattle.std.specs.Prelude.{◌≡◌, ◌++◌}
+use Rattle.integers.specs.Basics.{ℕ, ◌∙◌, sym, true, List, arith}
 use Rattle.ledger.specs.declared.order.Order.{Order}
 use Rattle.limits.specs.Questions.{Question, first_no, all_pass}
 use Rattle.limits.specs.Asked.{limits_set}

@@ -1,5 +1,6 @@
 -- The order that a NEW enters or a REPLACE makes of an open one: that it is on the roster, and what 14 to 24 ask of it.
-use Rattle.integers.specs.Basics.{ℕ, ◌-◌, ◌≤◌, ◌<◌, ◌≡◌, refl, sym, ap, List, ◌∷◌, ◌++◌, some, pos, arith, lt-ltb, le-ltb}
+use Rattle.std.specs.Prelude.{◌-◌, ◌≤◌, ◌<◌, ◌≡◌, ◌∷◌, ◌++◌}
+use Rattle.integers.specs.Basics.{ℕ, refl, sym, ap, List, some, pos, arith, lt-ltb, le-ltb}
 use Rattle.ledger.specs.declared.order.Order.{Order}
 use Rattle.ledger.specs.Orders.{remaining, replaced_total}
 use Rattle.ledger.specs.Records.{Storable}

@@ -1,5 +1,6 @@
 -- What a verdict says: the answer's number is the table's first no, and an accepted event names the order that it hands on.
-use Rattle.integers.specs.Basics.{ℕ, ◌≤◌, ◌≡◌, ◌∙◌, sym, ap, subst, List, arith}
+use Rattle.std.specs.Prelude.{◌≤◌, ◌≡◌}
+use Rattle.integers.specs.Basics.{ℕ, ◌∙◌, sym, ap, subst, List, arith}
 use Rattle.limits.specs.declared.answer.Answer.{Answer}
 use Rattle.book.specs.declared.Event.{Event}
 use Rattle.limits.specs.Answers.{number_of}
@@ -10,8 +11,8 @@ abbrev pub Says : List ℕ → Event → Verdict → Type 0
 Says m e v = (number_of v.answer ≡ judged m e) × (judged m e ≡ 0 → NamedAt m e v.place v.detail.0)
 
 -- of a refusal the place says nothing
-pub refused : {P : Type 0} {b : Answer} (a : Answer) {n : ℕ} → b ≡ a → n ≡ number_of a → 1 ≤ number_of a → (number_of b ≡ n) × (n ≡ 0 → P)
-refused a {n} e f h = (ap number_of e ∙ sym f, λ z. absurd (omega arith))
+pub refused : (m : List ℕ) (e : Event) (v : Verdict) (a : Answer) → v.answer ≡ a → judged m e ≡ number_of a → 1 ≤ number_of a → Says m e v
+refused m e v a is n h = (ap number_of is ∙ sym n, λ z. absurd (omega arith))
 
 -- the event that was told apart
 module _ (m : List ℕ) (e f : Event) (same : e ≡ f) (v : Verdict) where

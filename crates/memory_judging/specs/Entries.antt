@@ -1,5 +1,6 @@
 -- An order as a NEW enters it, or as a REPLACE makes it of an open one.
-use Rattle.integers.specs.Basics.{ℕ, ◌≤◌, ◌<◌, ◌≡◌, true, List, some, pos}
+use Rattle.std.specs.Prelude.{◌≤◌, ◌<◌, ◌≡◌}
+use Rattle.integers.specs.Basics.{ℕ, true, List, some, pos}
 use Rattle.ledger.specs.declared.order.Order.{Order}
 use Rattle.ledger.specs.Orders.{replaced_total}
 use Rattle.book.specs.declared.OrderChange.{OrderChange}

@@ -1,5 +1,6 @@
 -- What the functions between the questions and the memory take and give: an order's contract and group, and the cells of its account.
-use Rattle.integers.specs.Basics.{ℕ, ◌*◌, ◌≡◌, List, take, drop}
+use Rattle.std.specs.Prelude.{◌*◌, ◌≡◌}
+use Rattle.integers.specs.Basics.{ℕ, List, take, drop}
 use Rattle.ledger.specs.declared.order.Order.{Order}
 use Rattle.ledger.specs.Roster.{Numbered, group_of_instrument}
 use Rattle.memory_layout.specs.View.{roster_of}

@@ -1,5 +1,6 @@
 -- Questions 14 to 17 and 19 to 24 of an order that a NEW enters or a REPLACE raises, asked of a desk's memory.
-use Rattle.integers.specs.Basics.{ℕ, ◌≤◌, ◌≡◌, true, List, ◌++◌, some}
+use Rattle.std.specs.Prelude.{◌≤◌, ◌≡◌, ◌++◌}
+use Rattle.integers.specs.Basics.{ℕ, true, List, some}
 use Rattle.ledger.specs.declared.order.Order.{Order}
 use Rattle.ledger.specs.Roster.{Numbered}
 use Rattle.limits.specs.Questions.{Question, first_no}

@@ -1,5 +1,6 @@
 -- The questions that are left of an event: the table's own, behind one whose number is given.
-use Rattle.integers.specs.Basics.{ℕ, List, ◌++◌}
+use Rattle.std.specs.Prelude.{◌++◌}
+use Rattle.integers.specs.Basics.{ℕ, List}
 use Rattle.limits.specs.Questions.{Question, behind}
 use Rattle.book.specs.declared.Event.{Event}
 use Rattle.book.specs.Table.{questions_before, limit_questions}

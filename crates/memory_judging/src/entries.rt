@@ -27,7 +27,7 @@ use memory_layout::roster::{account_known, instrument_known};
 use memory_layout::search::{id_at, place};
 
 // How an order comes to be as it is: a NEW's joins the open orders at a place; a REPLACE's is open, with a total that stood before.
-#[derive(Drop)]
+#[derive(Clone, Copy)]
 pub enum Entry {
     Joins { place: usize },
     Replaces { former: u64 },

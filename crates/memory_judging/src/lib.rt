@@ -1,4 +1,6 @@
 // The judge: questions 6 to 24 of an event, asked of a sound desk's memory, which it reads and never writes.
+#![tactic(auto)]
+
 pub mod changes;
 pub mod entries;
 pub mod known;
@@ -22,7 +24,7 @@ use limits::answer::Answer;
 
 // An answer and, where a NEW is accepted, the detail of the order that it enters and the place where it joins; where another event that
 // names an open order is accepted, that order's detail as it stands, and its place.
-#[derive(Drop)]
+#[derive(Clone, Copy)]
 pub struct Verdict {
     pub answer: Answer,
     pub place: usize,

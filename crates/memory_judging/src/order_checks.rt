@@ -28,7 +28,7 @@ use memory_layout::roster::{contract_of, group_of, roster};
 use positions::gather;
 
 // The contract and the group of an order's instrument, looked up once for an event.
-#[derive(Drop)]
+#[derive(Clone, Copy)]
 pub struct Underlying {
     pub contract: usize,
     pub group: usize,

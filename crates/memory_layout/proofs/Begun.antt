@@ -1,5 +1,6 @@
 -- The memory of a desk that has just begun: its roster is the one written, the view is that of the beginning, and nothing else changed.
-use Rattle.integers.specs.Basics.{ℕ, ◌+◌, ◌^◌, ◌≤◌, ◌<◌, ◌≡◌, ◌∙◌, List, [], ◌∷◌, ℤ, length, get_or, w64, SFits, arith}
+use Rattle.std.specs.Prelude.{◌+◌, ◌^◌, ◌≤◌, ◌<◌, ◌≡◌, ◌∷◌}
+use Rattle.integers.specs.Basics.{ℕ, ◌∙◌, List, [], ℤ, length, get_or, w64, SFits, arith}
 use Rattle.integers.specs.TwosComplement.{bits_of}
 use Rattle.words.specs.Bytes.{Bytes}
 use Rattle.words.specs.Words.{word_at, put_word, put_signed}

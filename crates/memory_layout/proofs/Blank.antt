@@ -1,5 +1,6 @@
 -- A memory whose words behind the roster are 0 is a desk that has just begun.
-use Rattle.integers.specs.Basics.{ℕ, ◌+◌, ◌*◌, ◌≤◌, ◌<◌, ◌≡◌, refl, ◌∙◌, ap, fun_ext, Bool, true, false, not, ◌&&◌, cond, List, [], none}
+use Rattle.std.specs.Prelude.{◌+◌, ◌*◌, ◌≤◌, ◌<◌, ◌≡◌, ◌&&◌}
+use Rattle.integers.specs.Basics.{ℕ, refl, ◌∙◌, ap, fun_ext, Bool, true, false, not, cond, List, [], none}
 use Rattle.integers.specs.Basics.{some, pos, arith, eq-eqb}
 use Rattle.integers.specs.TwosComplement.{signed_of, signed_small}
 use Rattle.words.specs.Words.{word_at, signed_at}
@@ -46,7 +47,8 @@ module _ (m : List ℕ) (sized : Sized (roster_of m)) (zero : (k : ℕ) → 112 
       fun_ext
       (λ a. same_lines _ _ _ _ _ _
       (fun_ext (λ i. unset (roster_of m).instruments a i (own_set_row a + i) (line_at m (own_row a + i * 2)) (λ on_a on_i. omega arith)))
-      (fun_ext (λ c. unset (roster_of m).contracts a c (default_set_row a + c) (line_at m (default_row a + c * 2)) (λ on_a on_c. omega arith)))
+      (fun_ext (λ c. unset (roster_of m).contracts a c (default_set_row a + c) (line_at m (default_row a + c * 2))
+      (λ on_a on_c. omega arith)))
       (fun_ext (λ g. unset (roster_of m).groups a g (group_set_row a + g) (group_line_at m (group_row a + g)) (λ on_a on_g. omega arith))))
 
   blocks_blank : blocks_of m ≡ empty_book.blocks

@@ -1,5 +1,6 @@
 -- A test of every number from 1 to n, number by number.
-use Rattle.integers.specs.Basics.{ℕ, zero, suc, ◌+◌, ◌≤◌, ◌<◌, ◌≡◌, refl, ◌∙◌, sym, by_cases, Bool, true, false, not, ◌&&◌, ℕ_discrete}
+use Rattle.std.specs.Prelude.{◌+◌, ◌≤◌, ◌<◌, ◌≡◌, ◌&&◌}
+use Rattle.integers.specs.Basics.{ℕ, zero, suc, refl, ◌∙◌, sym, by_cases, Bool, true, false, not, ℕ_discrete}
 use Rattle.integers.specs.Basics.{arith, not-true, not-false}
 use native.Mathlib.Numerals.{add-one}
 use Rattle.ledger.specs.Roster.{Numbered}

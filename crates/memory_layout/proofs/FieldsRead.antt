@@ -1,5 +1,6 @@
 -- The words that the readers of single fields read are the view's fields, where account and number are on the roster.
-use Rattle.integers.specs.Basics.{ℕ, ◌+◌, ◌≤◌, ◌<◌, ◌≡◌, ◌∙◌, sym, true, false, List, pos, length, arith, leb-true}
+use Rattle.std.specs.Prelude.{◌+◌, ◌≤◌, ◌<◌, ◌≡◌}
+use Rattle.integers.specs.Basics.{ℕ, ◌∙◌, sym, true, false, List, pos, length, arith, leb-true}
 use Rattle.words.specs.Words.{signed_at, part_of}
 use Rattle.words.proofs.Parts.{length_part, word_part}
 use Rattle.ledger.specs.Roster.{Numbered}

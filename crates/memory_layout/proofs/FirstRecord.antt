@@ -1,5 +1,6 @@
 -- Where the first record stands when an order joins or leaves: which side moves, and that it stays inside the region.
-use Rattle.integers.specs.Basics.{ℕ, ◌+◌, ◌*◌, ◌-◌, ◌≤◌, ◌<◌, ◌≡◌, ◌⊎◌, inl, inr, Bool, true, false, ◌&&◌, cond, List, ltb, eqb}
+use Rattle.std.specs.Prelude.{◌+◌, ◌*◌, ◌-◌, ◌≤◌, ◌<◌, ◌≡◌, ◌⊎◌, ◌&&◌}
+use Rattle.integers.specs.Basics.{ℕ, inl, inr, Bool, true, false, cond, List, ltb, eqb}
 use Rattle.integers.specs.Basics.{arith, ltb-true, lt-ltb, le-ltb}
 use Rattle.words.specs.Words.{word_at}
 use Rattle.limits.proofs.Answers.{both_true}

@@ -1,5 +1,6 @@
 -- Tables by account and number that say nothing of what is not on the roster, and the records of the view.
-use Rattle.integers.specs.Basics.{ℕ, ◌≡◌, refl, ◌∙◌, ap, fun_ext, Bool, true, false, ◌&&◌, cond, List, Option, ℤ}
+use Rattle.std.specs.Prelude.{◌≡◌, ◌&&◌}
+use Rattle.integers.specs.Basics.{ℕ, refl, ◌∙◌, ap, fun_ext, Bool, true, false, cond, List, Option, ℤ}
 use Rattle.ledger.specs.declared.order.Order.{Order}
 use Rattle.ledger.specs.Roster.{Roster, Numbered}
 use Rattle.ledger.proofs.Ways.{by_number}
@@ -15,7 +16,8 @@ use Rattle.memory_layout.proofs.RosterLaws.{by_test, same_where, numbered_betwee
 
 -- the view's records, field by field
 pub same_lines : (o o' d d' : ℕ → Option Line) (g g' : ℕ → Option GroupLine) → o ≡ o' → d ≡ d' → g ≡ g'
-    → ◌≡◌ {A = Lines} (record { own_of = o; default_of = d; line_of_group = g }) (record { own_of = o'; default_of = d'; line_of_group = g' })
+    → ◌≡◌ {A = Lines} (record { own_of = o; default_of = d; line_of_group = g })
+    (record { own_of = o'; default_of = d'; line_of_group = g' })
 same_lines o o' d d' g g' x y z = cc
 
 pub same_blocks : (a a' i i' : ℕ → Bool) (g g' : ℕ → ℕ → Bool) → a ≡ a' → i ≡ i' → g ≡ g'

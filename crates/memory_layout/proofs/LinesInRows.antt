@@ -1,5 +1,6 @@
 -- The lines of an account, as the rows of its lines and set words hold them: what the readers of lines give.
-use Rattle.integers.specs.Basics.{ℕ, ◌+◌, ◌*◌, ◌-◌, ◌≤◌, ◌<◌, ◌≡◌, ◌∙◌, sym, ap, not, cond, List, none, some, eqb, length, arith}
+use Rattle.std.specs.Prelude.{◌+◌, ◌*◌, ◌-◌, ◌≤◌, ◌<◌, ◌≡◌}
+use Rattle.integers.specs.Basics.{ℕ, ◌∙◌, sym, ap, not, cond, List, none, some, eqb, length, arith}
 use native.Mathlib.Nat.{add_assoc}
 use Rattle.words.specs.Words.{word_at, part_of}
 use Rattle.words.proofs.Parts.{length_part, word_part}
@@ -50,7 +51,8 @@ module _ (m : List ℕ) (readable : Readable m) (a : ℕ) (on : Numbered (roster
   unfolding lines_of lines_in
   own_in_row i l =
       on_here (roster_of m).accounts (roster_of m).instruments a i _ none on l
-      ∙ by_word (word_at m (own_set_row a + i)) (word_at (part_of m (own_set_row a) 33) i) (own_figures m a i) (line_at (own_lines m a) (i * 2))
+      ∙ by_word (word_at m (own_set_row a + i)) (word_at (part_of m (own_set_row a) 33) i) (own_figures m a i)
+      (line_at (own_lines m a) (i * 2))
       (sym (word_part m (own_set_row a) 33 i (omega (arith, readable.instruments)))) (sym (own_figures_lem i l))
 
   default_in_row : (c : ℕ) → Numbered (roster_of m).contracts c → (lines_of m a).default_of c ≡ (rows_of m a).default_of c
@@ -70,7 +72,8 @@ module _ (m : List ℕ) (readable : Readable m) (a : ℕ) (on : Numbered (roster
       (sym (group_figures_lem g l))
 
   -- ---- whether a line is set
-  pub own_set_lem : (i : ℕ) → Numbered (roster_of m).instruments i → is_set ((lines_of m a).own_of i) ≡ says_set (word_at m (own_set_row a + i))
+  pub own_set_lem : (i : ℕ) → Numbered (roster_of m).instruments i
+      → is_set ((lines_of m a).own_of i) ≡ says_set (word_at m (own_set_row a + i))
   unfolding lines_in
   own_set_lem i l =
       ap is_set (own_in_row i l)
@@ -85,7 +88,8 @@ module _ (m : List ℕ) (readable : Readable m) (a : ℕ) (on : Numbered (roster
       ∙ set_by_word (word_at (part_of m (default_set_row a) 9) c) (line_at (default_lines m a) (c * 2))
       ∙ ap says_set (word_part m (default_set_row a) 9 c (omega (arith, readable.contracts)))
 
-  pub group_set_lem : (g : ℕ) → Numbered (roster_of m).groups g → is_set ((lines_of m a).line_of_group g) ≡ says_set (word_at m (group_set_row a + g))
+  pub group_set_lem : (g : ℕ) → Numbered (roster_of m).groups g
+      → is_set ((lines_of m a).line_of_group g) ≡ says_set (word_at m (group_set_row a + g))
   unfolding lines_in
   group_set_lem g l =
       ap is_set (group_in_row g l)

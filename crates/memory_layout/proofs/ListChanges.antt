@@ -1,5 +1,6 @@
 -- An order joins, leaves or becomes another: with the records on one side of it moved, the memory is `store_from` of the book's list.
-use Rattle.integers.specs.Basics.{ℕ, ◌+◌, ◌*◌, ◌-◌, ◌≤◌, ◌<◌, ◌≡◌, ◌∙◌, sym, ap, ◌⊎◌, ◌≢◌, true, false, cond, List, [], ◌∷◌, ◌++◌, ltb, eqb}
+use Rattle.std.specs.Prelude.{◌+◌, ◌*◌, ◌-◌, ◌≤◌, ◌<◌, ◌≡◌, ◌⊎◌, ◌≢◌, ◌∷◌, ◌++◌}
+use Rattle.integers.specs.Basics.{ℕ, ◌∙◌, sym, ap, true, false, cond, List, [], ltb, eqb}
 use Rattle.integers.specs.Basics.{length, set, length-set, arith, ltb-true, eq-eqb, ne_eqb}
 use mathlib.Core.List.{append_assoc}
 use lib.ListN.{length-append}
@@ -117,7 +118,8 @@ module _ (m : List ℕ) (bytes : Bytes m) (records : Records m) where
           )
 
   pub joined_by : (o : Order) (n p f : ℕ) (room put marked after : List ℕ) → n ≡ count → p ≡ rank o.id (open_orders m)
-      → RoomFor m room f p → put ≡ put_order room (f + p) o → marked ≡ put_word put first_word f → after ≡ put_word marked count_word (n + 1)
+      → RoomFor m room f p → put ≡ put_order room (f + p) o → marked ≡ put_word put first_word f
+      → after ≡ put_word marked count_word (n + 1)
       → after ≡ store_from m f (insert o (open_orders m))
   unfolding store_from
   joined_by o n p f room put marked after en ep er eo ef ea =
@@ -131,7 +133,8 @@ module _ (m : List ℕ) (bytes : Bytes m) (records : Records m) where
 
     module _ (l : List ℕ) where
       -- the records before its place moved up
-      gap_before : first < 256 → l ≡ put_orders m (first + 1) (records_in m first p) → l ≡ put_orders m (first + 1) (without p (open_orders m))
+      gap_before : first < 256 → l ≡ put_orders m (first + 1) (records_in m first p)
+          → l ≡ put_orders m (first + 1) (without p (open_orders m))
       gap_before room moved =
           moved
           ∙ sym (last_stands m bytes (records_in m first p) (first + 1) (first + p + 1) (count - (p + 1))
@@ -167,7 +170,8 @@ module _ (m : List ℕ) (bytes : Bytes m) (records : Records m) where
             (sym (side_behind (first + 1) first (p * 2) count (ltb first 256) (rw (ef, en) at far)), gap_behind (rw (ef, en) at moved))
 
     pub left_by : (n f : ℕ) (closed marked after : List ℕ) → n ≡ count → closed ≡ put_orders m f (without p (open_orders m))
-        → marked ≡ put_word closed first_word f → after ≡ put_word marked count_word (n - 1) → after ≡ store_from m f (without p (open_orders m))
+        → marked ≡ put_word closed first_word f → after ≡ put_word marked count_word (n - 1)
+        → after ≡ store_from m f (without p (open_orders m))
     unfolding store_from
     left_by n f closed marked after en ec ef ea =
         let long : length (without p (open_orders m)) ≡ n - 1 = length_without p (open_orders m) (omega (arith, length_open m))

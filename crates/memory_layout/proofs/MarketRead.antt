@@ -1,5 +1,6 @@
 -- The market of a memory: which word says it, and what is known of it.
-use Rattle.integers.specs.Basics.{◌≢◌, ℕ, ◌≤◌, ◌≡◌, ap, List}
+use Rattle.std.specs.Prelude.{◌≢◌, ◌≤◌, ◌≡◌}
+use Rattle.integers.specs.Basics.{ℕ, ap, List}
 use Rattle.words.specs.Words.{word_at}
 use Rattle.ledger.specs.Derivatives.{one}
 use Rattle.book.specs.Market.{derivatives, market_of_kind}

@@ -1,6 +1,7 @@
 -- A record of the order region: what it says, what a store there changes, and what it leaves. The open orders are those in the records from
 -- the first in use on.
-use Rattle.integers.specs.Basics.{ℕ, zero, suc, ◌+◌, ◌*◌, ◌≤◌, ◌<◌, ◌≡◌, refl, ◌∙◌, sym, ap, List, length, get_or, arith}
+use Rattle.std.specs.Prelude.{◌+◌, ◌*◌, ◌≤◌, ◌<◌, ◌≡◌}
+use Rattle.integers.specs.Basics.{ℕ, zero, suc, refl, ◌∙◌, sym, ap, List, length, get_or, arith}
 use Rattle.words.specs.Bytes.{Bytes}
 use Rattle.words.specs.Words.{AreWords, word_at, words_at, put_words, part_of}
 use Rattle.words.proofs.Memory.{word_below}
@@ -16,7 +17,8 @@ use Rattle.memory_layout.specs.Stores.{order_in, orders_in, record_word, record_
 
 -- ---- the words of a record
 -- record p of a part of n words from word k on
-part_words : (m : List ℕ) (k n p : ℕ) → p * 2 + 1 < n → order_at (part_of m k n) p ≡ order_of (word_at m (k + p * 2)) (word_at m (k + p * 2 + 1))
+part_words : (m : List ℕ) (k n p : ℕ) → p * 2 + 1 < n → order_at (part_of m k n) p
+    ≡ order_of (word_at m (k + p * 2)) (word_at m (k + p * 2 + 1))
 part_words m k n p h =
     let e : k + (p * 2 + 1) ≡ k + p * 2 + 1 = omega arith in
     order_of_lem (part_of m k n) p ∙ rw (word_part m k n (p * 2) (omega arith), word_part m k n (p * 2 + 1) h, e)
@@ -32,7 +34,8 @@ same_record l m p h same =
     order_words l p h
     ∙ rw (same k (omega arith) (omega arith), same (k + 1) (omega arith) (omega arith)) (sym (order_words m p h))
 
-pub same_records : (l m : List ℕ) (n p : ℕ) → p + n ≤ 512 → ((j : ℕ) → record_word p ≤ j → j < record_word (p + n) → word_at l j ≡ word_at m j)
+pub same_records : (l m : List ℕ) (n p : ℕ) → p + n ≤ 512 → ((j : ℕ) → record_word p ≤ j → j < record_word (p + n)
+    → word_at l j ≡ word_at m j)
     → records_in l p n ≡ records_in m p n
 unfolding orders_from
 same_records l m zero p h same = refl
@@ -71,7 +74,8 @@ module _ (m : List ℕ) (p : ℕ) (o : Order) where
       let k : ℕ = record_word p in
       let word : (j : ℕ) → j < 2 → word_at (put_words m k (fields o)) (k + j) ≡ get_or (fields o) j 0 =
       λ j g. word_puts_same m k (fields o) j (omega arith) (small_fields small) g in
-      let first : word_at (put_words m k (fields o)) k ≡ o.id = ap (word_at (put_words m k (fields o))) (omega arith) ∙ word 0 (omega arith) in
+      let first : word_at (put_words m k (fields o)) k ≡ o.id = ap (word_at (put_words m k (fields o))) (omega arith)
+      ∙ word 0 (omega arith) in
       order_words (put_words m k (fields o)) p h ∙ rw (first, word 1 (omega arith)) (detail_back o small.detail)
 
 -- ---- the words of a record, stored again

@@ -1,5 +1,6 @@
 -- A list of orders in records, cut at a place: with an order that joins there, leaves there, or becomes another there.
-use Rattle.integers.specs.Basics.{ℕ, zero, suc, ◌+◌, ◌-◌, ◌<◌, ◌≡◌, refl, ap, List, ◌∷◌, ◌++◌, ltb, set, arith}
+use Rattle.std.specs.Prelude.{◌+◌, ◌-◌, ◌<◌, ◌≡◌, ◌∷◌, ◌++◌}
+use Rattle.integers.specs.Basics.{ℕ, zero, suc, refl, ap, List, ltb, set, arith}
 use Rattle.ledger.specs.declared.order.Order.{Order}
 use Rattle.ledger.specs.Records.{order_at, orders_from}
 use Rattle.ledger.proofs.Ways.{by_test}

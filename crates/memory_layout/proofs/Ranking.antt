@@ -1,5 +1,6 @@
 -- The search by id among records whose ids ascend: what the id in a record says of the records before it and behind it.
-use Rattle.integers.specs.Basics.{ℕ, zero, suc, ◌+◌, ◌*◌, ◌-◌, ◌/◌, ◌≤◌, ◌<◌, ◌≡◌, refl, ◌∙◌, sym, ap, ◌≢◌, by_cases, List, ◌∷◌, ℕ_discrete}
+use Rattle.std.specs.Prelude.{◌+◌, ◌*◌, ◌-◌, ◌/◌, ◌≤◌, ◌<◌, ◌≡◌, ◌≢◌, ◌∷◌}
+use Rattle.integers.specs.Basics.{ℕ, zero, suc, refl, ◌∙◌, sym, ap, by_cases, List, ℕ_discrete}
 use Rattle.integers.specs.Basics.{arith, lt-ltb, le-ltb}
 use native.Mathlib.Decide.{dec_le}
 use Rattle.words.specs.Words.{word_at}

@@ -1,6 +1,7 @@
 -- The table of the layout: each field stands in a region of its own, the three kinds of line in one, the regions follow each
 -- other inside 8,192 words, and no two fields share a word.
-use Rattle.integers.specs.Basics.{ℕ, ◌+◌, ◌*◌, ◌≤◌, ◌<◌, ◌≡◌, ◌≢◌, arith}
+use Rattle.std.specs.Prelude.{◌+◌, ◌*◌, ◌≤◌, ◌<◌, ◌≡◌, ◌≢◌}
+use Rattle.integers.specs.Basics.{ℕ, arith}
 use Rattle.ledger.specs.Roster.{Numbered}
 use Rattle.memory_layout.specs.Layout.{memory_bytes, memory_words, kind_word, roster_word, count_word, first_word, mark_word}
 use Rattle.memory_layout.specs.Layout.{account_block_word, instrument_block_word, group_block_row, balance_row, own_set_row, default_set_row}

@@ -1,5 +1,6 @@
 -- The roster of a memory is what its words say of the numbers on it; entries that are not on it do not count.
-use Rattle.integers.specs.Basics.{ℕ, ◌+◌, ◌≤◌, ◌<◌, ◌≡◌, refl, ◌∙◌, sym, ap, fun_ext, Bool, true, false, cond, List, ℤ, pos, leb, arith}
+use Rattle.std.specs.Prelude.{◌+◌, ◌≤◌, ◌<◌, ◌≡◌}
+use Rattle.integers.specs.Basics.{ℕ, refl, ◌∙◌, sym, ap, fun_ext, Bool, true, false, cond, List, ℤ, pos, leb, arith}
 use Rattle.integers.specs.Basics.{le-leb}
 use Rattle.words.specs.Words.{word_at, signed_at, part_of}
 use Rattle.words.proofs.Parts.{word_part}
@@ -88,7 +89,8 @@ module _ (l m : List ℕ) (sized : Sized (roster_of m)) where
   unfolding signed_at
   roster_same same =
       let read : List ℕ → ℕ → ℕ → ℕ = λ x b k. word_at x (b + k) in
-      roster_of_words l (word_at m 1) (word_at m 2) (word_at m 3) (word_at m 4) (read m 4) (read m 12) (λ k. signed_of 64 (word_at m (44 + k)))
+      roster_of_words l (word_at m 1) (word_at m 2) (word_at m 3) (word_at m 4) (read m 4) (read m 12)
+      (λ k. signed_of 64 (word_at m (44 + k)))
       (same 1 (omega arith) (omega arith)) (same 2 (omega arith) (omega arith)) (same 3 (omega arith) (omega arith))
       (same 4 (omega arith) (omega arith))
       few_contracts few_instruments

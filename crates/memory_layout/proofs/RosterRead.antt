@@ -1,5 +1,6 @@
 -- The part with the roster says what the roster of the view says, of every number on it: so what is read there is the view's.
-use Rattle.integers.specs.Basics.{ℕ, ◌≤◌, ◌<◌, ◌≡◌, refl, false, List, leb, length, arith, le-leb, lt-leb}
+use Rattle.std.specs.Prelude.{◌≤◌, ◌<◌, ◌≡◌}
+use Rattle.integers.specs.Basics.{ℕ, refl, false, List, leb, length, arith, le-leb, lt-leb}
 use Rattle.words.proofs.Parts.{length_part}
 use Rattle.ledger.specs.Roster.{Numbered}
 use Rattle.ledger.specs.Records.{roster_in}
@@ -21,7 +22,8 @@ module _ (m : List ℕ) where
   unfolding roster_of listed
   group_same c h = rw (numbered_between (roster_in (roster_part m)).contracts c h)
 
-  pub contract_same : (i : ℕ) → Numbered (roster_of m).instruments i → (roster_of m).contract_of i ≡ (roster_in (roster_part m)).contract_of i
+  pub contract_same : (i : ℕ) → Numbered (roster_of m).instruments i
+      → (roster_of m).contract_of i ≡ (roster_in (roster_part m)).contract_of i
   unfolding roster_of listed
   contract_same i h = rw (numbered_between (roster_in (roster_part m)).instruments i h)
 

@@ -1,5 +1,6 @@
 -- The words of a written roster, and what a written roster leaves alone.
-use Rattle.integers.specs.Basics.{ℕ, zero, suc, ◌+◌, ◌^◌, ◌≤◌, ◌<◌, ◌≡◌, ◌∙◌, ap, ◌≢◌, cond, List, [], ◌∷◌, ℤ, pos, length, get_or}
+use Rattle.std.specs.Prelude.{◌+◌, ◌^◌, ◌≤◌, ◌<◌, ◌≡◌, ◌≢◌, ◌∷◌}
+use Rattle.integers.specs.Basics.{ℕ, zero, suc, ◌∙◌, ap, cond, List, [], ℤ, pos, length, get_or}
 use Rattle.integers.specs.Basics.{w64, SFits, arith}
 use Rattle.integers.specs.TwosComplement.{bits_of}
 use Rattle.words.specs.Words.{word_at, signed_at, put_word, put_signed, put_words}

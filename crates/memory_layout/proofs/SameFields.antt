@@ -1,5 +1,6 @@
 -- Which words a field of the view is made of: memories with those words in common have the field in common.
-use Rattle.integers.specs.Basics.{ℕ, ◌+◌, ◌*◌, ◌≤◌, ◌<◌, ◌≡◌, refl, ◌∙◌, sym, ap, Bool, false, not, cond, List, Option, none, some, ℤ, pos}
+use Rattle.std.specs.Prelude.{◌+◌, ◌*◌, ◌≤◌, ◌<◌, ◌≡◌}
+use Rattle.integers.specs.Basics.{ℕ, refl, ◌∙◌, sym, ap, Bool, false, not, cond, List, Option, none, some, ℤ, pos}
 use Rattle.integers.specs.Basics.{eqb, length, arith}
 use Rattle.integers.specs.TwosComplement.{signed_of}
 use Rattle.words.specs.Words.{word_at, signed_at}
@@ -92,12 +93,14 @@ module _ (l m : List ℕ) (held : InBounds m) (roster : roster_of l ≡ roster_o
   default_same sets figures =
       let sized = held.sized in
       table_same (roster_of m).accounts (roster_of m).contracts none (default_at m) (default_at l)
-      (λ a c on_a on_c. same_own l m (default_set_row a + c) (default_row a + c * 2) (sets (default_set_row a + c) (omega arith) (omega arith))
+      (λ a c on_a on_c. same_own l m (default_set_row a + c) (default_row a + c * 2)
+      (sets (default_set_row a + c) (omega arith) (omega arith))
       (figures a c on_a on_c))
 
   pub of_group_same : Same 1408 1472 l m → ((a g : ℕ) → Numbered (roster_of m).accounts a → Numbered (roster_of m).groups g
       → word_at l (group_row a + g) ≡ word_at m (group_row a + g))
-      → table_of (roster_of m).accounts (roster_of m).groups none (of_group_at l) ≡ table_of (roster_of m).accounts (roster_of m).groups none
+      → table_of (roster_of m).accounts (roster_of m).groups none (of_group_at l)
+      ≡ table_of (roster_of m).accounts (roster_of m).groups none
       (of_group_at m)
   of_group_same sets figures =
       let sized = held.sized in
@@ -115,7 +118,8 @@ module _ (l m : List ℕ) (held : InBounds m) (roster : roster_of l ≡ roster_o
       (table_of r.accounts r.groups none (of_group_at l)) a) roster
 
   pub account_blocks_same : Same 144 160 l m
-      → row_of (roster_of m).accounts (λ a. flag l (account_block_word a)) ≡ row_of (roster_of m).accounts (λ a. flag m (account_block_word a))
+      → row_of (roster_of m).accounts (λ a. flag l (account_block_word a))
+      ≡ row_of (roster_of m).accounts (λ a. flag m (account_block_word a))
   account_blocks_same same =
       let sized = held.sized in
       row_same (roster_of m).accounts (λ a. flag m (account_block_word a)) (λ a. flag l (account_block_word a))

@@ -1,5 +1,6 @@
 -- Records moved as runs of words, and records stored in two pieces, one of which stands already.
-use Rattle.integers.specs.Basics.{ℕ, zero, suc, ◌+◌, ◌*◌, ◌≤◌, ◌≡◌, refl, ◌∙◌, sym, ap, List, [], ◌∷◌, ◌++◌, length, arith}
+use Rattle.std.specs.Prelude.{◌+◌, ◌*◌, ◌≤◌, ◌≡◌, ◌∷◌, ◌++◌}
+use Rattle.integers.specs.Basics.{ℕ, zero, suc, refl, ◌∙◌, sym, ap, List, [], length, arith}
 use Rattle.words.specs.Bytes.{Bytes}
 use Rattle.words.specs.Words.{words_at, put_words, part_of}
 use Rattle.words.proofs.Runs.{puts_more}
@@ -64,7 +65,8 @@ module _ (m : List ℕ) (bytes : Bytes m) where
       → put_orders m r (xs ++ records_in m q n) ≡ put_orders m r xs
   last_stands xs r q n e h =
       let l : List ℕ = put_orders m r xs in
-      let same : records_in l q n ≡ records_in m q n = same_records l m n q h (λ j low high. word_orders_other xs m r j (λ a b. omega arith))
+      let same : records_in l q n ≡ records_in m q n = same_records l m n q h
+      (λ j low high. word_orders_other xs m r j (λ a b. omega arith))
       in
       puts_both xs (records_in m q n) m r
       ∙ rw (← e, ← same) (stand l (bytes_orders xs m r bytes) n q h)

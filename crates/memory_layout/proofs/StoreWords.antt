@@ -1,5 +1,6 @@
 -- What the stores of single fields change: one word, or a line's figures and the word that says that it is set.
-use Rattle.integers.specs.Basics.{ℕ, zero, suc, ◌+◌, ◌*◌, ◌^◌, ◌≤◌, ◌<◌, ◌≡◌, ◌∙◌, ap, ◌≢◌, Bool, true, false, cond, List, [], ◌∷◌, Option}
+use Rattle.std.specs.Prelude.{◌+◌, ◌*◌, ◌^◌, ◌≤◌, ◌<◌, ◌≡◌, ◌≢◌, ◌∷◌}
+use Rattle.integers.specs.Basics.{ℕ, zero, suc, ◌∙◌, ap, Bool, true, false, cond, List, [], Option}
 use Rattle.integers.specs.Basics.{none, some, ℤ, length, get_or, arith}
 use Rattle.integers.specs.TwosComplement.{bits_of}
 use Rattle.words.specs.Words.{AreWords, word_at, put_word, put_signed, put_words}

@@ -1,6 +1,7 @@
 -- Laws of `store_from`: the view's list is the stored one, and the words outside the count, the first record and the records are as they
 -- were.
-use Rattle.integers.specs.Basics.{ℕ, zero, suc, ◌+◌, ◌≤◌, ◌<◌, ◌≡◌, refl, ◌∙◌, ap, ◌≢◌, List, [], ◌∷◌, length, arith}
+use Rattle.std.specs.Prelude.{◌+◌, ◌≤◌, ◌<◌, ◌≡◌, ◌≢◌, ◌∷◌}
+use Rattle.integers.specs.Basics.{ℕ, zero, suc, refl, ◌∙◌, ap, List, [], length, arith}
 use Rattle.words.specs.Bytes.{Bytes}
 use Rattle.words.specs.Words.{word_at, put_word}
 use Rattle.words.proofs.Memory.{length_put, word_put_same, word_put_other}

@@ -1,5 +1,6 @@
 -- The stores of blocks: each changes that block of the view as the book has it, and nothing else.
-use Rattle.integers.specs.Basics.{ℕ, ◌+◌, ◌≤◌, ◌<◌, ◌≡◌, refl, ◌∙◌, Bool, false, not, List, ℤ, arith}
+use Rattle.std.specs.Prelude.{◌+◌, ◌≤◌, ◌<◌, ◌≡◌}
+use Rattle.integers.specs.Basics.{ℕ, refl, ◌∙◌, Bool, false, not, List, ℤ, arith}
 use Rattle.words.specs.Words.{put_word}
 use Rattle.ledger.specs.Roster.{Numbered}
 use Rattle.limits.specs.Asked.{is_zero}
@@ -71,7 +72,8 @@ module _ (m : List ℕ) (held : InBounds m) (z : ℤ) where
       let sized = held.sized in
       let j : ℕ = account_block_word a in
       block_view m held j (bit on) (omega arith) (omega arith) (Account a) z
-      (row_at (roster_of m).accounts (λ b. flag m (account_block_word b)) (λ b. flag (put_word m j (bit on)) (account_block_word b)) a on on_a
+      (row_at (roster_of m).accounts (λ b. flag m (account_block_word b))
+      (λ b. flag (put_word m j (bit on)) (account_block_word b)) a on on_a
       (flag_bit m j on (omega (arith, held.long)))
       (λ b on_b other. same_flag (put_word m j (bit on)) m (account_block_word b)
       (except_put m j (bit on) (account_block_word b) (λ e. other (omega arith)))))
@@ -86,7 +88,8 @@ module _ (m : List ℕ) (held : InBounds m) (z : ℤ) where
       let j : ℕ = instrument_block_word i in
       block_view m held j (bit on) (omega arith) (omega arith) (Instrument i) z
       (accounts_kept m held j (bit on) (omega arith) (omega arith) (omega arith))
-      (row_at (roster_of m).instruments (λ b. flag m (instrument_block_word b)) (λ b. flag (put_word m j (bit on)) (instrument_block_word b)) i
+      (row_at (roster_of m).instruments (λ b. flag m (instrument_block_word b))
+      (λ b. flag (put_word m j (bit on)) (instrument_block_word b)) i
       on on_i
       (flag_bit m j on (omega (arith, held.long)))
       (λ b on_b other. same_flag (put_word m j (bit on)) m (instrument_block_word b)
@@ -102,7 +105,8 @@ module _ (m : List ℕ) (held : InBounds m) (z : ℤ) where
       block_view m held j (bit on) (omega arith) (omega arith) (GroupFor a g) z
       (accounts_kept m held j (bit on) (omega arith) (omega arith) (omega arith))
       (instruments_kept m held j (bit on) (omega arith) (omega arith) (λ low high. omega arith))
-      (table_at (roster_of m).accounts (roster_of m).groups false (group_block_at m) (group_block_at (put_word m j (bit on))) a g on on_a on_g
+      (table_at (roster_of m).accounts (roster_of m).groups false (group_block_at m)
+      (group_block_at (put_word m j (bit on))) a g on on_a on_g
       (flag_bit m j on (omega (arith, held.long)))
       (λ b k on_b on_k apart. same_flag (put_word m j (bit on)) m (group_block_row b + k)
       (except_put m j (bit on) (group_block_row b + k) (λ e. apart (omega arith) (omega arith)))))

@@ -1,5 +1,6 @@
 -- The stores of lines: each changes that line of the view as the book has it, and nothing else.
-use Rattle.integers.specs.Basics.{ℕ, ◌+◌, ◌*◌, ◌≤◌, ◌<◌, ◌≡◌, ◌≢◌, List, none, ℤ, arith}
+use Rattle.std.specs.Prelude.{◌+◌, ◌*◌, ◌≤◌, ◌<◌, ◌≡◌, ◌≢◌}
+use Rattle.integers.specs.Basics.{ℕ, List, none, ℤ, arith}
 use Rattle.words.specs.Words.{word_at}
 use Rattle.ledger.specs.Roster.{Numbered}
 use Rattle.book.specs.declared.Figures.{Figures}
@@ -12,7 +13,7 @@ use Rattle.memory_layout.specs.Layout.{own_set_row, default_set_row, group_set_r
 use Rattle.memory_layout.specs.View.{roster_of, lines_of, view}
 use Rattle.memory_layout.specs.FieldStores.{store_own, store_default, store_of_group}
 use Rattle.memory_layout.proofs.GuardedTables.{table_at}
-use Rattle.memory_layout.proofs.SameFields.{Same, InBounds, own_at, default_at, of_group_at, same_own, same_of_group, own_same}
+use Rattle.memory_layout.proofs.SameFields.{Same, InBounds, field_own, default_at, of_group_at, same_own, same_of_group, own_same}
 use Rattle.memory_layout.proofs.SameFields.{default_same, of_group_same}
 use Rattle.memory_layout.proofs.StoreWords.{SmallLine, SmallGroupLine, line_elsewhere, line_back, group_line_elsewhere}
 use Rattle.memory_layout.proofs.StoreWords.{group_line_back}
@@ -83,7 +84,7 @@ module _ (m : List ℕ) (held : InBounds m) (a i : ℕ) (f : Figures) (small : S
       let word = own_line.elsewhere in
       lines_view own m held (before own m held own_line) (after own m held own_line) a (Own i f)
       (lines_at m held a own (roster own m held own_line) _ _ _
-      (table_at (roster_of m).accounts (roster_of m).instruments none (own_at m) (own_at own) a i (line_of f) on_a on_i
+      (table_at (roster_of m).accounts (roster_of m).instruments none (field_own m) (field_own own) a i (line_of f) on_a on_i
       (line_back m (own_set_row a + i) (own_row a + i * 2) (line_of f) small (omega (arith, held.long)) (omega (arith, held.long))
       (λ b c. omega arith))
       (λ b k on_b on_k apart. same_own own m (own_set_row b + k) (own_row b + k * 2)
@@ -145,11 +146,13 @@ module _ (m : List ℕ) (held : InBounds m) (a g : ℕ) (x y : ℤ) (small : Sma
   view_of_group =
       let sized = held.sized in
       let word = group_line_lem.elsewhere in
-      lines_view of_group_lem m held (before of_group_lem m held group_line_lem) (after of_group_lem m held group_line_lem) a (OfGroup g x y)
+      lines_view of_group_lem m held (before of_group_lem m held group_line_lem) (after of_group_lem m held group_line_lem) a
+      (OfGroup g x y)
       (lines_at m held a of_group_lem (roster of_group_lem m held group_line_lem) _ _ _
       (own_kept of_group_lem m held group_line_lem (omega arith) (omega arith))
       (default_kept of_group_lem m held group_line_lem (λ b c. omega arith) (λ b c. omega arith))
-      (table_at (roster_of m).accounts (roster_of m).groups none (of_group_at m) (of_group_at of_group_lem) a g (group_line_of x y) on_a on_g
+      (table_at (roster_of m).accounts (roster_of m).groups none (of_group_at m) (of_group_at of_group_lem) a g
+      (group_line_of x y) on_a on_g
       (group_line_back m (group_set_row a + g) (group_row a + g) (group_line_of x y) small (omega (arith, held.long))
       (omega (arith, held.long)) (λ b c. omega arith))
       (λ b k on_b on_k apart. same_of_group of_group_lem m (group_set_row b + k) (group_row b + k)

@@ -1,5 +1,6 @@
 -- Memories that differ in words of the lines only, and the view's lines where those of one account are changed.
-use Rattle.integers.specs.Basics.{ℕ, ◌≡◌, ◌∙◌, ap, fun_ext, cond, List, Option, none, arith}
+use Rattle.std.specs.Prelude.{◌≡◌}
+use Rattle.integers.specs.Basics.{ℕ, ◌∙◌, ap, fun_ext, cond, List, Option, none, arith}
 use Rattle.ledger.proofs.Ways.{by_number}
 use Rattle.limits.specs.Lines.{Line, GroupLine}
 use Rattle.book.specs.declared.LimitLine.{LimitLine}
@@ -13,7 +14,7 @@ use Rattle.memory_layout.specs.View.{roster_of, lines_of, book_of, view}
 use Rattle.memory_layout.proofs.RosterLaws.{roster_same}
 use Rattle.memory_layout.proofs.MarketRead.{market_same}
 use Rattle.memory_layout.proofs.GuardedTables.{table_of, same_lines, same_view}
-use Rattle.memory_layout.proofs.SameFields.{Same, InBounds, own_at, default_at, of_group_at, lines_by, balances_same, blocks_same}
+use Rattle.memory_layout.proofs.SameFields.{Same, InBounds, field_own, default_at, of_group_at, lines_by, balances_same, blocks_same}
 use Rattle.memory_layout.proofs.SameFields.{marks_same, orders_same, lines_are}
 
 -- ---- a memory that differs in words of the lines only
@@ -42,7 +43,7 @@ unchanged a old new same =
 
 module _ (m : List ℕ) (held : InBounds m) (a : ℕ) where
   abbrev pub owns : List ℕ → ℕ → ℕ → Option Line
-  owns l = table_of (roster_of m).accounts (roster_of m).instruments none (own_at l)
+  owns l = table_of (roster_of m).accounts (roster_of m).instruments none (field_own l)
 
   abbrev pub defaults : List ℕ → ℕ → ℕ → Option Line
   defaults l = table_of (roster_of m).accounts (roster_of m).contracts none (default_at l)
@@ -57,7 +58,8 @@ module _ (m : List ℕ) (held : InBounds m) (a : ℕ) where
   lines_at l roster o d g own default of_group =
       lines_are l m held roster
       ∙ fun_ext
-      (λ b. by_number b a (λ t. lines_by (owns l) (defaults l) (of_groups l) b ≡ cond t (record { own_of = o; default_of = d; line_of_group = g })
+      (λ b. by_number b a (λ t. lines_by (owns l) (defaults l) (of_groups l) b
+      ≡ cond t (record { own_of = o; default_of = d; line_of_group = g })
       (lines_of m b))
       (λ same. same_lines _ _ _ _ _ _ (ap (λ t. t b) own ∙ at_here a o (owns m) b same)
       (ap (λ t. t b) default ∙ at_here a d (defaults m) b same) (ap (λ t. t b) of_group ∙ at_here a g (of_groups m) b same))

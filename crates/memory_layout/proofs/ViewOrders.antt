@@ -1,6 +1,7 @@
 -- Stored orders: the view's list is the book's, nothing else of the view changes, and the records can be worked on again. And an order
 -- found by its id, where the book finds it.
-use Rattle.integers.specs.Basics.{ℕ, zero, suc, ◌+◌, ◌≤◌, ◌<◌, ◌≡◌, ◌∙◌, sym, ap, List, [], ◌∷◌, some, eqb, length, set, arith}
+use Rattle.std.specs.Prelude.{◌+◌, ◌≤◌, ◌<◌, ◌≡◌, ◌∷◌}
+use Rattle.integers.specs.Basics.{ℕ, zero, suc, ◌∙◌, sym, ap, List, [], some, eqb, length, set, arith}
 use Rattle.words.specs.Words.{word_at}
 use Rattle.ledger.specs.declared.order.Order.{Order}
 use Rattle.ledger.specs.declared.find.Found.TheVariants.{At}

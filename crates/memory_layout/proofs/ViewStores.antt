@@ -1,5 +1,6 @@
 -- The stores of balances and marks: each changes that field of the view as the book has it, and nothing else.
-use Rattle.integers.specs.Basics.{ℕ, ◌+◌, ◌≤◌, ◌<◌, ◌≡◌, ◌∙◌, ap, true, List, ℤ, pos, w64, SFits, arith}
+use Rattle.std.specs.Prelude.{◌+◌, ◌≤◌, ◌<◌, ◌≡◌}
+use Rattle.integers.specs.Basics.{ℕ, ◌∙◌, ap, true, List, ℤ, pos, w64, SFits, arith}
 use Rattle.words.proofs.TwosComplement.{signed_put_same, signed_put_other}
 use Rattle.ledger.specs.Roster.{Numbered}
 use Rattle.book.specs.declared.Setting.TheVariants.{Balance}

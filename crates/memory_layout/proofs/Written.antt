@@ -1,5 +1,6 @@
 -- Runs of stores: what is cleared, and what is written number by number.
-use Rattle.integers.specs.Basics.{ℕ, zero, suc, ◌+◌, ◌*◌, ◌≤◌, ◌<◌, ◌≡◌, refl, ◌∙◌, sym, ap, ◌≢◌, by_cases, List, length, get_or, ℕ_discrete}
+use Rattle.std.specs.Prelude.{◌+◌, ◌*◌, ◌≤◌, ◌<◌, ◌≡◌, ◌≢◌}
+use Rattle.integers.specs.Basics.{ℕ, zero, suc, refl, ◌∙◌, sym, ap, by_cases, List, length, get_or, ℕ_discrete}
 use Rattle.integers.specs.Basics.{arith}
 use native.Mathlib.Numerals.{add-one}
 use Rattle.words.specs.Bytes.{Bytes}

@@ -1,5 +1,6 @@
 -- Single fields of a desk as they are stored: a balance, a mark, a block, a line.
-use Rattle.integers.specs.Basics.{ℕ, ◌+◌, ◌*◌, Bool, cond, List, [], ◌∷◌, Option, none, some, ℤ}
+use Rattle.std.specs.Prelude.{◌+◌, ◌*◌, ◌∷◌}
+use Rattle.integers.specs.Basics.{ℕ, Bool, cond, List, [], Option, none, some, ℤ}
 use Rattle.words.specs.Words.{put_word, put_signed, halves, put_words}
 use Rattle.limits.specs.Lines.{Line, GroupLine}
 use Rattle.memory_layout.specs.Layout.{mark_word, account_block_word, instrument_block_word, group_block_row, balance_row, own_set_row}

@@ -1,5 +1,6 @@
 -- The table of questions asked of what a memory shows, and the order that an event names, as the judge hands it on.
-use Rattle.integers.specs.Basics.{ℕ, ◌≡◌, List}
+use Rattle.std.specs.Prelude.{◌≡◌}
+use Rattle.integers.specs.Basics.{ℕ, List}
 use Rattle.ledger.specs.declared.find.Found.TheVariants.{At}
 use Rattle.ledger.specs.Orders.{place_from}
 use Rattle.ledger.specs.Records.{order_of}

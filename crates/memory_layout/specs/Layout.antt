@@ -22,7 +22,8 @@
 --   5248..6271    spare
 --   6272..7295    spare: contracts bought and sold                 16 × 32 × 2
 --   7296..7935    spare: margin settings, and whether set          16 × 8 × 5
-use Rattle.integers.specs.Basics.{ℕ, ◌+◌, ◌*◌}
+use Rattle.std.specs.Prelude.{◌+◌, ◌*◌}
+use Rattle.integers.specs.Basics.{ℕ}
 
 -- a desk's memory: so many bytes, so many words
 abbrev pub memory_bytes : ℕ

@@ -1,5 +1,6 @@
 -- A desk's memory as an opening writes it: every word 0 but the kind of desk and the roster.
-use Rattle.integers.specs.Basics.{ℕ, zero, suc, ◌+◌, List, [], ◌∷◌, ℤ}
+use Rattle.std.specs.Prelude.{◌+◌, ◌∷◌}
+use Rattle.integers.specs.Basics.{ℕ, zero, suc, List, [], ℤ}
 use Rattle.words.specs.Fields.{u8_at}
 use Rattle.words.specs.Words.{put_word, put_signed, put_words}
 use Rattle.ledger.specs.Roster.{Roster}

@@ -1,5 +1,6 @@
 -- What the readers of a desk's fields need of the memory, and what the bytes of a line say.
-use Rattle.integers.specs.Basics.{ℕ, ◌≤◌, ◌≡◌, true, List, Option, some, length}
+use Rattle.std.specs.Prelude.{◌≤◌, ◌≡◌}
+use Rattle.integers.specs.Basics.{ℕ, true, List, Option, some, length}
 use Rattle.limits.specs.Lines.{Line, GroupLine, is_set}
 use Rattle.limits.specs.InBytes.{line_at, group_line_at}
 use Rattle.book.specs.declared.market.Market.{Market}

@@ -1,5 +1,6 @@
 -- When a roster is acceptable (questions 2 to 4, its length aside), and when a memory is long enough.
-use Rattle.integers.specs.Basics.{ℕ, zero, suc, Bool, true, ◌&&◌, cond, List, ℤ, pos, nat_abs, leb, length}
+use Rattle.std.specs.Prelude.{◌&&◌}
+use Rattle.integers.specs.Basics.{ℕ, zero, suc, Bool, true, cond, List, ℤ, pos, nat_abs, leb, length}
 use Rattle.ledger.specs.Roster.{Roster}
 use Rattle.book.specs.Decoding.{between}
 use Rattle.memory_layout.specs.Layout.{memory_bytes}

@@ -1,5 +1,6 @@
 -- Order records as they are stored: the one form of a memory whose open orders are a given list.
-use Rattle.integers.specs.Basics.{ℕ, zero, suc, ◌+◌, ◌*◌, ◌-◌, ◌^◌, ◌≤◌, ◌<◌, ◌≡◌, ◌&&◌, cond, List, [], ◌∷◌, ltb, eqb, length}
+use Rattle.std.specs.Prelude.{◌+◌, ◌*◌, ◌-◌, ◌^◌, ◌≤◌, ◌<◌, ◌≡◌, ◌&&◌, ◌∷◌}
+use Rattle.integers.specs.Basics.{ℕ, zero, suc, cond, List, [], ltb, eqb, length}
 use Rattle.words.specs.Words.{word_at, put_word, put_words, part_of}
 use Rattle.ledger.specs.declared.order.Order.{Order}
 use Rattle.ledger.specs.Records.{detail, Storable, order_at, orders_from}

@@ -1,5 +1,6 @@
 -- What a memory means: the state that it holds, its market by the kind of desk.
-use Rattle.integers.specs.Basics.{ℕ, ◌+◌, ◌*◌, Bool, false, not, ◌&&◌, cond, List, none, some, ℤ, pos, eqb}
+use Rattle.std.specs.Prelude.{◌+◌, ◌*◌, ◌&&◌}
+use Rattle.integers.specs.Basics.{ℕ, Bool, false, not, cond, List, none, some, ℤ, pos, eqb}
 use Rattle.words.specs.Words.{word_at, signed_at, part_of}
 use Rattle.ledger.specs.Roster.{Roster}
 use Rattle.ledger.specs.declared.order.Order.{Order}

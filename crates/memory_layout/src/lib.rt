@@ -1,5 +1,7 @@
 // Where a desk stands in its lent memory: the store and the reader of each field, its order records, and the writer of a desk that has
 // just begun. No crate above knows a place.
+#![tactic(auto)]
+
 pub mod opening;
 pub mod orders;
 pub mod readers;

@@ -68,7 +68,7 @@ pub fn block_group(m: &mut [u8], a: usize, g: usize, on: bool)
 }
 
 // The words of a line: the one that says whether it is set, and the first of the two words of its figures.
-#[derive(Drop)]
+#[derive(Clone, Copy)]
 pub struct LineWords(pub usize, pub usize);
 
 // Those of an instrument's own line.

@@ -1,6 +1,7 @@
 -- An entry as the judge of LIMIT and its worker meet it: a line with its limits, or with −1 throughout where it has none, which
 -- is then asked 7 and 8 alone.
-use Rattle.integers.specs.Basics.{ℕ, ◌≡◌, refl, ◌∙◌, sym, ap, subst, Bool, true, false, ◌&&◌, cond, List, [], ◌∷◌, Option, none, some}
+use Rattle.std.specs.Prelude.{◌≡◌, ◌&&◌, ◌∷◌}
+use Rattle.integers.specs.Basics.{ℕ, refl, ◌∙◌, sym, ap, subst, Bool, true, false, cond, List, [], Option, none, some}
 use Rattle.integers.specs.Basics.{eqb}
 use Rattle.integers.specs.Basics.{true≢false, false≢true, eqb-true}
 use Rattle.words.specs.Bytes.{Bytes}
@@ -38,8 +39,8 @@ use Rattle.memory_loading.proofs.Passes.{kept_self, and_true, second_of_zero}
 pub limit_answer : (m : List ℕ) (a : ℕ) (l : LimitLine) (x y z : Bool) → between 1 (roster_of m).accounts a ≡ x
     → is_listed (roster_of m) (limited_item l) ≡ y → line_fits (market_of m).largest l ≡ z
     → judged m (Set (Limit a l)) ≡ first_no (q 7 x ∷ q 8 y ∷ q 9 z ∷ [])
-unfolding judged answer questions_before limit_questions first_no is_event account_known item_known figures_fit not_yet_trading id_open quantity_fits
-    entered id_free place_free
+unfolding judged answer questions_before limit_questions first_no is_event account_known item_known figures_fit not_yet_trading id_open
+    quantity_fits entered id_free place_free
 limit_answer m a l x y z d e f = rw (d, e, f)
 
 -- the line that stands for an entry, and whether it is to be set
@@ -78,7 +79,8 @@ module _ (m : List ℕ) {e : Entry} {l : LimitLine} {sets : Bool} (stands : Stan
   events_worked true s = rw (stands.set s)
   events_worked false s = rw (stands.unset s)
 
-  kept_worked : Bytes m → SoundMemory m → judged m (Set (Limit (entry_account e) l)) ≡ 0 → Kept m (worked m (Set (Limit (entry_account e) l)))
+  kept_worked : Bytes m → SoundMemory m → judged m (Set (Limit (entry_account e) l)) ≡ 0
+      → Kept m (worked m (Set (Limit (entry_account e) l)))
   kept_worked bytes held accepted =
       record {
         sound = sound_worked m bytes held (Set (Limit (entry_account e) l)) tt tt accepted;

@@ -1,5 +1,6 @@
 -- Limits as code hands them on: a figure of at most ten digits is the same number signed, and a line is to be set where limits are there.
-use Rattle.integers.specs.Basics.{ℕ, ◌≤◌, ◌≡◌, refl, Bool, true, false, cond, none, some, pos, w64, to_z, to_z-of_z, arith}
+use Rattle.std.specs.Prelude.{◌≤◌, ◌≡◌}
+use Rattle.integers.specs.Basics.{ℕ, refl, Bool, true, false, cond, none, some, pos, w64, to_z, to_z-of_z, arith}
 use Rattle.limits.specs.Lines.{is_set}
 use Rattle.book.specs.declared.LimitLine.{LimitLine}
 use Rattle.memory_loading.specs.Entries.{Entry}

@@ -1,6 +1,7 @@
 -- The elements that another holds, read one after the other: how far a loop has come, and each of its ways on.
 use Prim.Native.String.{String}
-use Rattle.integers.specs.Basics.{ℕ, suc, ◌+◌, ◌-◌, ◌≤◌, ◌<◌, ◌≡◌, refl, ◌∙◌, sym, ap, subst, Bool, true, false, ◌&&◌, List, [], ◌∷◌, ◌++◌}
+use Rattle.std.specs.Prelude.{◌+◌, ◌-◌, ◌≤◌, ◌<◌, ◌≡◌, ◌&&◌, ◌∷◌, ◌++◌}
+use Rattle.integers.specs.Basics.{ℕ, suc, refl, ◌∙◌, sym, ap, subst, Bool, true, false, List, []}
 use Rattle.integers.specs.Basics.{length, arith}
 use lib.ListN.{length-append}
 use mathlib.Core.List.{append_assoc, append-nil}

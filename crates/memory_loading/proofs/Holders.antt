@@ -1,6 +1,7 @@
 -- The elements that hold others: contract, group, account and request, each with what code enters of its start tag.
 use Prim.Native.String.{String}
-use Rattle.integers.specs.Basics.{ℕ, ◌≡◌, refl, ap, Bool, List, [], ◌∷◌, Option, none, some}
+use Rattle.std.specs.Prelude.{◌≡◌, ◌∷◌}
+use Rattle.integers.specs.Basics.{ℕ, refl, ap, Bool, List, [], Option, none, some}
 use Rattle.grammar.specs.Grammar.{Attribute, Numbers, Element, Values, Value}
 use Rattle.limit_file.specs.declared.Tag.{Tag}
 use Rattle.limit_file.specs.Layout.{two, four, of_request, of_account, of_group, of_contract, instrument, contract, group, account}

@@ -1,5 +1,6 @@
 -- An instrument, which holds no others, by what code is handed of it: it is entered, or there is none.
-use Rattle.integers.specs.Basics.{ℕ, ◌≡◌, refl, ◌∙◌, sym, ap, subst, true, List, [], ◌∷◌}
+use Rattle.std.specs.Prelude.{◌≡◌, ◌∷◌}
+use Rattle.integers.specs.Basics.{ℕ, refl, ◌∙◌, sym, ap, subst, true, List, []}
 use Rattle.grammar.specs.Grammar.{Value}
 use Rattle.grammar.specs.Reader.{Reading, nothing, up_to, element_at}
 use Rattle.limit_file.specs.declared.Tag.{Tag}

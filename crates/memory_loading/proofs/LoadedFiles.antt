@@ -1,5 +1,6 @@
 -- The answer to a whole file by what its request was read as, and the memory with an acceptance.
-use Rattle.integers.specs.Basics.{ℕ, ◌+◌, ◌≤◌, ◌≡◌, refl, ◌∙◌, sym, ap, subst, Bool, true, false, ◌&&◌, cond, List, ◌∷◌, none, some}
+use Rattle.std.specs.Prelude.{◌+◌, ◌≤◌, ◌≡◌, ◌&&◌, ◌∷◌}
+use Rattle.integers.specs.Basics.{ℕ, refl, ◌∙◌, sym, ap, subst, Bool, true, false, cond, List, none, some}
 use Rattle.integers.specs.Basics.{length, arith}
 use Rattle.limits.specs.declared.answer.Answer.TheVariants.{NoFileOfLimits, WrongCountOrPlace}
 use Rattle.limits.specs.Questions.{Question, first_no}
@@ -42,7 +43,8 @@ module _ (s : List ℕ) {m n : List ℕ} where
   module _ {v : Value request} {k : Progress} (is : file_of limit_file s ≡ some v)
       (passed : Passed m (entries v) (counts_right v) beginning n k) where
     by_right : (b : Bool) → k.right ≡ b
-        → first_no (file_questions (view m) (file_of limit_file s)) ≡ cond b (first_no (questions_of (market_of m) (roster_of m) (entries v))) 26
+        → first_no (file_questions (view m) (file_of limit_file s))
+        ≡ cond b (first_no (questions_of (market_of m) (roster_of m) (entries v))) 26
     by_right b e =
         ap (λ x. first_no (file_questions (view m) x)) is
         ∙ asked_26 (counts_right v && all (in_place (roster_of m)) (entries v)) (questions_of (market_of m) (roster_of m) (entries v))
@@ -71,8 +73,8 @@ starts_within s is = subst (λ a. a ≤ length s) (sym is) (at_most (literal_at 
     at_most true h = h refl
     at_most false h = omega arith
 
-pub loaded_no_root : (s : List ℕ) {m : List ℕ} (root : ℕ) → root ≡ root_place limit_file s → literal_at s (root_opens limit_file) root ≡ false
-    → SoundMemory m → Loaded m s m NoFileOfLimits
+pub loaded_no_root : (s : List ℕ) {m : List ℕ} (root : ℕ) → root ≡ root_place limit_file s
+    → literal_at s (root_opens limit_file) root ≡ false → SoundMemory m → Loaded m s m NoFileOfLimits
 loaded_no_root s root place opens sound =
     loaded_none s (no_root limit_file s (subst (λ a. literal_at s (root_opens limit_file) a ≡ false) place opens)) (kept_self sound)
 

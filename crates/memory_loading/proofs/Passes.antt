@@ -1,5 +1,6 @@
 -- Entries passed one after the other: what two parts of a file do is what the whole does.
-use Rattle.integers.specs.Basics.{ℕ, zero, suc, ◌≡◌, refl, ◌∙◌, sym, ap, Bool, true, false, ◌&&◌, List, [], ◌∷◌, ◌++◌, arith}
+use Rattle.std.specs.Prelude.{◌≡◌, ◌&&◌, ◌∷◌, ◌++◌}
+use Rattle.integers.specs.Basics.{ℕ, zero, suc, refl, ◌∙◌, sym, ap, Bool, true, false, List, [], arith}
 use mathlib.Core.List.{append_assoc}
 use Rattle.limits.specs.Answers.{number_of}
 use Rattle.limits.specs.Questions.{Question, first_no}

@@ -1,5 +1,6 @@
 -- After an acceptance the next answer counts; a refusal stays the answer, and nothing is worked after it.
-use Rattle.integers.specs.Basics.{ℕ, zero, suc, ◌≡◌, refl, ◌≢◌, Bool, ◌&&◌, cond, List, eqb, ne_eqb}
+use Rattle.std.specs.Prelude.{◌≡◌, ◌≢◌, ◌&&◌}
+use Rattle.integers.specs.Basics.{ℕ, zero, suc, refl, Bool, cond, List, eqb, ne_eqb}
 use Rattle.limits.specs.declared.answer.Answer.{Answer}
 use Rattle.limits.specs.declared.answer.Answer.TheVariants.{Accepted}
 use Rattle.limits.specs.Answers.{number_of}

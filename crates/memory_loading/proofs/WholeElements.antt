@@ -1,5 +1,6 @@
 -- A whole element by its start tag: its own entries, then those of what it holds, and its count beside their number.
-use Rattle.integers.specs.Basics.{ℕ, suc, ◌≤◌, ◌≡◌, refl, ◌∙◌, sym, ap, subst, Bool, true, false, ◌&&◌, List, [], ◌++◌, eqb, length, arith}
+use Rattle.std.specs.Prelude.{◌≤◌, ◌≡◌, ◌&&◌, ◌++◌}
+use Rattle.integers.specs.Basics.{ℕ, suc, refl, ◌∙◌, sym, ap, subst, Bool, true, false, List, [], eqb, length, arith}
 use Rattle.grammar.specs.Grammar.{Element, holding, Values, Value}
 use Rattle.grammar.specs.Reader.{nothing, up_to, with, tag_at, many_at, closing, element_at}
 use Rattle.grammar.specs.declared.tags.Inside.{Inside}

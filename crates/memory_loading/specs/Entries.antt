@@ -1,6 +1,7 @@
 -- What a file of limits says: an entry for each AcctLmt, EqvIxmLmt, ContrtLmt and IxmLmt, in the order of start tags, and whether the
 -- counts are those of the children.
-use Rattle.integers.specs.Basics.{ℕ, Bool, true, ◌&&◌, List, [], ◌∷◌, ◌++◌, Option, eqb, length}
+use Rattle.std.specs.Prelude.{◌&&◌, ◌∷◌, ◌++◌}
+use Rattle.integers.specs.Basics.{ℕ, Bool, true, List, [], Option, eqb, length}
 use Rattle.grammar.specs.Bytes.{all}
 use Rattle.grammar.specs.Grammar.{Numbers, Value}
 use Rattle.limit_file.specs.Layout.{two, four, instrument, contract, group, account, request}

@@ -1,6 +1,7 @@
 -- The questions of a load, in W1's order: after 5, 25 of the bytes, 26 of the whole file, then 7, 8 and 9 of entry after entry; and the
 -- LIMIT events that it yields, in file order.
-use Rattle.integers.specs.Basics.{ℕ, Bool, true, false, not, ◌&&◌, ◌||◌, List, [], ◌∷◌, ◌++◌, Option, none, some, pos, eqb}
+use Rattle.std.specs.Prelude.{◌&&◌, ◌||◌, ◌∷◌, ◌++◌}
+use Rattle.integers.specs.Basics.{ℕ, Bool, true, false, not, List, [], Option, none, some, pos, eqb}
 use Rattle.ledger.specs.Roster.{Roster}
 use Rattle.limits.specs.Questions.{Question}
 use Rattle.book.specs.declared.Figures.{Figures}

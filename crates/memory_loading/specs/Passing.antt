@@ -1,6 +1,7 @@
 -- What reading a part of a file does at a desk: entries are passed, one after the other, and the memory stays one that can be put back.
 use Prim.Native.String.{String}
-use Rattle.integers.specs.Basics.{ℕ, zero, suc, ◌≤◌, ◌≡◌, Bool, true, ◌&&◌, cond, List, Option, none, some, pos, negsuc, eqb}
+use Rattle.std.specs.Prelude.{◌≤◌, ◌≡◌, ◌&&◌}
+use Rattle.integers.specs.Basics.{ℕ, zero, suc, Bool, true, cond, List, Option, none, some, pos, negsuc, eqb}
 use Rattle.integers.specs.Basics.{length, get_or}
 use Rattle.limits.specs.declared.answer.Answer.{Answer}
 use Rattle.limits.specs.declared.answer.Answer.TheVariants.{Accepted}
@@ -22,7 +23,7 @@ use Rattle.memory_loading.specs.declared.elements.Element.TheVariants as element
 use Rattle.memory_loading.specs.declared.elements.Children.{Children}
 use Rattle.memory_loading.specs.declared.elements.Children.TheVariants as children
 use Rattle.grammar.specs.Bytes.{all}
-use Rattle.memory_loading.specs.Entries.{Entry, entries_of, entries}
+use Rattle.memory_loading.specs.Entries.{Entry, entries_of}
 use Rattle.memory_loading.specs.Loading.{in_place, questions_of, events_of, all_worked, file_questions, file_events}
 
 -- ---- limits as code hands them on

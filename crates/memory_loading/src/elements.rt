@@ -16,14 +16,14 @@ use limit_file::{
 use limits::answer::Answer;
 
 // An element that is read up to a place, with what is found by then; or none.
-#[derive(Drop)]
+#[derive(Clone, Copy)]
 pub enum Element {
     Read { next: usize, progress: Progress },
     Nothing,
 }
 
 // The children of an element, likewise, and how many they are; the place is behind the end tag.
-#[derive(Drop)]
+#[derive(Clone, Copy)]
 pub enum Children {
     Read {
         next: usize,

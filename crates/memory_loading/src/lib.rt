@@ -1,4 +1,6 @@
 // A file of limits loaded to the memory of a sound desk: read once, each entry asked and worked as it is met.
+#![tactic(auto)]
+
 pub mod elements;
 pub mod progress;
 

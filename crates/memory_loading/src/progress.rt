@@ -22,7 +22,7 @@ use memory_layout::roster::{
 use memory_working::settings::work_limit;
 
 // Whether every count and place is right, and the first no to 7, 8 and 9.
-#[derive(Drop)]
+#[derive(Clone, Copy)]
 pub struct Progress {
     pub right: bool,
     pub first: Answer,

@@ -1,5 +1,6 @@
 -- The answers of an opening, way by way, and the memory that each leaves.
-use Rattle.integers.specs.Basics.{ℕ, suc, ◌+◌, ◌*◌, ◌≡◌, ◌∙◌, sym, ap, true, false, List, arith, ne_eqb}
+use Rattle.std.specs.Prelude.{◌+◌, ◌*◌, ◌≡◌}
+use Rattle.integers.specs.Basics.{ℕ, suc, ◌∙◌, sym, ap, true, false, List, arith, ne_eqb}
 use Rattle.words.specs.Fields.{u8_at, u16_at, i32_at}
 use Rattle.limits.specs.Questions.{first_no}
 use Rattle.memory_layout.specs.Layout.{memory_words}
@@ -12,7 +13,8 @@ use Rattle.memory_opening.specs.Opening.{opened, after_opening}
 
 -- ---- the roster, as it is written
 module _ (m s : List ℕ) where
-  pub roster_written : (a g c i : ℕ) (sized grouped named weighed : List ℕ) → a ≡ u16_at s 0 → g ≡ u16_at s 2 → c ≡ u16_at s 4 → i ≡ u16_at s 6
+  pub roster_written : (a g c i : ℕ) (sized grouped named weighed : List ℕ) → a ≡ u16_at s 0 → g ≡ u16_at s 2 → c ≡ u16_at s 4
+      → i ≡ u16_at s 6
       → sized ≡ with_sizes m a g c i → grouped ≡ groups_written (λ k. u8_at s (7 + k)) sized c
       → named ≡ contracts_written (λ k. u8_at s (7 + c + k)) grouped i
       → weighed ≡ weights_written (λ k. i32_at s (4 + c + i + 4 * k)) named i → weighed ≡ with_roster m (roster_from s)

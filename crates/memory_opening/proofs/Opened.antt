@@ -1,5 +1,6 @@
 -- An accepted opening: the roster that it leaves is that of the bytes, the view has just begun, and nothing else changed.
-use Rattle.integers.specs.Basics.{ℕ, ◌+◌, ◌*◌, ◌≤◌, ◌<◌, ◌≡◌, refl, ◌∙◌, sym, List, nat_abs, leb, eqb, length, get_or, arith, leb-true}
+use Rattle.std.specs.Prelude.{◌+◌, ◌*◌, ◌≤◌, ◌<◌, ◌≡◌}
+use Rattle.integers.specs.Basics.{ℕ, refl, ◌∙◌, sym, List, nat_abs, leb, eqb, length, get_or, arith, leb-true}
 use Rattle.integers.specs.Basics.{eqb-true}
 use Rattle.integers.specs.Magnitude.{sized}
 use Rattle.words.specs.Bytes.{Bytes}

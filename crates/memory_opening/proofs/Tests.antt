@@ -1,6 +1,7 @@
 -- What the tests of a roster say.
-use Rattle.integers.specs.Basics.{ℕ, suc, ◌+◌, ◌*◌, ◌≤◌, ◌<◌, ◌≡◌, refl, ◌∙◌, sym, ap, Bool, true, false, ◌&&◌, cond, List, ℤ, pos, negsuc}
-use Rattle.integers.specs.Basics.{nat_abs, ◌≤ℤ◌, ◌<ℤ◌, le_z, leb, eqb, length, w32, SFits, to_z, of_z, to_z-of_z, arith, eqb-true, le-leb}
+use Rattle.std.specs.Prelude.{◌+◌, ◌*◌, ◌≤◌, ◌<◌, ◌≡◌, ◌&&◌, ◌≤ℤ◌, ◌<ℤ◌}
+use Rattle.integers.specs.Basics.{ℕ, suc, refl, ◌∙◌, sym, ap, Bool, true, false, cond, List, ℤ, pos, negsuc}
+use Rattle.integers.specs.Basics.{nat_abs, le_z, leb, eqb, length, w32, SFits, to_z, of_z, to_z-of_z, arith, eqb-true, le-leb}
 use Rattle.integers.specs.Basics.{lt-leb, ne_eqb, signed, magnitude_parts}
 use Rattle.words.specs.Fields.{u8_at, u16_at, i32_at}
 use Rattle.ledger.specs.Roster.{Numbered}

@@ -1,5 +1,6 @@
 -- Document 01, "Roster": what its bytes say, and the questions of an opening, 1 to 4.
-use Rattle.integers.specs.Basics.{ℕ, ◌+◌, ◌*◌, Bool, ◌&&◌, List, [], ◌∷◌, nat_abs, leb, eqb, length}
+use Rattle.std.specs.Prelude.{◌+◌, ◌*◌, ◌&&◌, ◌∷◌}
+use Rattle.integers.specs.Basics.{ℕ, Bool, List, [], nat_abs, leb, eqb, length}
 use Rattle.words.specs.Fields.{u8_at, u16_at, i32_at}
 use Rattle.ledger.specs.Roster.{Roster}
 use Rattle.limits.specs.Questions.{Question, first_no}

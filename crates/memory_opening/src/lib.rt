@@ -1,4 +1,6 @@
 // The opening of a desk from the bytes of a roster.
+#![tactic(auto)]
+
 pub mod questions;
 pub mod writing;
 

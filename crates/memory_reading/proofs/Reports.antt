@@ -1,5 +1,6 @@
 -- What a reader answers and reports.
-use Rattle.integers.specs.Basics.{ℕ, ◌≤◌, ◌≡◌, refl, ◌∙◌, sym, Bool, true, false, List, [], ◌∷◌, ℤ, length, arith, eq-eqb, ne_eqb}
+use Rattle.std.specs.Prelude.{◌≤◌, ◌≡◌, ◌∷◌}
+use Rattle.integers.specs.Basics.{ℕ, refl, ◌∙◌, sym, Bool, true, false, List, [], ℤ, length, arith, eq-eqb, ne_eqb}
 use Rattle.words.specs.Words.{word_at}
 use Rattle.positions.specs.declared.InstrumentPosition.{InstrumentPosition}
 use Rattle.positions.specs.declared.GroupPosition.{GroupPosition}

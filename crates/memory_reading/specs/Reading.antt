@@ -1,5 +1,6 @@
 -- Reading positions: S, PCI and PVI of an account and instrument, or PCC and PVC of an account and group.
-use Rattle.integers.specs.Basics.{ℕ, cond, List, [], ◌∷◌, ℤ, eqb}
+use Rattle.std.specs.Prelude.{◌∷◌}
+use Rattle.integers.specs.Basics.{ℕ, cond, List, [], ℤ, eqb}
 use Rattle.ledger.specs.Positions.{Scope, Way, long, short, instrument, group, potential}
 use Rattle.ledger.specs.Roster.{Numbered}
 use Rattle.limits.specs.Questions.{Question, first_no}

@@ -1,4 +1,6 @@
 // Reading positions from a desk's memory, which changes nothing in it.
+#![tactic(auto)]
+
 ghost use Rattle.std.specs.Prelude.{◌≡◌, ◌≤◌, length};
 ghost use Rattle.ledger.specs.Roster.{Numbered};
 ghost use Rattle.limits.specs.Answers.{number_of};
@@ -17,7 +19,7 @@ use order_list::listed_position;
 use positions::group_position;
 
 // What positions are read of.
-#[derive(Drop)]
+#[derive(Clone, Copy)]
 pub enum Item {
     Instrument(u64),
     Group(u64),

@@ -1,6 +1,7 @@
 -- At a sound desk the roster and an account's balances, as the view shows them and as their words say them, agree on the
 -- instruments of the roster, and so positions by them do.
-use Rattle.integers.specs.Basics.{ℕ, ◌≡◌, ◌∙◌, sym, ap, List}
+use Rattle.std.specs.Prelude.{◌≡◌}
+use Rattle.integers.specs.Basics.{ℕ, ◌∙◌, sym, ap, List}
 use Rattle.ledger.specs.declared.order.Order.{Order}
 use Rattle.ledger.specs.Roster.{Numbered, group_of_instrument}
 use Rattle.ledger.specs.Positions.{Way, Scope, potential}

@@ -1,5 +1,6 @@
 -- Tests as the code asks them, and the facts that they stand for.
-use Rattle.integers.specs.Basics.{ℕ, ◌≤◌, ◌<◌, ◌≡◌, refl, ◌∙◌, sym, Bool, true, false, not, ℤ, pos, negsuc, nat_abs, le_z, lt_z, leb, arith}
+use Rattle.std.specs.Prelude.{◌≤◌, ◌<◌, ◌≡◌}
+use Rattle.integers.specs.Basics.{ℕ, refl, ◌∙◌, sym, Bool, true, false, not, ℤ, pos, negsuc, nat_abs, le_z, lt_z, leb, arith}
 use Rattle.integers.specs.Basics.{not-true, not-false, le-leb, lt-leb, signed, magnitude_parts}
 
 -- the answer t to a test u, asked by `!`

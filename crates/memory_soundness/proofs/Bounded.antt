@@ -1,5 +1,6 @@
 -- What a memory that holds a sound desk gives to the functions over its parts: the records are there, and no number is too large.
-use Rattle.integers.specs.Basics.{ℕ, ◌*◌, ◌≤◌, ◌<◌, ap, List, neg_ℤ, nat_abs, length, arith, signed, magnitude_parts, negation_parts}
+use Rattle.std.specs.Prelude.{◌*◌, ◌≤◌, ◌<◌}
+use Rattle.integers.specs.Basics.{ℕ, ap, List, neg_ℤ, nat_abs, length, arith, signed, magnitude_parts, negation_parts}
 use Rattle.integers.specs.Basics.{sum_parts}
 use Rattle.words.specs.Words.{word_at}
 use Rattle.ledger.specs.declared.order.Order.{Order}

@@ -1,5 +1,6 @@
 -- What the detail of an order tells of its cell, of its account and instrument, and of its total.
-use Rattle.integers.specs.Basics.{ℕ, ◌+◌, ◌≤◌, ◌≡◌, ◌∙◌, ap, List, arith}
+use Rattle.std.specs.Prelude.{◌+◌, ◌≤◌, ◌≡◌}
+use Rattle.integers.specs.Basics.{ℕ, ◌∙◌, ap, List, arith}
 use Rattle.ledger.specs.declared.order.Order.{Order}
 use Rattle.ledger.specs.declared.order.Side.{Side}
 use Rattle.ledger.specs.declared.order.Side.TheVariants.{Buy, Sell}

@@ -1,5 +1,6 @@
 -- The cells in which B and V of all accounts are gathered, order by order.
-use Rattle.integers.specs.Basics.{ℕ, ◌+◌, ◌*◌, ◌^◌, ◌≤◌, ◌<◌, ◌≡◌, ◌≢◌, ◌∙◌, sym, List, length, get_or, replicate, inl, inr, arith}
+use Rattle.std.specs.Prelude.{◌+◌, ◌*◌, ◌^◌, ◌≤◌, ◌<◌, ◌≡◌, ◌≢◌}
+use Rattle.integers.specs.Basics.{ℕ, ◌∙◌, sym, List, length, get_or, replicate, inl, inr, arith}
 use lib.ListN.{length-replicate}
 use Rattle.ledger.specs.declared.order.Order.{Order}
 use Rattle.ledger.specs.declared.order.Side.{Side}

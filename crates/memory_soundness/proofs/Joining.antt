@@ -1,5 +1,6 @@
 -- A number that has the bits of others is at least each of them.
-use Rattle.integers.specs.Basics.{ℕ, ◌+◌, ◌*◌, ◌^◌, ◌≤◌, ◌<◌, by_cases, pos, nat_abs, ◌-ℤ◌, ℕ_discrete, arith, signed, magnitude_parts}
+use Rattle.std.specs.Prelude.{◌+◌, ◌*◌, ◌^◌, ◌≤◌, ◌<◌, ◌-ℤ◌}
+use Rattle.integers.specs.Basics.{ℕ, by_cases, pos, nat_abs, ℕ_discrete, arith, signed, magnitude_parts}
 use Rattle.integers.specs.Basics.{difference_parts}
 use native.Mathlib.Decide.{dec_le}
 use lib.Bits.{bit_or}

@@ -1,5 +1,6 @@
 -- The lines' condition as facts, and back: the figures of every line on the roster are in range, and so those that are set.
-use Rattle.integers.specs.Basics.{ℕ, ◌+◌, ◌<◌, ◌≡◌, refl, Bool, true, false, ◌&&◌, cond, List, none, some, leb, arith, leb-true, le-leb}
+use Rattle.std.specs.Prelude.{◌+◌, ◌<◌, ◌≡◌, ◌&&◌}
+use Rattle.integers.specs.Basics.{ℕ, refl, Bool, true, false, cond, List, none, some, leb, arith, leb-true, le-leb}
 use Rattle.ledger.specs.Roster.{Numbered}
 use Rattle.limits.specs.Lines.{Line, GroupLine}
 use Rattle.limits.specs.InBytes.{group_line_at}

@@ -1,5 +1,6 @@
 -- The orders' conditions as facts of the list of open orders, and back.
-use Rattle.integers.specs.Basics.{ℕ, zero, suc, ◌+◌, ◌≤◌, ◌<◌, ◌≡◌, refl, by_cases, ⊎_elim, Bool, true, List, [], ◌∷◌, ListMemᴰ}
+use Rattle.std.specs.Prelude.{◌+◌, ◌≤◌, ◌<◌, ◌≡◌, ◌∷◌}
+use Rattle.integers.specs.Basics.{ℕ, zero, suc, refl, by_cases, ⊎_elim, Bool, true, List, [], ListMemᴰ}
 use Rattle.integers.specs.Basics.{ListMemᴰ_head, ListMemᴰ_tail, ListMemᴰ_not_nil, ltb, ℕ_discrete, arith, ltb-true, lt-ltb}
 use mathlib.Core.List.Memᴰ
 use Rattle.ledger.specs.declared.order.Order.{Order}

@@ -1,5 +1,6 @@
 -- The orders' conditions by what the passes over them tell.
-use Rattle.integers.specs.Basics.{ℕ, ◌≤◌, ◌<◌, ◌≡◌, ap, Bool, true, false, ◌&&◌, List, nat_abs, arith}
+use Rattle.std.specs.Prelude.{◌≤◌, ◌<◌, ◌≡◌, ◌&&◌}
+use Rattle.integers.specs.Basics.{ℕ, ap, Bool, true, false, List, nat_abs, arith}
 use Rattle.words.specs.Words.{word_at}
 use Rattle.ledger.specs.declared.order.Side.{Side}
 use Rattle.ledger.specs.Derivatives.{one}

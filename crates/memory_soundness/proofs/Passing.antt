@@ -1,5 +1,6 @@
 -- The pass over the records: ids that ascend, something that remains of each order, and a detail with the bits of all.
-use Rattle.integers.specs.Basics.{ℕ, suc, ◌+◌, ◌-◌, ◌≤◌, ◌<◌, ◌≡◌, refl, ◌∙◌, sym, ap, ◌≢◌, Bool, true, false, ◌&&◌, true≢false, false≢true}
+use Rattle.std.specs.Prelude.{◌+◌, ◌-◌, ◌≤◌, ◌<◌, ◌≡◌, ◌≢◌, ◌&&◌}
+use Rattle.integers.specs.Basics.{ℕ, suc, refl, ◌∙◌, sym, ap, Bool, true, false, true≢false, false≢true}
 use Rattle.integers.specs.Basics.{List, ltb, arith, lt-ltb, le-ltb}
 use Rattle.words.specs.Words.{word_at}
 use Rattle.ledger.specs.declared.order.Order.{Order}

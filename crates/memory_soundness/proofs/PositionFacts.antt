@@ -1,5 +1,6 @@
 -- The positions' condition as facts of every account and instrument, on the roster or not, and back.
-use Rattle.integers.specs.Basics.{ℕ, ◌≡◌, ◌∙◌, sym, true, false, ◌&&◌, true≢false, List, ListMemᴰ, ℤ, pos, ◌≤ℤ◌, signed}
+use Rattle.std.specs.Prelude.{◌≡◌, ◌&&◌, ◌≤ℤ◌}
+use Rattle.integers.specs.Basics.{ℕ, ◌∙◌, sym, true, false, true≢false, List, ListMemᴰ, ℤ, pos, signed}
 use Rattle.ledger.specs.declared.order.Order.{Order}
 use Rattle.ledger.specs.Roster.{Numbered}
 use Rattle.ledger.specs.Positions.{Way, long, short, side_to, of_instrument}
@@ -19,7 +20,8 @@ abbrev pub position_of : List ℕ → ℕ → ℕ → Way → ℤ
 position_of m a i w = of_instrument (market_of m).unit (open_orders m) a (balances_of m a) i w
 
 module _ (m : List ℕ) where
-  on_roster_lem : positions_sound m ≡ true → (a i : ℕ) → Numbered (roster_of m).accounts a → Numbered (roster_of m).instruments i → (w : Way)
+  on_roster_lem : positions_sound m ≡ true → (a i : ℕ) → Numbered (roster_of m).accounts a → Numbered (roster_of m).instruments i
+      → (w : Way)
       → position_of m a i w ≤ℤ pos (market_of m).largest
   unfolding positions_sound account_sound instrument_sound position_sound
   on_roster_lem e a i h l w =
@@ -51,7 +53,8 @@ module _ (m : List ℕ) where
           (numbered_between (roster_of m).accounts o.account f.account)
           (numbered_between (roster_of m).instruments o.instrument f.instrument)
 
-  pub positions_out : positions_sound m ≡ true → ((o : Order) → ListMemᴰ o (open_orders m) → OrderFits (roster_of m) o) → (a i : ℕ) (w : Way)
+  pub positions_out : positions_sound m ≡ true → ((o : Order) → ListMemᴰ o (open_orders m) → OrderFits (roster_of m) o)
+      → (a i : ℕ) (w : Way)
       → position_of m a i w ≤ℤ pos (market_of m).largest
   positions_out e fits a i w =
       by_test (between 1 (roster_of m).accounts a && between 1 (roster_of m).instruments i)

@@ -1,5 +1,6 @@
 -- S + B and −S + V of an account and instrument by the gathered cells, as the code asks them of a balance that may be any word.
-use Rattle.integers.specs.Basics.{ℕ, ◌+◌, ◌≤◌, ◌≡◌, ap, true, ◌&&◌, List, ℤ, pos, neg_ℤ, nat_abs, ◌+ℤ◌, ◌-ℤ◌, le_z, get_or, arith, signed}
+use Rattle.std.specs.Prelude.{◌+◌, ◌≤◌, ◌≡◌, ◌&&◌, ◌+ℤ◌, ◌-ℤ◌}
+use Rattle.integers.specs.Basics.{ℕ, ap, true, List, ℤ, pos, neg_ℤ, nat_abs, le_z, get_or, arith, signed}
 use Rattle.integers.specs.Basics.{magnitude_parts, negation_parts, sum_parts, difference_parts}
 use Rattle.ledger.specs.declared.order.Side.{Side}
 use Rattle.ledger.specs.declared.order.Side.TheVariants.{Buy, Sell}

@@ -1,5 +1,6 @@
 -- Question 5 and its parts: the conditions one by one, and all of them together.
-use Rattle.integers.specs.Basics.{ℕ, ◌≤◌, ◌≡◌, true, ◌&&◌, List, leb, eqb, length, leb-true, eqb-true, le-leb, eq-eqb}
+use Rattle.std.specs.Prelude.{◌≤◌, ◌≡◌, ◌&&◌}
+use Rattle.integers.specs.Basics.{ℕ, true, List, leb, eqb, length, leb-true, eqb-true, le-leb, eq-eqb}
 use Rattle.words.specs.Words.{word_at}
 use Rattle.limits.proofs.Answers.{both_true}
 use Rattle.memory_layout.specs.Layout.{kind_word, count_word}

@@ -1,5 +1,6 @@
 -- What is asked of an order, as facts.
-use Rattle.integers.specs.Basics.{ℕ, ◌≤◌, ◌≡◌, Bool, true, ◌&&◌, leb, arith, leb-true, le-leb}
+use Rattle.std.specs.Prelude.{◌≤◌, ◌≡◌, ◌&&◌}
+use Rattle.integers.specs.Basics.{ℕ, Bool, true, leb, arith, leb-true, le-leb}
 use Rattle.ledger.specs.declared.order.Order.{Order}
 use Rattle.ledger.specs.Orders.{remaining}
 use Rattle.ledger.specs.Roster.{Roster, Numbered}

@@ -1,5 +1,6 @@
 -- The roster's condition as facts, and back.
-use Rattle.integers.specs.Basics.{ℕ, ◌≡◌, true, ◌&&◌, List, nat_abs, leb, leb-true, le-leb}
+use Rattle.std.specs.Prelude.{◌≡◌, ◌&&◌}
+use Rattle.integers.specs.Basics.{ℕ, true, List, nat_abs, leb, leb-true, le-leb}
 use Rattle.limits.proofs.Answers.{both_true}
 use Rattle.book.specs.Decoding.{between}
 use Rattle.book.specs.Sound.{RosterFits}

@@ -1,5 +1,6 @@
 -- The roster that a memory holds: what acceptance asks of the part with it, and what its sizes say.
-use Rattle.integers.specs.Basics.{ℕ, ◌≤◌, ◌≡◌, true, ◌&&◌, List, nat_abs, leb, length, arith}
+use Rattle.std.specs.Prelude.{◌≤◌, ◌≡◌, ◌&&◌}
+use Rattle.integers.specs.Basics.{ℕ, true, List, nat_abs, leb, length, arith}
 use Rattle.words.specs.Words.{word_at, signed_at}
 use Rattle.ledger.specs.Roster.{Numbered}
 use Rattle.ledger.specs.Records.{group_table, contract_table, weight_table}

@@ -1,5 +1,6 @@
 -- A memory passes question 5 exactly where it shows a sound book and its other words are in range.
-use Rattle.integers.specs.Basics.{ℕ, ◌≤◌, ◌<◌, ◌≡◌, true, List, ListMemᴰ, arith}
+use Rattle.std.specs.Prelude.{◌≤◌, ◌<◌, ◌≡◌}
+use Rattle.integers.specs.Basics.{ℕ, true, List, ListMemᴰ, arith}
 use Rattle.words.specs.Words.{word_at}
 use Rattle.ledger.specs.declared.order.Order.{Order}
 use Rattle.ledger.specs.Records.{order_at}

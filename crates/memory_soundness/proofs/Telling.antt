@@ -1,5 +1,6 @@
 -- Answers that tell exactly whether something holds, and what holds of each open order.
-use Rattle.integers.specs.Basics.{ℕ, ◌+◌, ◌≤◌, ◌<◌, ◌≡◌, refl, ◌∙◌, sym, ap, by_cases, Bool, true, false, not, false≢true, List, length}
+use Rattle.std.specs.Prelude.{◌+◌, ◌≤◌, ◌<◌, ◌≡◌}
+use Rattle.integers.specs.Basics.{ℕ, refl, ◌∙◌, sym, ap, by_cases, Bool, true, false, not, false≢true, List, length}
 use Rattle.integers.specs.Basics.{ℕ_discrete, arith, not-true, not-false}
 use Rattle.words.specs.Words.{word_at}
 use Rattle.ledger.specs.declared.order.Order.{Order}

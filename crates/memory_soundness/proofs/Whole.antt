@@ -1,5 +1,6 @@
 -- Question 5, as the code asks it.
-use Rattle.integers.specs.Basics.{ℕ, ◌≤◌, ◌<◌, ◌≡◌, refl, ◌≢◌, Bool, true, false, ◌&&◌, List, leb, eqb, le-leb, lt-leb, eq-eqb, ne_eqb}
+use Rattle.std.specs.Prelude.{◌≤◌, ◌<◌, ◌≡◌, ◌≢◌, ◌&&◌}
+use Rattle.integers.specs.Basics.{ℕ, refl, Bool, true, false, List, leb, eqb, le-leb, lt-leb, eq-eqb, ne_eqb}
 use Rattle.words.specs.Words.{word_at}
 use Rattle.limits.proofs.Answers.{both_true}
 use Rattle.memory_layout.specs.Layout.{kind_word, count_word}

@@ -1,5 +1,6 @@
 -- What remains of all open orders, gathered into 1,089 cells, a row of 64 for each account; and balances that need none of it.
-use Rattle.integers.specs.Basics.{ℕ, ◌+◌, ◌*◌, ◌%◌, ◌^◌, ◌≤◌, ◌<◌, ◌≡◌, ◌⊎◌, List, nat_abs, length, get_or}
+use Rattle.std.specs.Prelude.{◌+◌, ◌*◌, ◌%◌, ◌^◌, ◌≤◌, ◌<◌, ◌≡◌, ◌⊎◌}
+use Rattle.integers.specs.Basics.{ℕ, List, nat_abs, length, get_or}
 use Rattle.ledger.specs.declared.order.Order.{Order}
 use Rattle.ledger.specs.declared.order.Side.{Side}
 use Rattle.ledger.specs.Records.{balances_in}

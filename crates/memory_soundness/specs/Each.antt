@@ -1,5 +1,6 @@
 -- What the passes over a memory's open orders answer.
-use Rattle.integers.specs.Basics.{ℕ, ◌-◌, ◌≤◌, ◌<◌, ◌≡◌, Bool, true, List}
+use Rattle.std.specs.Prelude.{◌-◌, ◌≤◌, ◌<◌, ◌≡◌}
+use Rattle.integers.specs.Basics.{ℕ, Bool, true, List}
 use Rattle.words.specs.Words.{word_at}
 use Rattle.ledger.specs.declared.order.Order.{Order}
 use Rattle.ledger.specs.Orders.{remaining}

@@ -1,6 +1,7 @@
 -- What a memory that passes question 5 is, as facts: it shows a sound book, its records stand inside their region, and the figures of lines
 -- that are not set are in range too.
-use Rattle.integers.specs.Basics.{ℕ, ◌≤◌, ◌≡◌, List, length}
+use Rattle.std.specs.Prelude.{◌≤◌, ◌≡◌}
+use Rattle.integers.specs.Basics.{ℕ, List, length}
 use Rattle.words.specs.Words.{word_at}
 use Rattle.ledger.specs.Roster.{Numbered}
 use Rattle.book.specs.Sound.{LineFits, GroupLineFits, Sound}

@@ -8,7 +8,8 @@
 --   "S + B and −S + V are at most 1,000,000,000"                         positions_sound
 --   "every account with an open order is marked as trading"              marked
 -- The three that are asked of each order by itself stand together in `order_sound`.
-use Rattle.integers.specs.Basics.{ℕ, zero, suc, ◌+◌, Bool, true, ◌&&◌, List, [], ◌∷◌, pos, le_z, leb, ltb, eqb}
+use Rattle.std.specs.Prelude.{◌+◌, ◌&&◌, ◌∷◌}
+use Rattle.integers.specs.Basics.{ℕ, zero, suc, Bool, true, List, [], pos, le_z, leb, ltb, eqb}
 use Rattle.words.specs.Words.{word_at}
 use Rattle.ledger.specs.declared.order.Order.{Order}
 use Rattle.ledger.specs.Orders.{remaining}

@@ -1,4 +1,6 @@
 // Question 5: is the lent memory long enough, and does it hold a sound desk?
+#![tactic(auto)]
+
 pub mod balances;
 pub mod bits;
 pub mod lines;

@@ -18,7 +18,7 @@ use memory_layout::roster::{account_known, accounts, instrument_known, instrumen
 
 // What the pass tells of the records that it has passed: do the ids ascend, and does something remain of each order? If so, the last id,
 // and a detail with the bits of all.
-#[derive(Drop)]
+#[derive(Clone, Copy)]
 struct Pass {
     sound: bool,
     last: u64,

@@ -1,5 +1,6 @@
 -- What an acceptance tells of the event, kind by kind: its numbers are on the roster, its figures in range, its order open.
-use Rattle.integers.specs.Basics.{ℕ, ◌≤◌, ◌<◌, ◌≡◌, Bool, true, List, Option, none, some, ℤ, pos, neg_ℤ, nat_abs, ◌≤ℤ◌, length, arith}
+use Rattle.std.specs.Prelude.{◌≤◌, ◌<◌, ◌≡◌, ◌≤ℤ◌}
+use Rattle.integers.specs.Basics.{ℕ, Bool, true, List, Option, none, some, ℤ, pos, neg_ℤ, nat_abs, length, arith}
 use Rattle.integers.specs.Basics.{ltb-true, signed}
 use Rattle.integers.specs.Magnitude.{within_in}
 use Rattle.words.specs.Words.{word_at}

@@ -1,5 +1,6 @@
 -- BLOCK: whether the figure blocks, as the code tests its bits, and what is blocked, by another name.
-use Rattle.integers.specs.Basics.{ℕ, ◌≡◌, ◌∙◌, sym, ap, not, List, ℤ, pos, eqb, w64, SFits, to_z, of_z, to_z-of_z}
+use Rattle.std.specs.Prelude.{◌≡◌}
+use Rattle.integers.specs.Basics.{ℕ, ◌∙◌, sym, ap, not, List, ℤ, pos, eqb, w64, SFits, to_z, of_z, to_z-of_z}
 use Rattle.ledger.proofs.Ways.{by_number}
 use Rattle.limits.specs.Asked.{is_zero}
 use Rattle.limits.proofs.Asking.{is_zero_false}

@@ -1,5 +1,6 @@
 -- The order that an accepted event names, found at its place: what the code stores there is what the event makes of it.
-use Rattle.integers.specs.Basics.{ℕ, ◌≤◌, ◌<◌, ◌≡◌, refl, ◌∙◌, sym, ap, List, some, ℤ, pos, nat_abs, arith, signed}
+use Rattle.std.specs.Prelude.{◌≤◌, ◌<◌, ◌≡◌}
+use Rattle.integers.specs.Basics.{ℕ, refl, ◌∙◌, sym, ap, List, some, ℤ, pos, nat_abs, arith, signed}
 use Rattle.integers.specs.Basics.{magnitude_parts}
 use Rattle.words.specs.Words.{word_at}
 use Rattle.ledger.specs.declared.order.Order.{Order}

@@ -1,5 +1,6 @@
 -- What is filled moves the balance of the order's account and instrument, and the numbers that the code adds fit.
-use Rattle.integers.specs.Basics.{ℕ, ◌*◌, ◌≤◌, ◌≡◌, refl, ◌∙◌, sym, ap, List, ℤ, pos, neg_ℤ, nat_abs, ◌+ℤ◌, length, w64, SFits, to_z, of_z}
+use Rattle.std.specs.Prelude.{◌*◌, ◌≤◌, ◌≡◌, ◌+ℤ◌}
+use Rattle.integers.specs.Basics.{ℕ, refl, ◌∙◌, sym, ap, List, ℤ, pos, neg_ℤ, nat_abs, length, w64, SFits, to_z, of_z}
 use Rattle.integers.specs.Basics.{to_z-of_z, arith}
 use Rattle.integers.specs.Magnitude.{sized, magnitude_sum, magnitude_negation}
 use Rattle.ledger.specs.declared.order.Side.{Side}

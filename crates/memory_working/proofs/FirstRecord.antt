@@ -1,5 +1,6 @@
 -- The first record stands inside its region wherever an event of an order leaves it.
-use Rattle.integers.specs.Basics.{ℕ, ◌≤◌, List, [], ◌∷◌}
+use Rattle.std.specs.Prelude.{◌≤◌, ◌∷◌}
+use Rattle.integers.specs.Basics.{ℕ, List, []}
 use Rattle.ledger.specs.declared.order.Order.{Order}
 use Rattle.ledger.specs.declared.find.Found.{Found}
 use Rattle.ledger.specs.declared.find.Found.TheVariants.{At, Nothing}

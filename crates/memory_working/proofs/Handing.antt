@@ -1,5 +1,6 @@
 -- An event taken apart and handed on: each kind's function gets the event by another name, with its figure as the machine holds it.
-use Rattle.integers.specs.Basics.{ℕ, ◌≡◌, ◌∙◌, sym, ap, List, ℤ, w64, SFits, to_z, of_z, to_z-of_z}
+use Rattle.std.specs.Prelude.{◌≡◌}
+use Rattle.integers.specs.Basics.{ℕ, ◌∙◌, sym, ap, List, ℤ, w64, SFits, to_z, of_z, to_z-of_z}
 use Rattle.book.specs.declared.Setting.{Setting}
 use Rattle.book.specs.declared.Event.TheVariants.{Set}
 use Rattle.book.specs.declared.Event.{Event}

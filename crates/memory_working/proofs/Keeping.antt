@@ -1,5 +1,6 @@
 -- The cells after a change of one order: its own cell moves with what counts of it, and no other.
-use Rattle.integers.specs.Basics.{ℕ, ◌+◌, ◌-◌, ◌≤◌, ◌≡◌, refl, ◌∙◌, sym, ap, ◌⊎◌, inl, inr, ◌≢◌, List, ℤ, pos, neg_ℤ, nat_abs, ◌+ℤ◌, length}
+use Rattle.std.specs.Prelude.{◌+◌, ◌-◌, ◌≤◌, ◌≡◌, ◌⊎◌, ◌≢◌, ◌+ℤ◌}
+use Rattle.integers.specs.Basics.{ℕ, refl, ◌∙◌, sym, ap, inl, inr, List, ℤ, pos, neg_ℤ, nat_abs, length}
 use Rattle.integers.specs.Basics.{get_or, set, length-set, arith, signed, sum_parts, difference_parts}
 use native.Mathlib.Nat.{one-mul}
 use lib.Seq.{get_or-set_same, get_or-set_other}

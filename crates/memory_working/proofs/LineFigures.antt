@@ -1,6 +1,7 @@
 -- The figures of an accepted LIMIT: −1 throughout, or limits, and then none is below 0.
-use Rattle.integers.specs.Basics.{ℕ, ◌≤◌, ◌≡◌, refl, ◌∙◌, sym, ap, Bool, true, false, ◌&&◌, ◌||◌, cond, true≢false, List, none, some, ℤ}
-use Rattle.integers.specs.Basics.{pos, negsuc, nat_abs, ◌≤ℤ◌, non_neg, T, w32, w64, Fits, SFits, to_z, of_z, to_z-of_z, arith, signed}
+use Rattle.std.specs.Prelude.{◌≤◌, ◌≡◌, ◌&&◌, ◌||◌, ◌≤ℤ◌}
+use Rattle.integers.specs.Basics.{ℕ, refl, ◌∙◌, sym, ap, Bool, true, false, cond, true≢false, List, none, some, ℤ}
+use Rattle.integers.specs.Basics.{pos, negsuc, nat_abs, non_neg, T, w32, w64, Fits, SFits, to_z, of_z, to_z-of_z, arith, signed}
 use Rattle.integers.specs.Basics.{magnitude_parts}
 use Rattle.limits.proofs.Answers.{both_true}
 use Rattle.book.specs.declared.Figures.{Figures}

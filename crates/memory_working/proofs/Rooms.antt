@@ -1,5 +1,6 @@
 -- What the functions over a desk's fields ask of an accepted setting: its places are inside the memory, its figures are numbers.
-use Rattle.integers.specs.Basics.{ℕ, ◌≤◌, List, Option, none, some, ℤ, pos, nat_abs, ◌≤ℤ◌, non_neg, T, length, w64, Fits, SFits, to_z, of_z}
+use Rattle.std.specs.Prelude.{◌≤◌, ◌≤ℤ◌}
+use Rattle.integers.specs.Basics.{ℕ, List, Option, none, some, ℤ, pos, nat_abs, non_neg, T, length, w64, Fits, SFits, to_z, of_z}
 use Rattle.integers.specs.Basics.{to_z-of_z, arith, signed}
 use Rattle.integers.specs.Magnitude.{sized}
 use Rattle.ledger.specs.Roster.{Numbered}

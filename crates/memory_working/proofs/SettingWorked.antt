@@ -1,6 +1,7 @@
 -- An accepted setting, by what it sets: the view of the memory with it stored is the view before it, worked, and what each store keeps,
 -- storing it keeps.
-use Rattle.integers.specs.Basics.{ℕ, ◌+◌, ◌*◌, ◌≡◌, List, arith}
+use Rattle.std.specs.Prelude.{◌+◌, ◌*◌, ◌≡◌}
+use Rattle.integers.specs.Basics.{ℕ, List, arith}
 use Rattle.integers.specs.Magnitude.{sized}
 use Rattle.words.specs.Words.{put_word}
 use Rattle.book.specs.declared.LimitLine.TheVariants.{Own, Default, OfGroup}

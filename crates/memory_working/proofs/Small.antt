@@ -1,5 +1,6 @@
 -- The figures that an accepted event stores fit their words and halves of words.
-use Rattle.integers.specs.Basics.{ℕ, ◌^◌, ◌≤◌, ◌<◌, ◌≡◌, refl, ⊎_elim, List, [], ◌∷◌, ListMemᴰ, ListMemᴰ_head, ListMemᴰ_tail}
+use Rattle.std.specs.Prelude.{◌^◌, ◌≤◌, ◌<◌, ◌≡◌, ◌∷◌}
+use Rattle.integers.specs.Basics.{ℕ, refl, ⊎_elim, List, [], ListMemᴰ, ListMemᴰ_head, ListMemᴰ_tail}
 use Rattle.integers.specs.Basics.{ListMemᴰ_not_nil, Option, none, some, arith}
 use mathlib.Core.List.Memᴰ
 use Rattle.words.specs.Bytes.{Bytes}

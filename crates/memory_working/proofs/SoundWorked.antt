@@ -1,6 +1,7 @@
 -- A memory that holds a sound desk holds one after an accepted event: the book's is sound, and the figures of every line stay in
 -- range.
-use Rattle.integers.specs.Basics.{ℕ, ◌+◌, ◌*◌, ◌^◌, ◌≤◌, ◌<◌, ◌≡◌, ◌∙◌, sym, by_cases, List, length, ℕ_discrete, arith}
+use Rattle.std.specs.Prelude.{◌+◌, ◌*◌, ◌^◌, ◌≤◌, ◌<◌, ◌≡◌}
+use Rattle.integers.specs.Basics.{ℕ, ◌∙◌, sym, by_cases, List, length, ℕ_discrete, arith}
 use Rattle.words.specs.Bytes.{Bytes}
 use Rattle.words.specs.Words.{word_at, put_word}
 use Rattle.words.proofs.Memory.{length_put, word_put_same, word_put_other}

@@ -1,5 +1,6 @@
 -- A run of stores of words: what each store keeps, the run keeps; and what a store of an event is.
-use Rattle.integers.specs.Basics.{ℕ, zero, suc, ◌+◌, ◌≤◌, ◌<◌, ◌≡◌, refl, List, [], ◌∷◌, Option, none, some, ℤ, length, get_or, arith}
+use Rattle.std.specs.Prelude.{◌+◌, ◌≤◌, ◌<◌, ◌≡◌, ◌∷◌}
+use Rattle.integers.specs.Basics.{ℕ, zero, suc, refl, List, [], Option, none, some, ℤ, length, get_or, arith}
 use Rattle.integers.specs.TwosComplement.{bits_of}
 use Rattle.words.specs.Words.{put_word, lower, upper, put_signed, put_words}
 use Rattle.ledger.specs.declared.order.Order.{Order}

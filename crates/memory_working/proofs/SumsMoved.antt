@@ -1,5 +1,6 @@
 -- B and V after an accepted event of an order: what counts of that order is another number, as the book says it, and no other sum changes.
-use Rattle.integers.specs.Basics.{ℕ, ◌^◌, ◌≤◌, ◌<◌, ◌≡◌, sym, ap, subst, List, pos, arith}
+use Rattle.std.specs.Prelude.{◌^◌, ◌≤◌, ◌<◌, ◌≡◌}
+use Rattle.integers.specs.Basics.{ℕ, sym, ap, subst, List, pos, arith}
 use native.Mathlib.Nat.{one-mul}
 use Rattle.words.specs.Bytes.{Bytes}
 use Rattle.ledger.specs.declared.order.Order.{Order}

@@ -1,5 +1,6 @@
 -- The view of a memory after an accepted event is the view before it, worked.
-use Rattle.integers.specs.Basics.{ℕ, ◌^◌, ◌≤◌, ◌<◌, ◌≡◌, refl, ◌∙◌, sym, ap, fun_ext, true, cond, List, ℤ, pos, nat_abs, ◌+ℤ◌, +ℤ_idr, arith}
+use Rattle.std.specs.Prelude.{◌^◌, ◌≤◌, ◌<◌, ◌≡◌, ◌+ℤ◌}
+use Rattle.integers.specs.Basics.{ℕ, refl, ◌∙◌, sym, ap, fun_ext, true, cond, List, ℤ, pos, nat_abs, +ℤ_idr, arith}
 use Rattle.integers.specs.Magnitude.{sized, magnitude_sum, magnitude_negation}
 use Rattle.words.specs.Bytes.{Bytes}
 use Rattle.ledger.specs.declared.order.Order.{Order}
@@ -126,7 +127,8 @@ module _ (m : List ℕ) (bytes : Bytes m) (held : SoundMemory m) where
         magnitude_sum (balances_of m a i) (fill_moves unit a i o n),
       ))
       ∙ ap (λ (k : State). work k (Set (Balance a i z))) (orders_shown f inside e tt passes)
-      ∙ ap (λ s. state_of (market_of m) (roster_of m) s (lines_of m) (blocks_of m) os (trading_of m)) (fill_moves_lem unit o n (balances_of m)))
+      ∙ ap (λ s. state_of (market_of m) (roster_of m) s (lines_of m) (blocks_of m) os (trading_of m))
+      (fill_moves_lem unit o n (balances_of m)))
 
   pub view_worked : (e : Event) → Sized e → judged m e ≡ 0
       → view (worked m e) ≡ work (view m) e

@@ -1,5 +1,6 @@
 -- Working an accepted event is a run of stores of words: what each store keeps, working keeps.
-use Rattle.integers.specs.Basics.{ℕ, ◌≤◌, ◌<◌, ◌≡◌, refl, ◌∙◌, List, length, get_or, arith}
+use Rattle.std.specs.Prelude.{◌≤◌, ◌<◌, ◌≡◌}
+use Rattle.integers.specs.Basics.{ℕ, refl, ◌∙◌, List, length, get_or, arith}
 use Rattle.words.specs.Bytes.{Bytes}
 use Rattle.words.specs.Words.{word_at, put_word}
 use Rattle.words.proofs.Memory.{length_put, bytes_put, byte_put_other, word_put_other}
@@ -71,7 +72,8 @@ module _ (m : List ℕ) (held : SoundMemory m) (e : Event) (passes : judged m e 
   -- bytes from 65,536 on are as they were
   pub later_worked : (i : ℕ) → 65536 ≤ i → get_or (worked m e) i 0 ≡ get_or m i 0
   later_worked i h =
-      worked_keeps m e (λ l. get_or l i 0 ≡ get_or m i 0) (λ l k v s was. byte_put_other l k v i (λ same. omega arith) ∙ was) held passes refl
+      worked_keeps m e (λ l. get_or l i 0 ≡ get_or m i 0)
+      (λ l k v s was. byte_put_other l k v i (λ same. omega arith) ∙ was) held passes refl
 
   -- and so are the kind of desk and the roster
   pub word_worked : (j : ℕ) → j < 112 → word_at (worked m e) j ≡ word_at m j

@@ -1,5 +1,6 @@
 -- What an accepted event does to B and V: what counts of one order goes from `before` contracts to `after`, and no other sum changes.
-use Rattle.integers.specs.Basics.{ℕ, ◌+◌, ◌≤◌, ◌≡◌, List, ◌+ℤ◌, length, get_or}
+use Rattle.std.specs.Prelude.{◌+◌, ◌≤◌, ◌≡◌, ◌+ℤ◌}
+use Rattle.integers.specs.Basics.{ℕ, List, length, get_or}
 use Rattle.ledger.specs.declared.order.Order.{Order}
 use Rattle.ledger.specs.declared.order.Side.{Side}
 use Rattle.ledger.specs.Positions.{open_on}
@@ -9,7 +10,8 @@ use Rattle.limits.specs.Raised.{added_on}
 
 pub record SumsChanged (o : Order) (before after : ℕ) (orders orders' : List Order) : Type 0 where
   pub small : after ≤ 1000000
-  pub sums : (s : Side) (a i : ℕ) → open_on one orders' s a i +ℤ added_on before o s a i ≡ open_on one orders s a i +ℤ added_on after o s a i
+  pub sums : (s : Side) (a i : ℕ)
+      → open_on one orders' s a i +ℤ added_on before o s a i ≡ open_on one orders s a i +ℤ added_on after o s a i
 
 -- the cell of the order of a detail, of all accounts' cells
 abbrev pub cell_of : ℕ → ℕ

@@ -1,5 +1,6 @@
 -- The memory after an accepted event, by an equation for each kind.
-use Rattle.integers.specs.Basics.{ℕ, ◌≤◌, ◌≡◌, Bool, true, not, cond, List, [], ◌∷◌, Option, none, some, pos, ◌+ℤ◌, set}
+use Rattle.std.specs.Prelude.{◌≤◌, ◌≡◌, ◌∷◌, ◌+ℤ◌}
+use Rattle.integers.specs.Basics.{ℕ, Bool, true, not, cond, List, [], Option, none, some, pos, set}
 use Rattle.ledger.specs.declared.order.Order.{Order}
 use Rattle.ledger.specs.declared.find.Found.{Found}
 use Rattle.ledger.specs.declared.find.Found.TheVariants.{At, Nothing}

@@ -1,5 +1,7 @@
 // Working an accepted event in a desk's memory, and in B and V of all accounts beside it, where they are kept. It cannot refuse: the judge
 // has accepted the event.
+#![tactic(auto)]
+
 pub mod orders;
 pub mod settings;
 pub mod sums;

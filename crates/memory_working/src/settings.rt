@@ -15,7 +15,7 @@ use memory_layout::stores::{
 };
 
 // The figures of a line that is set.
-#[derive(Drop)]
+#[derive(Clone, Copy)]
 struct Limits {
     tci: u32,
     tvi: u32,

@@ -1,0 +1,14 @@
+-- The part with the roster is 608 bytes long, and its number of groups is the view's.
+use Rattle.integers.specs.Basics.{◌∙◌, arith, rules}
+use Rattle.memory_layout.specs.Rosters.{listed}
+use Rattle.memory_layout.specs.View.{roster_of}
+use Rattle.memory_layout.proofs.RosterRead.{roster_long}
+use Rattle.memory_layout.proofs.roster.groups.Goals as goal
+
+pub groups_in-requires : goal.groups_in-requires
+unfolding roster_of listed
+groups_in-requires c = rw c.roster.ensures (omega (arith, roster_long c.args.m.now c.requires))
+
+pub returns : goal.returns
+unfolding roster_of listed
+returns c = c.groups_in.ensures ∙ rw c.roster.ensures

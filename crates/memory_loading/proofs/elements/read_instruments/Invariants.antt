@@ -1,0 +1,15 @@
+-- One instrument after the other, up to the end tag of the contract; `Held` says how far the loop has come.
+use Rattle.std.specs.Prelude.{◌-◌}
+use Rattle.integers.specs.Basics.{length}
+use Rattle.limit_file.specs.Layout.{instrument}
+use Rattle.memory_loading.specs.Entries.{instrument_entries, instrument_counts}
+use Rattle.memory_loading.proofs.HeldElements.{Held}
+use Rattle.memory_loading.proofs.elements.read_instruments.Given as goal
+
+abbrev pub invariant-loop-k : goal.invariant-loop-k
+invariant-loop-k l =
+    Held l.s instrument (instrument_entries l.account l.contract) instrument_counts "ContrtLmt"
+    l.initial.p l.initial.m l.initial.k l.p l.n l.m l.k
+
+abbrev pub decreases-loop-k : goal.decreases-loop-k
+decreases-loop-k l = length l.s - l.p

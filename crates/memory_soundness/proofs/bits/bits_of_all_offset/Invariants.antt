@@ -1,0 +1,12 @@
+-- After j words each of them, with the offset added, is at most `all`: a number with the bits of others is at least each (`bits_more`).
+use Rattle.std.specs.Prelude.{◌+◌, ◌-◌, ◌≤◌, ◌<◌}
+use Rattle.integers.specs.Basics.{ℕ}
+use Rattle.words.specs.Words.{word_at}
+use Rattle.memory_soundness.specs.Cells.{offset_word}
+use Rattle.memory_soundness.proofs.bits.bits_of_all_offset.Given as goal
+
+abbrev pub invariant-loop-j : goal.invariant-loop-j
+invariant-loop-j l = (l.j ≤ l.n) × ((p : ℕ) → l.k ≤ p → p < l.k + l.j → offset_word l.offset (word_at l.m p) ≤ l.all)
+
+abbrev pub decreases-loop-j : goal.decreases-loop-j
+decreases-loop-j l = l.n - l.j
