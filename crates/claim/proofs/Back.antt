@@ -1,6 +1,7 @@
 -- The way back: each demand as the claim says it gives the demand of the gate that it was taken from, so neither can be weakened alone.
-use Rattle.integers.specs.Basics.{ℕ, ◌≤◌, ◌<◌, ◌≡◌, refl, ◌∙◌, sym, ap, subst, inl, inr, ◌↔◌, ◌≢◌, by_cases, Bool, true, false, List, []}
-use Rattle.integers.specs.Basics.{◌∷◌, ◌++◌, ListMemᴰ, ListMemᴰ_head, ListMemᴰ_tail, length, drop, ℕ_discrete}
+use Rattle.std.specs.Prelude.{◌≤◌, ◌<◌, ◌≡◌, ◌↔◌, ◌≢◌, ◌∷◌, ◌++◌}
+use Rattle.integers.specs.Basics.{ℕ, refl, ◌∙◌, sym, ap, subst, inl, inr, by_cases, Bool, true, false, List, []}
+use Rattle.integers.specs.Basics.{ListMemᴰ, ListMemᴰ_head, ListMemᴰ_tail, length, drop, ℕ_discrete}
 use Rattle.limits.specs.Lines.{is_set}
 use Rattle.limits.specs.Questions.{Question, numbers_of, all_pass}
 use Rattle.book.specs.Market.{derivatives}
@@ -23,6 +24,7 @@ use Rattle.claim.proofs.Demands.{failed_first}
 
 -- ---- demand 1
 one_of : (n : ℕ) (ns : List ℕ) → ListMemᴰ n ns → OneOf n ns
+one_of n [] x = elim x [ ]
 one_of n (k ∷ ks) (ListMemᴰ_head e) = inl e
 one_of n (k ∷ ks) (ListMemᴰ_tail m) = inr (one_of n ks m)
 
@@ -108,7 +110,9 @@ back_3 d m s bytes opens =
 
 -- ---- the run
 full_before : (es : List RawEvent) (n : RawEvent) → Whole (es ++ (n ∷ [])) → (e : RawEvent) → ListMemᴰ e es → length e.bytes ≡ 48
+full_before [] n w e x = elim x [ ]
 full_before (x ∷ []) n w e (ListMemᴰ_head h) = ap (λ (z : RawEvent). length z.bytes) h ∙ w.0
+full_before (x ∷ []) n w e (ListMemᴰ_tail h) = elim h [ ]
 full_before (x ∷ y ∷ es) n w e (ListMemᴰ_head h) = ap (λ (z : RawEvent). length z.bytes) h ∙ w.0
 full_before (x ∷ y ∷ es) n w e (ListMemᴰ_tail h) = full_before (y ∷ es) n w.1 e h
 
@@ -127,7 +131,8 @@ run_back r m es n room w space =
     r.events m es n room (full_before es n w) last.0 last.1 space
 
 pub next_back : Run → (m : List ℕ) (es : List RawEvent) (n : RawEvent)
-    → answers_over m (bytes_of_each (es ++ (n ∷ []))) ≡ answers_over m (bytes_of_each es) ++ (answer_to (memory_after gate m es) n.bytes ∷ [])
+    → answers_over m (bytes_of_each (es ++ (n ∷ []))) ≡ answers_over m (bytes_of_each es)
+    ++ (answer_to (memory_after gate m es) n.bytes ∷ [])
 next_back r = r.next
 
 pub unsound_back : Run → UnsoundRun

@@ -1,5 +1,6 @@
 -- Events written out, whose bytes are computed to be bytes, as a list of demand 3: what is answered and kept is computed of the plain book.
-use Rattle.integers.specs.Basics.{ℕ, zero, suc, ◌≡◌, refl, ◌∙◌, ap, true, List, [], ◌∷◌, ◌++◌, map, ltb, arith, ltb-true}
+use Rattle.std.specs.Prelude.{◌≡◌, ◌∷◌, ◌++◌}
+use Rattle.integers.specs.Basics.{ℕ, zero, suc, refl, ◌∙◌, ap, true, List, [], map, ltb, arith, ltb-true}
 use Rattle.words.specs.Bytes.{Bytes}
 use Rattle.limits.proofs.Answers.{both_true, and_true}
 use Rattle.book.specs.Decoding.{decode}

@@ -1,5 +1,6 @@
 -- Tables of questions: the answer is the first that fails, and one of the table's numbers.
-use Rattle.integers.specs.Basics.{ℕ, ◌≡◌, refl, ◌∙◌, sym, ap, inl, inr, ◌≢◌, Bool, true, false, cond, List, [], ◌∷◌}
+use Rattle.std.specs.Prelude.{◌≡◌, ◌≢◌, ◌∷◌}
+use Rattle.integers.specs.Basics.{ℕ, refl, ◌∙◌, sym, ap, inl, inr, Bool, true, false, cond, List, []}
 use Rattle.limits.specs.Questions.{Question, numbers_of, first_no, all_pass}
 use Rattle.limits.proofs.Answers.{and_true, Counted, pass_zero, zero_pass, append_passed}
 use Rattle.claim.specs.GateDemands.{OneOf, FirstFailed, Answers}

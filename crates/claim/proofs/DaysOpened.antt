@@ -1,5 +1,6 @@
 -- By demand 2 a roster that passes questions 2 to 4 opens a memory that is long enough; and what the days compute with.
-use Rattle.integers.specs.Basics.{ℕ, ◌≤◌, ◌≡◌, true, List, length, le-leb}
+use Rattle.std.specs.Prelude.{◌≤◌, ◌≡◌}
+use Rattle.integers.specs.Basics.{ℕ, true, List, length, le-leb}
 use Rattle.limits.specs.Questions.{all_pass}
 use Rattle.memory_layout.specs.Rosters.{long_enough}
 use Rattle.memory_opening.specs.Questions.{opening_questions, opening_answer}

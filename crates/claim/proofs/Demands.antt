@@ -1,6 +1,7 @@
 -- The three demands as the claim says them, each taken from what is proved of the gate.
-use Rattle.integers.specs.Basics.{ℕ, ◌≤◌, ◌≡◌, refl, ◌∙◌, ap, subst, ◌⊎◌, inl, inr, ⊎_elim, ◌↔◌, ◌≢◌, Bool, true, false, cond, List}
-use Rattle.integers.specs.Basics.{[], ◌∷◌, ◌++◌, map, ListMemᴰ, ListMemᴰ_head, ListMemᴰ_tail, ListMemᴰ_not_nil, Option, none, some}
+use Rattle.std.specs.Prelude.{◌≤◌, ◌≡◌, ◌⊎◌, ◌↔◌, ◌≢◌, ◌∷◌, ◌++◌}
+use Rattle.integers.specs.Basics.{ℕ, refl, ◌∙◌, ap, subst, inl, inr, ⊎_elim, Bool, true, false, cond, List}
+use Rattle.integers.specs.Basics.{[], map, ListMemᴰ, ListMemᴰ_head, ListMemᴰ_tail, ListMemᴰ_not_nil, Option, none, some}
 use Rattle.integers.specs.Basics.{length, arith}
 use mathlib.Core.List.Memᴰ
 use lib.ListN.{length-append, length-map}
@@ -42,7 +43,8 @@ numbers_in_order sound k e = rw (at_the_end (entered k.book e))
     at_the_end none = refl
     at_the_end (some o) = refl
 
-event_numbers : (m e : List ℕ) → numbers_of (event_questions m e) ≡ asked_first ++ cond (is_set (entered (book_of m) (decode e))) asked_last []
+event_numbers : (m e : List ℕ) → numbers_of (event_questions m e)
+    ≡ asked_first ++ cond (is_set (entered (book_of m) (decode e))) asked_last []
 unfolding event_questions
 event_numbers m e = numbers_in_order (sound_desk m) (view m) (decode e)
 

@@ -1,5 +1,6 @@
 -- The days and the starred edges in one memory, 65,536 zeros: nothing is left to assume.
-use Rattle.integers.specs.Basics.{ℕ, zero, suc, ◌≤◌, ◌<◌, ◌≡◌, refl, ◌∙◌, sym, ap, subst, List, [], ◌∷◌, ◌++◌, map, length, get_or, replicate}
+use Rattle.std.specs.Prelude.{◌≤◌, ◌<◌, ◌≡◌, ◌∷◌, ◌++◌}
+use Rattle.integers.specs.Basics.{ℕ, zero, suc, refl, ◌∙◌, sym, ap, subst, List, [], map, length, get_or, replicate}
 use Rattle.integers.specs.Basics.{arith}
 use Rattle.words.specs.Bytes.{Bytes}
 use Rattle.book.specs.Edges.{Case, starred_edges, all_accepted}

@@ -1,5 +1,6 @@
 -- Document 01's starred edges, computed of the plain book in `book`, hold of a memory, by the demands.
-use Rattle.integers.specs.Basics.{ℕ, ◌≤◌, ◌≡◌, refl, ◌∙◌, ap, List, [], ◌∷◌, ◌++◌, map, length}
+use Rattle.std.specs.Prelude.{◌≤◌, ◌≡◌, ◌∷◌, ◌++◌}
+use Rattle.integers.specs.Basics.{ℕ, refl, ◌∙◌, ap, List, [], map, length}
 use Rattle.words.specs.Bytes.{Bytes}
 use Rattle.book.specs.Market.{derivatives}
 use Rattle.book.specs.States.{begun}

@@ -1,5 +1,6 @@
 -- Instances from what is computed of the plain book: each conclusion is drawn by one of the three demands.
-use Rattle.integers.specs.Basics.{ℕ, ◌≡◌, refl, ◌∙◌, sym, ap, ◌⊎◌, inl, ⊎_elim, ◌≢◌, true, List, [], ◌∷◌, ◌++◌, some, ℤ, ◌<ℤ◌, arith}
+use Rattle.std.specs.Prelude.{◌≡◌, ◌⊎◌, ◌≢◌, ◌∷◌, ◌++◌, ◌<ℤ◌}
+use Rattle.integers.specs.Basics.{ℕ, refl, ◌∙◌, sym, ap, inl, ⊎_elim, true, List, [], some, ℤ, arith}
 use Rattle.words.specs.Bytes.{Bytes}
 use Rattle.ledger.specs.declared.order.Order.{Order}
 use Rattle.ledger.specs.Derivatives.{one}
@@ -75,7 +76,8 @@ module _ (m s : List ℕ) (bytes : Bytes m) (opens : opening_answer m s ≡ 0) w
 
     answered : as_bytes n ≡ n → (number : ℕ) → plain_answer s events n ≡ number → answer_to (memory_at m s events) n ≡ number
     answered same number h =
-        ap (answer_to (memory_at m s events)) (sym same) ∙ plainly m s bytes opens (written_all events) (written n) ∙ rw (state_at_lem events) h
+        ap (answer_to (memory_at m s events)) (sym same) ∙ plainly m s bytes opens (written_all events) (written n)
+        ∙ rw (state_at_lem events) h
 
     -- refused: `shown` is a filling that passes the limit
     refused_at : Asks s events n o → (number : ℕ) → plain_answer s events n ≡ number → ForPositionLimit number
@@ -114,7 +116,8 @@ module _ (m s : List ℕ) (bytes : Bytes m) (opens : opening_answer m s ≡ 0) w
         (written_all later)
     unfolding state_after
     state_later later =
-        rw (written_joined events (n ∷ later)) (state_joined gate (after_opening m s) (begun derivatives (roster_from s)) (written_all events)
+        rw (written_joined events (n ∷ later)) (state_joined gate (after_opening m s) (begun derivatives (roster_from s))
+        (written_all events)
         (written n ∷ written_all later))
 
     module _ (p : Scope) (w : Way) (figure : ℤ) (later : List (List ℕ)) where
@@ -122,7 +125,8 @@ module _ (m s : List ℕ) (bytes : Bytes m) (opens : opening_answer m s ≡ 0) w
       none_sets test =
           none_sets_again (roster_from s) (memory_at m s (events ++ (n ∷ []))) (state_at m s (events ++ (n ∷ [])))
           (held_from_opening m s (written_all (events ++ (n ∷ []))))
-          (plainly_after (after_opening m s) (begun derivatives (roster_from s)) (plainly m s bytes opens) (written_all (events ++ (n ∷ []))))
+          (plainly_after (after_opening m s) (begun derivatives (roster_from s)) (plainly m s bytes opens)
+          (written_all (events ++ (n ∷ []))))
           o.account p (written_all later) (rw (state_at_lem (events ++ (n ∷ []))) test)
 
       accepted_at : Asks s events n o → plain_answer s events n ≡ 0 → Moves (roster_from s) o p w
@@ -133,7 +137,8 @@ module _ (m s : List ℕ) (bytes : Bytes m) (opens : opening_answer m s ≡ 0) w
           let a = asked asks in
           let zero = answered a.bytes 0 computed in
           let judged = ((demand_3 m s bytes opens (written_all events)).0 (written n) o a.enters a.passes).1 in
-          let by : limit (roster_from s) ((state_at m s events).book.lines_of o.account) p w ≡ figure = rw (state_at_lem events) figure-is in
+          let by : limit (roster_from s) ((state_at m s events).book.lines_of o.account) p w
+          ≡ figure = rw (state_at_lem events) figure-is in
           let none = none_sets test in
           let kept = rw by at (judged (rw a.bytes zero) p w moves (written_all later) (rw (memory_next, state_next_lem) at none)) in
           record {

@@ -1,5 +1,6 @@
 -- The gate over bytes meets the contract that demand 3 asks of a desk, and so keeps demand 3 from any memory that shows a sound book.
-use Rattle.integers.specs.Basics.{ℕ, ◌≡◌, ◌∙◌, sym, ap, subst, List}
+use Rattle.std.specs.Prelude.{◌≡◌}
+use Rattle.integers.specs.Basics.{ℕ, ◌∙◌, sym, ap, subst, List}
 use Rattle.words.specs.Bytes.{Bytes}
 use Rattle.book.specs.Decoding.{decode}
 use Rattle.book.specs.States.{State, work}

@@ -1,5 +1,6 @@
 -- The three demands of the gate over bytes.
-use Rattle.integers.specs.Basics.{ℕ, ◌≤◌, ◌≡◌, refl, ◌∙◌, sym, ap, ◌≢◌, by_cases, List, ◌∷◌, ◌++◌, Option, none, some, ℤ, get_or, ℕ_discrete}
+use Rattle.std.specs.Prelude.{◌≤◌, ◌≡◌, ◌≢◌, ◌∷◌, ◌++◌}
+use Rattle.integers.specs.Basics.{ℕ, refl, ◌∙◌, sym, ap, by_cases, List, Option, none, some, ℤ, get_or, ℕ_discrete}
 use Rattle.integers.specs.Basics.{arith, eq-eqb, ne_eqb}
 use Rattle.ledger.specs.declared.order.Order.{Order}
 use Rattle.ledger.specs.Positions.{potential, of_instrument}

@@ -1,6 +1,7 @@
 -- What is kept from an opening holds the opening's roster and the derivatives market: the claim names them, and the demand of the gate
 -- takes them from what is kept.
-use Rattle.integers.specs.Basics.{ℕ, ◌≡◌, refl, ◌∙◌, sym, subst, ◌⊎◌, inl, inr, ⊎_elim, ◌↔◌, List}
+use Rattle.std.specs.Prelude.{◌≡◌, ◌⊎◌, ◌↔◌}
+use Rattle.integers.specs.Basics.{ℕ, refl, ◌∙◌, sym, subst, inl, inr, ⊎_elim, List}
 use Rattle.ledger.specs.Derivatives.{one}
 use Rattle.ledger.specs.Positions.{Scope}
 use Rattle.ledger.specs.Roster.{Roster}

@@ -1,5 +1,6 @@
 -- Document 01's listing as an instance of the demands: computed of the plain book, each conclusion drawn by a demand.
-use Rattle.integers.specs.Basics.{ℕ, ◌≤◌, ◌≡◌, refl, ◌∙◌, ap, inl, inr, true, List, [], ◌∷◌, map, ListMemᴰ, ℤ, eqb, length, take, drop}
+use Rattle.std.specs.Prelude.{◌≤◌, ◌≡◌, ◌∷◌}
+use Rattle.integers.specs.Basics.{ℕ, refl, ◌∙◌, ap, inl, inr, true, List, [], map, ListMemᴰ, ℤ, eqb, length, take, drop}
 use Rattle.integers.specs.Basics.{arith, eqb-true}
 use Rattle.words.specs.Bytes.{Bytes}
 use Rattle.ledger.specs.declared.order.Side.TheVariants.{Buy, Sell}
@@ -54,11 +55,13 @@ module _ (m : List ℕ) (bytes : Bytes m) (opens : opening_answer m listing_rost
       demand_2.group_reported (memory_at m listing_roster listing_events) 1 1 before read.0 ∙ read.1
       ∙ ap (λ k. group_in k 1 1) (state_at_lem m listing_roster bytes opens listing_events)
 
-  answered_so : answers_over (after_opening m listing_roster) (map (λ e. e.bytes) (written_all listing_events)) ≡ 0 ∷ 0 ∷ 0 ∷ 0 ∷ 23 ∷ 0 ∷ 0 ∷ 0
+  answered_so : answers_over (after_opening m listing_roster) (map (λ e. e.bytes) (written_all listing_events))
+      ≡ 0 ∷ 0 ∷ 0 ∷ 0 ∷ 23 ∷ 0 ∷ 0 ∷ 0
       ∷ []
   unfolding opened
   answered_so =
-      answers_plainly (after_opening m listing_roster) (begun derivatives (roster_from listing_roster)) (plainly m listing_roster bytes opens)
+      answers_plainly (after_opening m listing_roster) (begun derivatives (roster_from listing_roster))
+      (plainly m listing_roster bytes opens)
       (written_all listing_events)
 
   in_one_run : (room : List ℕ) → 8 ≤ length room

@@ -1,5 +1,6 @@
 -- The longer day as an instance of the demands: computed of the plain book, each conclusion drawn by a demand.
-use Rattle.integers.specs.Basics.{ℕ, ◌≤◌, ◌≡◌, refl, inl, inr, List, [], ◌∷◌, ◌++◌, pos, length, arith}
+use Rattle.std.specs.Prelude.{◌≤◌, ◌≡◌, ◌∷◌, ◌++◌}
+use Rattle.integers.specs.Basics.{ℕ, refl, inl, inr, List, [], pos, length, arith}
 use Rattle.words.specs.Bytes.{Bytes}
 use Rattle.ledger.specs.declared.order.Order.{Order}
 use Rattle.ledger.specs.declared.order.Side.TheVariants.{Buy, Sell}
@@ -33,7 +34,8 @@ module _ (m : List ℕ) (bytes : Bytes m) (opens : opening_answer m longer_roste
   day = written_all (morning ++ (put_sold_to_the_limit ∷ (afternoon ++ evening)))
 
   -- after the group's line of 100 100 is accepted, all 70 of order 9 put the group at 920,000
-  set_again : LimitSetAgain m longer_roster morning put_sold_to_the_limit (order 8 2 Sell 24) (group 1) long (pos 600000) (afternoon ++ evening)
+  set_again : LimitSetAgain m longer_roster morning put_sold_to_the_limit (order 8 2 Sell 24) (group 1) long (pos 600000)
+      (afternoon ++ evening)
   unfolding opened
   set_again =
       limit_set_again m longer_roster bytes opens morning put_sold_to_the_limit (order 8 2 Sell 24) (group 1) long (pos 600000)

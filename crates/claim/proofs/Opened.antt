@@ -1,5 +1,6 @@
 -- An opened desk is sound, and shows the beginning of the plain book.
-use Rattle.integers.specs.Basics.{ℕ, ◌+◌, ◌*◌, ◌≤◌, ◌<◌, ◌≡◌, ◌&&◌, List, eqb, length, arith, eq-eqb}
+use Rattle.std.specs.Prelude.{◌+◌, ◌*◌, ◌≤◌, ◌<◌, ◌≡◌, ◌&&◌}
+use Rattle.integers.specs.Basics.{ℕ, List, eqb, length, arith, eq-eqb}
 use Rattle.limits.specs.InBytes.{line_at, group_line_at}
 use Rattle.limits.proofs.Answers.{both_true, and_true, passed, zero_pass}
 use Rattle.book.specs.Market.{derivatives}

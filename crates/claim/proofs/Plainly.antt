@@ -1,5 +1,6 @@
 -- From a fresh desk every answer is that of the table asked of the plain book, so that a list of events written out can be computed.
-use Rattle.integers.specs.Basics.{ℕ, ◌≡◌, refl, ◌∙◌, true, List, [], ◌∷◌, ◌++◌, map}
+use Rattle.std.specs.Prelude.{◌≡◌, ◌∷◌, ◌++◌}
+use Rattle.integers.specs.Basics.{ℕ, refl, ◌∙◌, true, List, [], map}
 use Rattle.words.specs.Bytes.{Bytes}
 use Rattle.ledger.specs.Positions.{Scope}
 use Rattle.ledger.specs.Roster.{Roster}

@@ -1,5 +1,6 @@
 -- What is read of a memory that shows a book is what the book gives; and an opened desk shows the beginning of the plain book.
-use Rattle.integers.specs.Basics.{ℕ, ◌≡◌, sym, ap, true, List}
+use Rattle.std.specs.Prelude.{◌≡◌}
+use Rattle.integers.specs.Basics.{ℕ, sym, ap, true, List}
 use Rattle.words.specs.Bytes.{Bytes}
 use Rattle.limits.specs.Questions.{first_no}
 use Rattle.book.specs.Decoding.{between}

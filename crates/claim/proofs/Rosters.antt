@@ -1,5 +1,6 @@
 -- The roster that bytes say, as tables, and the questions that it is asked; all that a day computes with from its bytes on, as one name.
-use Rattle.integers.specs.Basics.{ℕ, zero, suc, ◌+◌, ◌*◌, ◌≡◌, refl, ap, fun_ext, Bool, true, false, cond, List, [], ◌∷◌, ℤ, pos, ltb}
+use Rattle.std.specs.Prelude.{◌+◌, ◌*◌, ◌≡◌, ◌∷◌}
+use Rattle.integers.specs.Basics.{ℕ, zero, suc, refl, ap, fun_ext, Bool, true, false, cond, List, [], ℤ, pos, ltb}
 use Rattle.integers.specs.Basics.{length, get_or, arith, ltb-true, ltb-false, le-leb}
 use Prim.Native.Nat.compare
 use Rattle.words.specs.Fields.{u8_at, u16_at, i32_at}
@@ -84,5 +85,6 @@ roster_questions s = q 2 (lengths_fit s) ∷ q 3 (names_fit (roster_from s)) ∷
 
 -- all that a roster and a day of bytes compute with
 unfoldable pub reads : Unit {0}
-unfolding computes roster_from tables_from listed lengths_fit roster_length sizes_fit names_fit weights_fit every roster_bytes weight_bytes i32_at
+unfolding computes roster_from tables_from listed lengths_fit roster_length sizes_fit names_fit weights_fit every roster_bytes weight_bytes
+    i32_at
 reads = tt

@@ -1,5 +1,6 @@
 -- Demand 3's list is the list that a run works; a run at an unsound desk answers 5 and writes nothing.
-use Rattle.integers.specs.Basics.{ℕ, ◌≤◌, ◌≡◌, refl, ◌∙◌, ap, List, [], ◌∷◌, ◌++◌, length, arith}
+use Rattle.std.specs.Prelude.{◌≤◌, ◌≡◌, ◌∷◌, ◌++◌}
+use Rattle.integers.specs.Basics.{ℕ, refl, ◌∙◌, ap, List, [], length, arith}
 use mathlib.Core.List.{append-nil}
 use lib.ListN.{length-append, length-map, drop_of_length-le}
 use lib.Seq.{take_at, drop_at, take_all}
@@ -28,7 +29,8 @@ cut_joined (e ∷ []) h = rw (append-nil e.bytes) (last e.bytes h.0 h.1)
 cut_joined (e ∷ f ∷ es) h =
     one_more e.bytes (concatenated (f ∷ es)) h.0 ∙ ap (λ l. e.bytes ∷ l) (cut_joined (f ∷ es) h.1)
 
-all_worked_lem : (es : List RawEvent) (room : List ℕ) → Whole es → length es ≤ length room → events_for (concatenated es) room ≡ bytes_of_each es
+all_worked_lem : (es : List RawEvent) (room : List ℕ) → Whole es → length es ≤ length room
+    → events_for (concatenated es) room ≡ bytes_of_each es
 all_worked_lem es room h space =
     rw (cut_joined es h)
     (take_all (length room) (bytes_of_each es) (omega (arith, length-map es (λ e. e.bytes))))
@@ -39,7 +41,8 @@ memory_along m [] = refl
 memory_along m (e ∷ es) = memory_along (after_event m e.bytes) es
 
 answer_behind : (m : List ℕ) (es : List RawEvent) (n : RawEvent)
-    → answers_over m (bytes_of_each (es ++ (n ∷ []))) ≡ answers_over m (bytes_of_each es) ++ (answer_to (memory_after gate m es) n.bytes ∷ [])
+    → answers_over m (bytes_of_each (es ++ (n ∷ []))) ≡ answers_over m (bytes_of_each es)
+    ++ (answer_to (memory_after gate m es) n.bytes ∷ [])
 unfolding answers_over memory_after
 answer_behind m [] n = refl
 answer_behind m (e ∷ es) n =

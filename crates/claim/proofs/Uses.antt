@@ -1,6 +1,7 @@
 -- What follows from the demands alone.
-use Rattle.integers.specs.Basics.{ℕ, ◌≤◌, ◌<◌, ◌≡◌, refl, ◌∙◌, sym, ap, ◌⊎◌, inl, inr, ⊎_elim, ◌↔◌, ◌≢◌, Bool, true, false, not, ◌&&◌}
-use Rattle.integers.specs.Basics.{cond, List, [], ◌∷◌, ◌++◌, ListMemᴰ, ListMemᴰ_head, ListMemᴰ_tail, leb, eqb, length, get_or, arith}
+use Rattle.std.specs.Prelude.{◌≤◌, ◌<◌, ◌≡◌, ◌⊎◌, ◌↔◌, ◌≢◌, ◌&&◌, ◌∷◌, ◌++◌}
+use Rattle.integers.specs.Basics.{ℕ, refl, ◌∙◌, sym, ap, inl, inr, ⊎_elim, Bool, true, false, not}
+use Rattle.integers.specs.Basics.{cond, List, [], ListMemᴰ, ListMemᴰ_head, ListMemᴰ_tail, leb, eqb, length, get_or, arith}
 use Rattle.integers.specs.Basics.{not-true, leb-true, eqb-false, lt-leb}
 use Rattle.limits.specs.Lines.{is_set}
 use Rattle.limits.specs.Questions.{Question, first_no, all_pass, numbers_of}
@@ -29,6 +30,7 @@ all_of test [] = true
 all_of test (k ∷ ks) = test k && all_of test ks
 
 pub listed_passes : {A : Type 0} (test : A → Bool) (n : A) (ns : List A) → ListMemᴰ n ns → all_of test ns ≡ true → test n ≡ true
+listed_passes test n [] x h = elim x [ ]
 listed_passes test n (k ∷ ks) (ListMemᴰ_head e) h = ap test e ∙ (both_true (test k) (all_of test ks) h).0
 listed_passes test n (k ∷ ks) (ListMemᴰ_tail m) h = listed_passes test n ks m (both_true (test k) (all_of test ks) h).1
 
@@ -79,6 +81,7 @@ asked_there [] x behind = ListMemᴰ_head refl
 asked_there (y ∷ before) x behind = ListMemᴰ_tail (asked_there before x behind)
 
 number_there : (x : Question) (qs : List Question) → ListMemᴰ x qs → ListMemᴰ x.number (numbers_of qs)
+number_there x [] h = elim h [ ]
 number_there x (y ∷ qs) (ListMemᴰ_head e) = ListMemᴰ_head (ap (λ z. z.number) e)
 number_there x (y ∷ qs) (ListMemᴰ_tail m) = ListMemᴰ_tail (number_there x qs m)
 

@@ -1,9 +1,11 @@
 -- The claim: the user's three demands in the order of their words, each with its whole type. m is a memory, s the bytes of a roster and e
 -- those of an event: any lists of numbers, of any length. The contracts of the exported functions (include/exported.txt) say that the code
--- computes the functions named here: opening_answer and after_opening (desk_open), answer_to and after_event (desk_event), instrument_answer,
--- group_answer, their reports and `reported` (the readers), and answer_to and after_event along a list of events (desk_run).
-use Rattle.integers.specs.Basics.{ℕ, ◌≤◌, ◌<◌, ◌≡◌, ◌⊎◌, ◌↔◌, ◌≢◌, true, false, cond, List, [], ◌∷◌, ◌++◌, map, ListMemᴰ, some, ℤ, neg_ℤ}
-use Rattle.integers.specs.Basics.{◌+ℤ◌, ◌≤ℤ◌, ◌<ℤ◌, length, get_or, drop, replicate}
+-- computes the functions named here: opening_answer and after_opening (desk_open), answer_to and after_event (desk_event),
+-- instrument_answer, group_answer, their reports and `reported` (the readers), and answer_to and after_event along a list of events
+-- (desk_run).
+use Rattle.std.specs.Prelude.{◌≤◌, ◌<◌, ◌≡◌, ◌⊎◌, ◌↔◌, ◌≢◌, ◌∷◌, ◌++◌, ◌+ℤ◌, ◌≤ℤ◌, ◌<ℤ◌}
+use Rattle.integers.specs.Basics.{ℕ, true, false, cond, List, [], map, ListMemᴰ, some, ℤ, neg_ℤ}
+use Rattle.integers.specs.Basics.{length, get_or, drop, replicate}
 use Rattle.words.specs.Bytes.{Bytes}
 use Rattle.ledger.specs.declared.order.Order.{Order}
 use Rattle.ledger.specs.declared.order.Side.TheVariants.{Buy, Sell}

@@ -1,5 +1,6 @@
 -- Instances of the three demands, over bytes, in every memory that is long enough: document 01's listing, and a longer day with puts.
-use Rattle.integers.specs.Basics.{ℕ, ◌≤◌, ◌≡◌, List, [], ◌∷◌, ◌++◌, map, ℤ, pos, negsuc, neg_ℤ, length, take, drop, replicate}
+use Rattle.std.specs.Prelude.{◌≤◌, ◌≡◌, ◌∷◌, ◌++◌}
+use Rattle.integers.specs.Basics.{ℕ, List, [], map, ℤ, pos, negsuc, neg_ℤ, length, take, drop, replicate}
 use Rattle.words.specs.Bytes.{Bytes}
 use Rattle.ledger.specs.declared.order.Order.{Order}
 use Rattle.ledger.specs.declared.order.Side.{Side}
@@ -92,7 +93,8 @@ pub record LongerDay (m : List ℕ) : Type 0 where
   pub sold_of_group : OrderAccepted m longer_roster morning put_sold_to_the_limit (order 8 2 Sell 24) (group 1) long (pos 600000) afternoon
   pub bought_of_instrument :
       OrderAccepted m longer_roster morning put_bought_to_the_limit (order 8 2 Buy 76) (instrument 2) long (pos 100) afternoon
-  pub bought_of_group : OrderAccepted m longer_roster morning put_bought_to_the_limit (order 8 2 Buy 76) (group 1) short (pos 400000) afternoon
+  pub bought_of_group : OrderAccepted m longer_roster morning put_bought_to_the_limit (order 8 2 Buy 76) (group 1) short
+      (pos 400000) afternoon
   pub raised_of_instrument :
       OrderAccepted m longer_roster morning raised_to_the_limit (order 7 1 Buy 62) (instrument 1) long (pos 100) afternoon
   pub raised_of_group : OrderAccepted m longer_roster morning raised_to_the_limit (order 7 1 Buy 62) (group 1) long (pos 600000) afternoon
@@ -102,7 +104,8 @@ pub record LongerDay (m : List ℕ) : Type 0 where
   pub too_long_in_part : OrderRefused m longer_roster morning (buy 1 8 60) (order 8 1 Buy 60) 21
   -- after a fill, junk and a refused event: an order filled in part, raised
   pub filled_and_raised_too_far : OrderRefused m longer_roster noon raised_too_far (order_of 1 7 1 Buy 63 12) 23
-  pub filled_and_raised : OrderAccepted m longer_roster noon raised_to_the_limit (order_of 1 7 1 Buy 62 12) (group 1) long (pos 600000) afternoon
+  pub filled_and_raised : OrderAccepted m longer_roster noon raised_to_the_limit (order_of 1 7 1 Buy 62 12) (group 1) long
+      (pos 600000) afternoon
   -- after all of the day
   pub in_the_evening : OrderAccepted m longer_roster late (buy 1 9 70) (order 9 1 Buy 70) (group 1) long (pos 1000000) []
   -- under a line of its own

@@ -1,5 +1,6 @@
 -- Document 01's starred edges over bytes: the table of cases (crates/book/specs/Edges.antt), of a memory opened with its roster.
-use Rattle.integers.specs.Basics.{ℕ, ◌≤◌, ◌≡◌, List, [], ◌∷◌, ◌++◌, length}
+use Rattle.std.specs.Prelude.{◌≤◌, ◌≡◌, ◌∷◌, ◌++◌}
+use Rattle.integers.specs.Basics.{ℕ, List, [], length}
 use Rattle.words.specs.Bytes.{Bytes}
 use Rattle.book.specs.Rosters.{roster_bytes}
 use Rattle.book.specs.Edges.{Case, edge_tables, starred_edges, all_accepted}

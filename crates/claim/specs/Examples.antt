@@ -1,5 +1,6 @@
 -- What an instance of the claim shows, over bytes: the premises of a demand met, and its conclusion drawn. Lists are of events written out.
-use Rattle.integers.specs.Basics.{ℕ, ◌≡◌, ◌⊎◌, true, List, [], ◌∷◌, ◌++◌, some, ℤ, ◌≤ℤ◌, ◌<ℤ◌}
+use Rattle.std.specs.Prelude.{◌≡◌, ◌⊎◌, ◌∷◌, ◌++◌, ◌≤ℤ◌, ◌<ℤ◌}
+use Rattle.integers.specs.Basics.{ℕ, true, List, [], some, ℤ}
 use Rattle.ledger.specs.declared.order.Order.{Order}
 use Rattle.ledger.specs.Derivatives.{one}
 use Rattle.ledger.specs.Positions.{Scope, Way, position}

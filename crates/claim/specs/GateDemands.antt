@@ -1,7 +1,8 @@
 -- The three demands of the gate over bytes, by the tables' own numbers: types over the definitions that the exported functions' contracts
--- cite, opening_answer and after_opening, answer_to and after_event, instrument_answer, group_answer and what they report. Bytes are numbers, a
--- memory and an event any list of them.
-use Rattle.integers.specs.Basics.{ℕ, ◌≤◌, ◌≡◌, ◌⊎◌, ◌↔◌, ◌≢◌, true, false, List, [], ◌∷◌, ◌++◌, ℤ, neg_ℤ, ◌+ℤ◌, get_or}
+-- cite, opening_answer and after_opening, answer_to and after_event, instrument_answer, group_answer and what they report. Bytes are
+-- numbers, a memory and an event any list of them.
+use Rattle.std.specs.Prelude.{◌≤◌, ◌≡◌, ◌⊎◌, ◌↔◌, ◌≢◌, ◌∷◌, ◌++◌, ◌+ℤ◌}
+use Rattle.integers.specs.Basics.{ℕ, true, false, List, [], ℤ, neg_ℤ, get_or}
 use Rattle.words.specs.Bytes.{Bytes}
 use Rattle.ledger.specs.declared.order.Side.TheVariants.{Buy, Sell}
 use Rattle.ledger.specs.Derivatives.{one}

@@ -1,5 +1,6 @@
 -- Demand 3's list is the list that a run works.
-use Rattle.integers.specs.Basics.{ℕ, ◌≤◌, ◌≡◌, false, List, [], ◌∷◌, ◌++◌, map, length, replicate}
+use Rattle.std.specs.Prelude.{◌≤◌, ◌≡◌, ◌∷◌, ◌++◌}
+use Rattle.integers.specs.Basics.{ℕ, false, List, [], map, length, replicate}
 use Rattle.book.specs.EventLists.{RawEvent, memory_after}
 use Rattle.memory_soundness.specs.Soundness.{sound_desk}
 use Rattle.desk.specs.Step.{answer_to}
@@ -23,7 +24,8 @@ concatenated (e ∷ es) = e.bytes ++ concatenated es
 
 pub record RunIsTheList : Type 0 where
   -- with room for their answers, all are worked
-  pub worked : (es : List RawEvent) (room : List ℕ) → Whole es → length es ≤ length room → events_for (concatenated es) room ≡ bytes_of_each es
+  pub worked : (es : List RawEvent) (room : List ℕ) → Whole es → length es ≤ length room
+      → events_for (concatenated es) room ≡ bytes_of_each es
   pub memory : (m : List ℕ) (es : List RawEvent) → memory_over m (bytes_of_each es) ≡ memory_after gate m es
   -- N's answer stands behind the list's
   pub next :

@@ -1,5 +1,6 @@
 -- What follows from the demands alone, of any memory and any bytes: each of their clauses is used.
-use Rattle.integers.specs.Basics.{ℕ, ◌≤◌, ◌<◌, ◌≡◌, ◌≢◌, Bool, true, false, ◌||◌, List, [], ◌∷◌, ◌++◌, ListMemᴰ, ℤ, eqb, length, get_or}
+use Rattle.std.specs.Prelude.{◌≤◌, ◌<◌, ◌≡◌, ◌≢◌, ◌||◌, ◌∷◌, ◌++◌}
+use Rattle.integers.specs.Basics.{ℕ, Bool, true, false, List, [], ListMemᴰ, ℤ, eqb, length, get_or}
 use Rattle.words.specs.Bytes.{Bytes}
 use Rattle.limits.specs.Questions.{first_no}
 use Rattle.book.specs.declared.Event.TheVariants.{Junk}

@@ -1,1 +1,2 @@
 // The claim, in specs/, and its proofs. There is no code.
+#![tactic(auto)]

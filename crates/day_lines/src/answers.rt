@@ -2,7 +2,8 @@
 // the tens, are made once for the ten.
 ghost use Rattle.std.specs.Prelude.{◌+◌, ◌-◌, ◌<◌, ◌≤◌, ◌≡◌, length};
 
-use crate::output::{FAILED, flush};
+use crate::output::{FAILED, flush, put_digits};
+use std::io::Write;
 
 // The events of a block, each of which has an answer.
 pub const BLOCK_EVENTS: usize = 1024;
@@ -92,7 +93,8 @@ fn put_line(
 }
 
 // Adds such a line, once there is room for it.
-fn answer_line(
+fn answer_line<W: Write>(
+    out: &mut W,
     buf: &mut [u8],
     used: usize,
     tens: &[u8; 20],
@@ -104,7 +106,7 @@ fn answer_line(
 {
     let mut at = used;
     if free(buf, at) < LINE {
-        at = flush(buf, at);
+        at = flush(out, buf, at);
     }
     if free(buf, at) < LINE {
         return FAILED;
@@ -119,11 +121,12 @@ fn tens_of(place: u64, tens: &mut [u8; 20]) -> usize
     if place < 10 {
         return 0;
     }
-    io::decimal(place / 10, tens)
+    put_digits(tens, place / 10)
 }
 
 // The lines of the first `count` answers, `before` events having come before theirs.
-pub fn answer_lines(
+pub fn answer_lines<W: Write>(
+    out: &mut W,
     buf: &mut [u8],
     used: usize,
     answers: &[u8; BLOCK_EVENTS],
@@ -143,7 +146,7 @@ pub fn answer_lines(
         if place % 10 == 0 {
             digits = tens_of(place, &mut tens);
         }
-        at = answer_line(buf, at, &tens, digits, place, answers[k]);
+        at = answer_line(out, buf, at, &tens, digits, place, answers[k]);
     }
     at
 }

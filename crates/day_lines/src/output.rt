@@ -1,14 +1,18 @@
 // Lines for standard output, gathered in a buffer. `used` is how many bytes of it wait to be written, or FAILED where reading or writing
 // failed: then nothing more is added or written, and FAILED comes back.
+ghost use Rattle.std.specs.Prelude.{◌≡◌, ◌≤◌, take, decimal};
+
+use itoa::Buffer;
+use std::io::Write;
 use words::signed::bits64;
 
 // More than any buffer holds.
 pub const FAILED: usize = 18446744073709551615;
 
 // Writes what waits: 0, or FAILED.
-pub fn flush(buf: &[u8], used: usize) -> usize {
+pub fn flush<W: Write>(out: &mut W, buf: &[u8], used: usize) -> usize {
     if used <= buf.len() {
-        if io::write_all(1, &buf[0..used]) {
+        if out.write_all(&buf[0..used]).is_ok() {
             0
         } else {
             FAILED
@@ -19,10 +23,10 @@ pub fn flush(buf: &[u8], used: usize) -> usize {
 }
 
 // Adds a byte.
-fn put(buf: &mut [u8], used: usize, byte: u8) -> usize {
+fn put<W: Write>(out: &mut W, buf: &mut [u8], used: usize, byte: u8) -> usize {
     let mut at = used;
     if at == buf.len() {
-        at = flush(buf, at);
+        at = flush(out, buf, at);
     }
     if at < buf.len() {
         buf[at] = byte;
@@ -33,38 +37,57 @@ fn put(buf: &mut [u8], used: usize, byte: u8) -> usize {
 }
 
 // Adds the bytes of `text`.
-pub fn put_all(buf: &mut [u8], used: usize, text: &[u8]) -> usize {
+pub fn put_all<W: Write>(out: &mut W, buf: &mut [u8], used: usize, text: &[u8]) -> usize {
     let mut at = used;
     for k in 0..text.len() {
-        at = put(buf, at, text[k]);
+        at = put(out, buf, at, text[k]);
     }
     at
 }
 
+// Puts the digits of a number in decimal at the start of `text`: how many they are.
+pub fn put_digits(text: &mut [u8; 20], n: u64) -> usize
+    ensures within { result ≤ 20 }
+    ensures digits { take result text.new ≡ decimal n }
+{
+    let mut buffer = Buffer::new();
+    let digits = buffer.format(n).as_bytes();
+    let count = digits.len();
+    text[..count].copy_from_slice(digits);
+    count
+}
+
 // Adds a number in decimal.
-pub fn put_number(buf: &mut [u8], used: usize, n: u64) -> usize {
+pub fn put_number<W: Write>(out: &mut W, buf: &mut [u8], used: usize, n: u64) -> usize {
     let mut text = [0u8; 20];
-    let length = io::decimal(n, &mut text);
-    put_all(buf, used, &text[..length])
+    let length = put_digits(&mut text, n);
+    put_all(out, buf, used, &text[..length])
 }
 
 // Adds a space and a signed number. A negative one has its highest bit set, and its bits are 2 to the 64th less its magnitude.
-pub fn put_signed(buf: &mut [u8], used: usize, z: i64) -> usize {
+pub fn put_signed<W: Write>(out: &mut W, buf: &mut [u8], used: usize, z: i64) -> usize {
     let bits = bits64(z);
     if bits < 9223372036854775808 {
-        let at = put(buf, used, b' ');
-        put_number(buf, at, bits)
+        let at = put(out, buf, used, b' ');
+        put_number(out, buf, at, bits)
     } else {
-        let at = put_all(buf, used, b" -");
-        put_number(buf, at, 18446744073709551615 - bits + 1)
+        let at = put_all(out, buf, used, b" -");
+        put_number(out, buf, at, 18446744073709551615 - bits + 1)
     }
 }
 
 // Adds a letter and two numbers, with spaces between.
-pub fn put_head(buf: &mut [u8], used: usize, letter: u8, a: u64, b: u64) -> usize {
-    let mut at = put(buf, used, letter);
-    at = put(buf, at, b' ');
-    at = put_number(buf, at, a);
-    at = put(buf, at, b' ');
-    put_number(buf, at, b)
+pub fn put_head<W: Write>(
+    out: &mut W,
+    buf: &mut [u8],
+    used: usize,
+    letter: u8,
+    a: u64,
+    b: u64,
+) -> usize {
+    let mut at = put(out, buf, used, letter);
+    at = put(out, buf, at, b' ');
+    at = put_number(out, buf, at, a);
+    at = put(out, buf, at, b' ');
+    put_number(out, buf, at, b)
 }

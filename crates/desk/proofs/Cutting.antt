@@ -1,5 +1,6 @@
 -- Bytes cut into events.
-use Rattle.integers.specs.Basics.{ℕ, zero, suc, ◌+◌, ◌-◌, ◌≤◌, ◌<◌, ◌≡◌, refl, ◌∙◌, sym, ap, List, [], ◌∷◌, length, take, drop, arith}
+use Rattle.std.specs.Prelude.{◌+◌, ◌-◌, ◌≤◌, ◌<◌, ◌≡◌, ◌∷◌}
+use Rattle.integers.specs.Basics.{ℕ, zero, suc, refl, ◌∙◌, sym, ap, List, [], length, take, drop, arith}
 use lib.ListN.{length-take, length-drop}
 use lib.Seq.{take_all, drop-drop}
 use Rattle.desk.specs.Run.{cut_in, cut}

@@ -1,6 +1,7 @@
 -- An event at a desk: a refusal leaves the memory, an acceptance works it and tells that the desk is sound; on a sound desk the answer
 -- is the judge's.
-use Rattle.integers.specs.Basics.{ℕ, ◌≡◌, refl, ◌≢◌, Bool, true, false, List, arith, eq-eqb, ne_eqb}
+use Rattle.std.specs.Prelude.{◌≡◌, ◌≢◌}
+use Rattle.integers.specs.Basics.{ℕ, refl, Bool, true, false, List, arith, eq-eqb, ne_eqb}
 use Rattle.limits.specs.Questions.{first_no}
 use Rattle.book.specs.Decoding.{decode}
 use Rattle.book.specs.Table.{questions}

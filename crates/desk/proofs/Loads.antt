@@ -1,5 +1,6 @@
 -- A load as its LIMIT events: where every entry passes 7, 8 and 9, each event is accepted in its turn, and the memory is the same.
-use Rattle.integers.specs.Basics.{ℕ, ◌≤◌, ◌<◌, ◌≡◌, refl, ◌∙◌, sym, ap, Bool, true, false, List, [], ◌∷◌, ◌++◌, ◌⊎◌, inl, inr, ⊎_elim}
+use Rattle.std.specs.Prelude.{◌≤◌, ◌<◌, ◌≡◌, ◌∷◌, ◌++◌, ◌⊎◌}
+use Rattle.integers.specs.Basics.{ℕ, refl, ◌∙◌, sym, ap, Bool, true, false, List, [], inl, inr, ⊎_elim}
 use Rattle.integers.specs.Basics.{Option, none, some, false≢true, leb, length, replicate, arith, leb-true}
 use Rattle.words.specs.Bytes.{Bytes}
 use Rattle.limits.specs.Questions.{first_no}
@@ -110,7 +111,8 @@ entry_then : (m : List ℕ) → Bytes m → SoundMemory m → (e : Entry) → fi
     → (limits : List (List ℕ)) (events : List Event)
     → ((n : List ℕ) → Bytes n → SoundMemory n → market_of n ≡ market_of m → roster_of n ≡ roster_of m → OneByOne n limits events)
     → (x : Option LimitLine) → entry_line e ≡ x
-    → OneByOne m (where_limited limit_bytes (entry_account e) x ++ limits) (where_limited (λ a l. Set (Limit a l)) (entry_account e) x ++ events)
+    → OneByOne m (where_limited limit_bytes (entry_account e) x ++ limits)
+    (where_limited (λ a l. Set (Limit a l)) (entry_account e) x ++ events)
 unfolding memory_over answers_over all_worked
 entry_then m bytes held e asked limits events rest none is = rest m bytes held refl refl
 entry_then m bytes held e asked limits events rest (some l) is =

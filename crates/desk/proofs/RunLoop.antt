@@ -1,5 +1,6 @@
 -- A run's loop: what is left to answer, from the memory and the room as they stand, is what the whole run answers.
-use Rattle.integers.specs.Basics.{ℕ, suc, ◌+◌, ◌-◌, ◌≤◌, ◌<◌, ◌≡◌, refl, ◌∙◌, ap, List, [], ◌∷◌, length, set, take, drop, length-set, arith}
+use Rattle.std.specs.Prelude.{◌+◌, ◌-◌, ◌≤◌, ◌<◌, ◌≡◌, ◌∷◌}
+use Rattle.integers.specs.Basics.{ℕ, suc, refl, ◌∙◌, ap, List, [], length, set, take, drop, length-set, arith}
 use native.Mathlib.Numerals.{add-one}
 use lib.ListN.{length-take, length-drop, drop_of_length-le}
 use lib.Seq.{take-nil, sets, sets-eq}
@@ -47,8 +48,9 @@ module _ (first events room : List ℕ) where
 
   module _ (m answers : List ℕ) (at count : ℕ) (r : Running first events room m answers at count) where
     -- one event more
-    pub turns : (e after_e : List ℕ) (a : ℕ) → at < length events → count < length answers → e ≡ take 48 (drop at events) → a ≡ answer_to m e
-        → after_e ≡ after_event m e → Running first events room after_e (set answers count a) (at + length e) (count + 1)
+    pub turns : (e after_e : List ℕ) (a : ℕ) → at < length events → count < length answers → e ≡ take 48 (drop at events)
+        → a ≡ answer_to m e → after_e ≡ after_event m e → Running first events room after_e (set answers count a) (at + length e)
+        (count + 1)
     unfolding memory_over answers_over
     turns e after_e a more space is told worked =
         let next : left events room at count ≡ e ∷ left events room (at + length e) (count + 1) =

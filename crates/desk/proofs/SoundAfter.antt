@@ -1,5 +1,6 @@
 -- An event leaves a desk as sound as it was, so question 5 has one answer along a run.
-use Rattle.integers.specs.Basics.{ℕ, ◌≡◌, refl, ◌∙◌, sym, Bool, true, false, List, ℕ_discrete}
+use Rattle.std.specs.Prelude.{◌≡◌}
+use Rattle.integers.specs.Basics.{ℕ, refl, ◌∙◌, sym, Bool, true, false, List, ℕ_discrete}
 use Rattle.words.specs.Bytes.{Bytes}
 use Rattle.book.specs.Decoding.{decode}
 use Rattle.book.proofs.Decoded.{decoded_id}

@@ -1,5 +1,6 @@
 -- What a step on a sound desk answers and leaves.
-use Rattle.integers.specs.Basics.{ℕ, ◌≡◌, ◌∙◌, sym, ◌≢◌, true, false, List, arith, eq-eqb, ne_eqb}
+use Rattle.std.specs.Prelude.{◌≡◌, ◌≢◌}
+use Rattle.integers.specs.Basics.{ℕ, ◌∙◌, sym, true, false, List, arith, eq-eqb, ne_eqb}
 use Rattle.book.specs.declared.Event.{Event}
 use Rattle.limits.specs.declared.answer.Answer.{Answer}
 use Rattle.limits.specs.declared.answer.Answer.TheVariants.{Accepted}

@@ -1,5 +1,6 @@
 -- A day at a desk: what it answers to a list of events one after the other, and the memory at the end.
-use Rattle.integers.specs.Basics.{ℕ, List, [], ◌∷◌}
+use Rattle.std.specs.Prelude.{◌∷◌}
+use Rattle.integers.specs.Basics.{ℕ, List, []}
 use Rattle.desk.specs.Step.{answer_to, after_event}
 
 unfoldable pub answers_over : List ℕ → List (List ℕ) → List ℕ

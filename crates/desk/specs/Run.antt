@@ -1,5 +1,6 @@
 -- Many events in one call: the bytes cut into events, and what the room for answers takes of them.
-use Rattle.integers.specs.Basics.{ℕ, zero, suc, List, [], ◌∷◌, ◌++◌, length, take, drop}
+use Rattle.std.specs.Prelude.{◌∷◌, ◌++◌}
+use Rattle.integers.specs.Basics.{ℕ, zero, suc, List, [], length, take, drop}
 use Rattle.desk.specs.Days.{answers_over}
 
 -- at most n events: the first 48 bytes, then those of the rest; the last may be short

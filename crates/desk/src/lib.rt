@@ -1,5 +1,7 @@
-// The desk in its lent memory: the exported functions, and the step of an event on a sound desk. Every answer is 0 or the number of
-// the question that is answered no.
+// The desk in its lent memory: the functions that desk_c exports, and the step of an event on a sound desk. Every answer is 0 or the
+// number of the question that is answered no.
+#![tactic(auto)]
+
 pub mod run;
 pub mod step;
 
@@ -16,8 +18,7 @@ use memory_reading::{read_group, read_instrument};
 use memory_soundness::is_sound;
 
 // Opens a desk in `m` from the roster's bytes.
-#[unsafe(no_mangle)]
-pub extern "C" fn desk_open(m: &mut [u8], roster: &[u8]) -> u8
+pub fn desk_open(m: &mut [u8], roster: &[u8]) -> u8
     ensures answer { result ≡ opening_answer m.old roster.now }
     ensures memory { m.new ≡ after_opening m.old roster.now }
 {
@@ -25,8 +26,7 @@ pub extern "C" fn desk_open(m: &mut [u8], roster: &[u8]) -> u8
 }
 
 // Answers an event, and works it where it is accepted.
-#[unsafe(no_mangle)]
-pub extern "C" fn desk_event(m: &mut [u8], event: &[u8]) -> u8
+pub fn desk_event(m: &mut [u8], event: &[u8]) -> u8
     ensures answer { result ≡ answer_to m.old event.now }
     ensures memory { m.new ≡ after_event m.old event.now }
 {
@@ -36,8 +36,7 @@ pub extern "C" fn desk_event(m: &mut [u8], event: &[u8]) -> u8
 }
 
 // Reads S, PCI and PVI of an account and instrument.
-#[unsafe(no_mangle)]
-pub extern "C" fn desk_instrument_position(
+pub fn desk_instrument_position(
     m: &[u8],
     account: u16,
     instrument: u16,
@@ -51,13 +50,7 @@ pub extern "C" fn desk_instrument_position(
 }
 
 // Reads PCC and PVC of an account and group, in ten-thousandths.
-#[unsafe(no_mangle)]
-pub extern "C" fn desk_group_position(
-    m: &[u8],
-    account: u16,
-    group: u16,
-    report: &mut [i64; 2],
-) -> u8
+pub fn desk_group_position(m: &[u8], account: u16, group: u16, report: &mut [i64; 2]) -> u8
     ensures answer { result ≡ group_answer m.now account group }
     ensures report { report.new ≡ reported (group_answer m.now account group)
         (group_report m.now account group) report.old }

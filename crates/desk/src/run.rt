@@ -41,8 +41,7 @@ pub fn answer_next(m: &mut [u8], cells: &mut [u64], event: &[u8], sound: bool) -
 }
 
 // Answers the events, a byte for each, until they or the room for answers end. Returns how many.
-#[unsafe(no_mangle)]
-pub extern "C" fn desk_run(m: &mut [u8], events: &[u8], answers: &mut [u8]) -> usize
+pub fn desk_run(m: &mut [u8], events: &[u8], answers: &mut [u8]) -> usize
     ensures count { result ≡ length (events_for events.now answers.old) }
     ensures memory { m.new ≡ memory_over m.old (events_for events.now answers.old) }
     ensures answers { answers.new ≡ answered m.old events.now answers.old }
