@@ -1,4 +1,5 @@
-//! Compiles the C baselines, and links them and the archive that `rt staticlib desk` wrote.
+//! Compiles the C baselines, and links them and the archive of the crate desk_c, which `.ci/build` or the gate puts at
+//! target/staticlib/libdesk.a.
 
 use std::env;
 use std::path::{Path, PathBuf};

@@ -9,7 +9,7 @@
  * call do not overlap; nothing else writes them during the call; and the stack has room: desk_instrument_position takes
  * 22 KB, the others at most 18 KB, and what the linked memmove takes.
  *
- * Link with libdesk.a (rt staticlib desk), for x86-64. It calls memcpy, memmove and memset, and no other function. The
+ * Link with libdesk.a (.ci/build makes it), for x86-64. It calls memcpy, memmove and memset, and no other function. The
  * prototypes below are compared with the proved functions by .ci/exported. */
 #ifndef DESK_H
 #define DESK_H

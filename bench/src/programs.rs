@@ -13,7 +13,7 @@ use crate::day::Day;
 /// The C program that the build made.
 pub const BASELINE: &str = env!("BASELINE_DAY");
 
-/// The program that `rt check day` linked.
+/// The proved program, which `.ci/build` or the gate put there.
 pub const PROVED: &str = concat!(env!("CARGO_MANIFEST_DIR"), "/../target/bin/day");
 
 /// A day's bytes in a file, which goes when this does.

@@ -1,4 +1,4 @@
-//! Links the archive that `rt staticlib` wrote.
+//! Links the archive of the crate desk_c, which `.ci/build` or the gate puts at target/staticlib/libdesk.a.
 
 use std::path::Path;
 

@@ -15,12 +15,12 @@ pub struct Written {
     pub errors: Vec<u8>,
 }
 
-/// The program that `rt` linked.
+/// The program that `.ci/build` or the gate put there.
 pub fn program() -> PathBuf {
     let path = Path::new(env!("CARGO_MANIFEST_DIR")).join("../../target/bin/day");
     assert!(
         path.exists(),
-        "{} is not there: run rt check day",
+        "{} is not there: run .ci/build",
         path.display()
     );
     path
