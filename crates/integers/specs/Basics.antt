@@ -9,7 +9,7 @@ pub use mathlib.Core.List.Memᴰ.{head as ListMemᴰ_head}
 pub use mathlib.Core.List.Memᴰ.{not-nil as ListMemᴰ_not_nil}
 pub use mathlib.Core.List.Memᴰ.{tail as ListMemᴰ_tail}
 pub use mathlib.Core.List.{List, [], ◌∷◌, ◌++◌, map, Memᴰ as ListMemᴰ}
-pub use Rattle.std.proofs.Math.Option.{Option, none, some}
+pub use Rattle.std.specs.Prelude.{Option, None, Some}
 pub use Rattle.std.proofs.Math.IntN.{+ℤ_idl, +ℤ_idr}
 pub use Rattle.std.specs.Int.Signed.{le_z, lt_z, mag, non_neg}
 pub use Rattle.std.specs.Int.{w32, w64}

@@ -18,3 +18,4 @@ pub mod Formulas
 pub mod Examples
 pub mod Packing
 pub mod Details
+pub mod RecordLists

@@ -1,9 +1,7 @@
 -- The search from record p on: what a turn of it finds, which records it may leave out, and what it says of the place that it answers.
 use Rattle.std.specs.Prelude.{◌+◌, ◌-◌, ◌≤◌, ◌<◌, ◌≡◌, ◌≢◌}
-use Rattle.integers.specs.Basics.{ℕ, zero, suc, refl, ◌∙◌, sym, ap, by_cases, cond, List, eqb, ℕ_discrete}
+use Rattle.integers.specs.Basics.{ℕ, zero, suc, refl, ◌∙◌, sym, ap, by_cases, cond, List, Option, None, Some, eqb, ℕ_discrete}
 use Rattle.integers.specs.Basics.{arith, eq-eqb, ne_eqb}
-use Rattle.ledger.specs.declared.find.Found.{Found}
-use Rattle.ledger.specs.declared.find.Found.TheVariants.{At, Nothing}
 use Rattle.ledger.specs.Orders.{place_from}
 use Rattle.ledger.specs.Records.{order_at, orders_from}
 
@@ -13,10 +11,10 @@ NotIn m id p q = (k : ℕ) → p ≤ k → k < q → (order_at m k).id ≢ id
 
 module _ (m : List ℕ) (n id : ℕ) where
   -- the first place from p on and before n
-  unfoldable pub seek : ℕ → Found
+  unfoldable pub seek : ℕ → Option ℕ
   seek p = place_from p id (orders_from m p (n - p))
 
-  turn : (p : ℕ) → p < n → seek p ≡ cond (eqb (order_at m p).id id) (At p) (seek (p + 1))
+  turn : (p : ℕ) → p < n → seek p ≡ cond (eqb (order_at m p).id id) (Some p) (seek (p + 1))
   unfolding seek place_from orders_from
   turn p h =
       let e : n - p ≡ suc (n - (p + 1)) = omega arith in
@@ -26,13 +24,13 @@ module _ (m : List ℕ) (n id : ℕ) where
   unfolding seek
   seek_all = let e : n - 0 ≡ n = omega arith in rw e
 
-  pub seek_end : (p : ℕ) → p ≡ n → seek p ≡ Nothing
+  pub seek_end : (p : ℕ) → p ≡ n → seek p ≡ None
   unfolding seek place_from orders_from
   seek_end p h = let e : n - p ≡ 0 = omega arith in rw e
 
   -- x is the id of record p
   module _ (p x : ℕ) (h : p < n) (read : x ≡ (order_at m p).id) where
-    pub seek_here : x ≡ id → seek p ≡ At p
+    pub seek_here : x ≡ id → seek p ≡ Some p
     seek_here same = turn p h ∙ simp (eq-eqb (order_at m p).id id (sym read ∙ same))
 
     pub seek_on : x ≢ id → seek p ≡ seek (p + 1)
@@ -47,7 +45,7 @@ module _ (m : List ℕ) (n id : ℕ) where
       ∙ passed k (p + 1) (omega arith) (λ q low high. none q (omega arith) (omega arith))
       ∙ ap seek e
 
-  pub seek_nowhere : (p : ℕ) → p ≤ n → NotIn m id p n → seek p ≡ Nothing
+  pub seek_nowhere : (p : ℕ) → p ≤ n → NotIn m id p n → seek p ≡ None
   seek_nowhere p h none =
       let e : p + (n - p) ≡ n = omega arith in
       passed (n - p) p (omega arith) (λ q low high. none q low (omega arith)) ∙ seek_end (p + (n - p)) e
@@ -73,7 +71,7 @@ module _ (m : List ℕ) (id n to : ℕ) (inside : to ≤ n) (after : NotIn m id 
 
 -- ---- what a caller learns
 module _ (m : List ℕ) (id : ℕ) where
-  from_place : (n q p : ℕ) → place_from q id (orders_from m q n) ≡ At p → (p < q + n) × ((order_at m p).id ≡ id)
+  from_place : (n q p : ℕ) → place_from q id (orders_from m q n) ≡ Some p → (p < q + n) × ((order_at m p).id ≡ id)
   unfolding place_from orders_from
   from_place zero q p e = let z : ◌≡◌ {A = ℕ} 0 1 = cc in absurd (omega arith)
   from_place (suc n) q p e =
@@ -82,7 +80,7 @@ module _ (m : List ℕ) (id : ℕ) where
       (λ other. let found = from_place n (q + 1) p (simp (ne_eqb (order_at m q).id id other) at e) in (omega arith, found.1))
 
   -- the place is one of the n, and its order has the id
-  pub found_place : (n p : ℕ) → place_from 0 id (orders_from m 0 n) ≡ At p → (p < n) × ((order_at m p).id ≡ id)
+  pub found_place : (n p : ℕ) → place_from 0 id (orders_from m 0 n) ≡ Some p → (p < n) × ((order_at m p).id ≡ id)
   found_place n p e =
       let found = from_place n 0 p e in
       (omega arith, found.1)

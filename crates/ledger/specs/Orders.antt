@@ -1,9 +1,7 @@
 -- An order: what remains of it, what a fill and a replace make of it, when it closes, and how it is found.
 use Rattle.std.specs.Prelude.{◌+◌, ◌-◌, ◌∷◌}
-use Rattle.integers.specs.Basics.{ℕ, Bool, cond, List, [], eqb}
+use Rattle.integers.specs.Basics.{ℕ, Bool, cond, List, [], Option, None, Some, eqb}
 use Rattle.ledger.specs.declared.order.Order.{Order}
-use Rattle.ledger.specs.declared.find.Found.{Found}
-use Rattle.ledger.specs.declared.find.Found.TheVariants.{At, Nothing}
 
 -- what remains: total less filled
 unfoldable pub remaining : Order → ℕ
@@ -24,6 +22,6 @@ unfoldable pub closes : Order → Bool
 closes o = eqb (remaining o) 0
 
 -- the place of the first order with that id, in a list whose first order has place p
-unfoldable pub place_from : ℕ → ℕ → List Order → Found
-place_from p id [] = Nothing
-place_from p id (o ∷ os) = cond (eqb o.id id) (At p) (place_from (p + 1) id os)
+unfoldable pub place_from : ℕ → ℕ → List Order → Option ℕ
+place_from p id [] = None
+place_from p id (o ∷ os) = cond (eqb o.id id) (Some p) (place_from (p + 1) id os)

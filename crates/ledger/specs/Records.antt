@@ -1,6 +1,6 @@
 -- Orders as flat records in lent bytes, two words each; balances; and a roster of 76 words.
 use Rattle.std.specs.Prelude.{◌+◌, ◌*◌, ◌-◌, ◌/◌, ◌%◌, ◌≤◌, ◌<◌, ◌∷◌}
-use Rattle.integers.specs.Basics.{ℕ, zero, suc, cond, List, [], ℤ, eqb}
+use Rattle.integers.specs.Basics.{ℕ, zero, suc, cond, List, [], ℤ, eqb, map}
 use Rattle.words.specs.Words.{word_at, signed_at, part_of}
 use Rattle.ledger.specs.declared.order.Order.{Order}
 use Rattle.ledger.specs.declared.order.Side.{Side}
@@ -89,6 +89,10 @@ order_at m p = order_of (id_at m p) (detail_at m p)
 unfoldable pub orders_from : List ℕ → ℕ → ℕ → List Order
 orders_from m p zero = []
 orders_from m p (suc n) = order_at m p ∷ orders_from m (p + 1) n
+
+-- the orders in records of 16 bytes, one after the other
+unfoldable pub orders_of : List (List ℕ) → List Order
+orders_of records = map (λ r. order_at r 0) records
 
 -- the balances: word i is that of instrument i, signed
 abbrev pub balances_in : List ℕ → ℕ → ℤ

@@ -1,6 +1,6 @@
 -- The cells in which B and V are gathered, order by order: of one account, or of each account in a row of its own.
 use Rattle.std.specs.Prelude.{◌+◌, ◌≤◌, ◌<◌, ◌≡◌, ◌≢◌, ◌+ℤ◌}
-use Rattle.integers.specs.Basics.{ℕ, zero, suc, refl, ◌∙◌, sym, ap, true, cond, List, pos, +ℤ_idl, eqb}
+use Rattle.integers.specs.Basics.{ℕ, zero, suc, refl, ◌∙◌, sym, ap, true, cond, List, [], pos, +ℤ_idl, eqb}
 use Rattle.integers.specs.Basics.{length, get_or, replicate, length-set, ℕ_discrete, arith, eq-eqb, ne_eqb}
 use lib.Seq.{get_or-set_same, get_or-set_other}
 use Rattle.ledger.specs.declared.order.Order.{Order}
@@ -9,8 +9,10 @@ use Rattle.ledger.specs.declared.order.Side.TheVariants.{Buy, Sell}
 use Rattle.ledger.specs.Orders.{remaining}
 use Rattle.ledger.specs.Roster.{Numbered}
 use Rattle.ledger.specs.Positions.{same_side}
-use Rattle.ledger.specs.Records.{packed_side, packed_account, packed_instrument, detail_remaining, id_at, detail_at, order_of, order_at, orders_from}
+use Rattle.ledger.specs.Records.{packed_side, packed_account, packed_instrument, detail_remaining, id_at, detail_at, order_of}
+use Rattle.ledger.specs.Records.{order_at, orders_of}
 use Rattle.ledger.proofs.Details.{remaining_of, order_of_lem}
+use Rattle.ledger.proofs.RecordLists.{length_orders, order_in_record}
 use Rattle.ledger.specs.Derivatives.{counted}
 use Rattle.positions.specs.Gathered.{cell, added, Gathered}
 use Rattle.positions.specs.Bounds.{GatherBounds}
@@ -134,39 +136,45 @@ module _ (of : ℕ → Type 0) (first : ℕ → ℕ) (cells : List ℕ) (o : Ord
       by (no apart) =
           added_other cells j n (first a + cell s i) apart ∙ omega (arith, adds.elsewhere s a i h l apart)
 
--- ---- the records below p of n: what is gathered and what is left make the whole
-pub record Passed (of : ℕ → Type 0) (first : ℕ → ℕ) (m : List ℕ) (n : ℕ) (cells : List ℕ) (p : ℕ) : Type 0 where
-  pub sums : (s : Side) (a i : ℕ) → of a → Numbered 32 i → pos (get_or cells (first a + cell s i) 0) +ℤ left m n s a i p ≡ left m n s a i 0
+-- ---- the orders below p: what is gathered and what is left make the whole
+pub record Passed (of : ℕ → Type 0) (first : ℕ → ℕ) (os : List Order) (cells : List ℕ) (p : ℕ) : Type 0 where
+  pub sums : (s : Side) (a i : ℕ) → of a → Numbered 32 i → pos (get_or cells (first a + cell s i) 0) +ℤ left os s a i p ≡ left os s a i 0
 
-module _ (of : ℕ → Type 0) (first : ℕ → ℕ) (m : List ℕ) (n : ℕ) (cells : List ℕ) where
-  pub passed_none : ((j : ℕ) → get_or cells j 0 ≡ 0) → Passed of first m n cells 0
-  passed_none empty = record { sums = λ s a i h l. rw (empty (first a + cell s i)) (+ℤ_idl (left m n s a i 0)) }
+module _ (of : ℕ → Type 0) (first : ℕ → ℕ) (os : List Order) (cells : List ℕ) where
+  pub passed_none : ((j : ℕ) → get_or cells j 0 ≡ 0) → Passed of first os cells 0
+  passed_none empty = record { sums = λ s a i h l. rw (empty (first a + cell s i)) (+ℤ_idl (left os s a i 0)) }
 
-  module _ (p : ℕ) (past : Passed of first m n cells p) where
-    pub passed_all : n ≤ p → (a : ℕ) → of a → Gathered cells (first a) (orders_from m 0 n) a
+  module _ (p : ℕ) (past : Passed of first os cells p) where
+    pub passed_all : length os ≤ p → (a : ℕ) → of a → Gathered cells (first a) os a
     passed_all h a on =
-        record { sums = λ s i l. counted_all m n s a i (get_or cells (first a + cell s i) 0) p h (past.sums s a i on l) }
+        record { sums = λ s i l. counted_all os s a i (get_or cells (first a + cell s i) 0) p h (past.sums s a i on l) }
 
     -- the next order
-    module _ (o : Order) (here : o ≡ order_at m p) (h : p < n) where
+    module _ (o : Order) (here : get_or os p o ≡ o) (h : p < length os) where
       pub passed_more : (j r : ℕ) → Adds of first o j r → j < length cells → (cells' : List ℕ) → cells' ≡ added cells j r →
-          Passed of first m n cells' (p + 1)
+          Passed of first os cells' (p + 1)
       passed_more j r adds inside cells' e =
           record {
             sums = λ s a i k l. rw (e, added_at of first cells o j r adds inside s a i k l)
-                (counted_more m n s a i (get_or cells (first a + cell s i) 0) p (counted o s a i) o h here refl (past.sums s a i k l));
+                (counted_more os s a i (get_or cells (first a + cell s i) 0) p (counted o s a i) o h here refl (past.sums s a i k l));
           }
 
 -- ---- the cells of account a alone
-abbrev pub PassedOf : List ℕ → ℕ → ℕ → List ℕ → ℕ → Type 0
-PassedOf m n a = Passed (λ b. b ≡ a) (λ b. 0) m n
+abbrev pub PassedOf : List (List ℕ) → ℕ → List ℕ → ℕ → Type 0
+PassedOf records a = Passed (λ b. b ≡ a) (λ b. 0) (orders_of records)
 
 -- the next detail: w is that of record p, r what remains for the account
-module _ (m : List ℕ) (n a : ℕ) (cells : List ℕ) (p : ℕ) (size : length cells ≡ 65) (past : PassedOf m n a cells p)
-    (bounds : GatherBounds m n a) (h : p < n) (w : ℕ) (is_detail : w ≡ detail_at m p) (r : ℕ)
-    (rest : r ≡ cond (eqb (packed_account w) a) (detail_remaining w) 0) where
+module _ (records : List (List ℕ)) (a : ℕ) (cells : List ℕ) (p : ℕ) (size : length cells ≡ 65) (past : PassedOf records a cells p)
+    (bounds : GatherBounds (orders_of records) a) (h : p < length records) (w : ℕ) (is_detail : w ≡ detail_at (get_or records p []) 0)
+    (r : ℕ) (rest : r ≡ cond (eqb (packed_account w) a) (detail_remaining w) 0) where
   abbrev o : Order
-  o = order_at m p
+  o = order_at (get_or records p []) 0
+
+  here : get_or (orders_of records) p o ≡ o
+  here = order_in_record records p o h
+
+  inside : p < length (orders_of records)
+  inside = omega (arith, length_orders records)
 
   numbered : Numbered 32 o.instrument
   unfolding order_at order_of
@@ -185,7 +193,9 @@ module _ (m : List ℕ) (n a : ℕ) (cells : List ℕ) (p : ℕ) (size : length 
   own_part = rest ∙ by (ℕ_discrete (packed_account w) a)
     where
       left_over : detail_remaining w ≡ remaining o
-      left_over = rw (is_detail, order_of_lem m p) (sym (remaining_of (id_at m p) (detail_at m p)))
+      left_over =
+          let bytes = get_or records p [] in
+          rw (is_detail, order_of_lem bytes 0) (sym (remaining_of (id_at bytes 0) (detail_at bytes 0)))
 
       by : Dec (packed_account w ≡ a) → cond (eqb (packed_account w) a) (detail_remaining w) 0 ≡ counted o o.side a o.instrument
       by (yes e) =
@@ -198,21 +208,22 @@ module _ (m : List ℕ) (n a : ℕ) (cells : List ℕ) (p : ℕ) (size : length 
   pub row_fits : (cell (packed_side w) (packed_instrument w) < 65)
       × (get_or cells (cell (packed_side w) (packed_instrument w)) 0 + r ≤ 100000000000)
   row_fits =
+      let os = orders_of records in
       let s = o.side in
       let i = o.instrument in
       let first : 0 + cell s i ≡ cell s i = omega arith in
       rw own_cell_lem (
         cell_inside s i numbered.1,
-        counted_small m n s a i (get_or cells (cell s i) 0 + r) (p + 1) 100000000000
-            (counted_more m n s a i (get_or cells (cell s i) 0) p r o h refl own_part (rw first at (past.sums s a i refl numbered)))
+        counted_small os s a i (get_or cells (cell s i) 0 + r) (p + 1) 100000000000
+            (counted_more os s a i (get_or cells (cell s i) 0) p r o inside here own_part (rw first at (past.sums s a i refl numbered)))
             (bounds.unfilled s i),
       )
 
   pub row_more : (cells' : List ℕ) → cells' ≡ added cells (cell (packed_side w) (packed_instrument w)) r →
-      (length cells' ≡ 65) × PassedOf m n a cells' (p + 1)
+      (length cells' ≡ 65) × PassedOf records a cells' (p + 1)
   row_more cells' e =
       let j = cell (packed_side w) (packed_instrument w) in
       let adds : Adds (λ b. b ≡ a) (λ b. 0) o j r = rw (own_cell_lem, own_part) (adds_row a o numbered) in (
         rw (e, added_length cells j r) size,
-        passed_more (λ b. b ≡ a) (λ b. 0) m n cells p past o refl h j r adds (omega (arith, row_fits.0)) cells' e,
+        passed_more (λ b. b ≡ a) (λ b. 0) (orders_of records) cells p past o here inside j r adds (omega (arith, row_fits.0)) cells' e,
       )

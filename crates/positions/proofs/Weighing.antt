@@ -1,8 +1,7 @@
 -- An instrument's part in its group's position, by the sign of its weight, and the sum of the parts by the cells.
-use Rattle.std.specs.Prelude.{◌+◌, ◌*◌, ◌≤◌, ◌≡◌, ◌≢◌, ◌+ℤ◌, ◌*ℤ◌, ◌≤ℤ◌, ◌<ℤ◌}
-use Rattle.integers.specs.Basics.{ℕ, suc, refl, ◌∙◌, sym, ap, cond, List, ℤ, pos, negsuc, neg_ℤ, nat_abs}
+use Rattle.std.specs.Prelude.{◌+◌, ◌*◌, ◌-◌, ◌≤◌, ◌≡◌, ◌≢◌, ◌+ℤ◌, ◌*ℤ◌, ◌≤ℤ◌, ◌<ℤ◌}
+use Rattle.integers.specs.Basics.{ℕ, zero, suc, refl, ◌∙◌, sym, ap, cond, List, ℤ, pos, negsuc, neg_ℤ, nat_abs}
 use Rattle.integers.specs.Basics.{+ℤ_idr, eqb, get_or, arith, eq-eqb, ne_eqb, signed}
-use native.Mathlib.Numerals.{add-one}
 use Rattle.integers.specs.Magnitude.{magnitude_sum, magnitude_negation, magnitude_product_≤}
 use Rattle.integers.specs.Sum.{sum_to_none, sum_to_more, sum_to_same, sum_to_magnitude}
 use Rattle.ledger.specs.declared.order.Order.{Order}
@@ -10,10 +9,12 @@ use Rattle.ledger.specs.declared.order.Side.{Side}
 use Rattle.ledger.specs.declared.order.Side.TheVariants.{Buy, Sell}
 use Rattle.ledger.specs.Roster.{Roster, Numbered, group_of_instrument}
 use Rattle.ledger.specs.Positions.{Way, long, short, group, opposite, side_to, open_on, of_instrument, group_part, sum_group, potential}
+use Rattle.ledger.specs.Records.{balances_in, roster_in}
 use Rattle.ledger.specs.Derivatives.{one}
 use Rattle.ledger.proofs.Ways.{by_test}
 use Rattle.ledger.proofs.Scopes.{part_same}
 use Rattle.positions.specs.Gathered.{on_way, cell, Gathered, by_cells, part_by_cells, sum_by_cells}
+use Rattle.positions.specs.Bounds.{WeighBounds}
 
 -- ---- by the sign of the weight
 pub part_own : (w : Way) (k : ℤ) (p : Way → ℤ) → pos 0 ≤ℤ k → group_part w k p ≡ k *ℤ p w
@@ -31,10 +32,6 @@ pub part_magnitude : (w : Way) (k : ℤ) (p : Way → ℤ) (m n : ℕ) → nat_a
 unfolding group_part
 part_magnitude w (pos j) p m n h small = magnitude_product_≤ (pos j) (p w) m n h (small w)
 part_magnitude w (negsuc j) p m n h small = magnitude_product_≤ (pos (suc j)) (p (opposite w)) m n h (small (opposite w))
-
-pub on_way_small : (w : Way) (x y z : ℤ) (n : ℕ) → z ≡ on_way w x y → nat_abs x ≤ n → nat_abs y ≤ n → nat_abs z ≤ n
-on_way_small long x y z n e h l = rw e h
-on_way_small short x y z n e h l = rw e l
 
 pub on_way_sum : (x y u v : ℤ) (f : Way → ℤ) → x ≡ u +ℤ f long → y ≡ v +ℤ f short → (w : Way) → on_way w x y ≡ on_way w u v +ℤ f w
 on_way_sum x y u v f e g long = e
@@ -77,6 +74,22 @@ module _ (cells : List ℕ) (S : ℕ → ℤ) (i : ℕ) where
         by_test (eqb (group_of_instrument r i) g) (λ t. rw t (magnitude (λ v. by_cells_magnitude v balance small)))
         (λ t. rw t (omega arith))
 
+-- where the bounds hold, the positions of an instrument of the roster are small, and so is its part in a group's
+module _ (cells balances roster : List ℕ) (bounds : WeighBounds cells balances roster)
+    (i : ℕ) (inside : Numbered (roster_in roster).instruments i) where
+  unfilled_small : (s : Side) → get_or cells (cell s i) 0 ≤ 100000000000
+  unfilled_small s = bounds.unfilled s i (omega (arith, bounds.roster_small.instruments), omega (arith, bounds.roster_small.instruments))
+
+  pub instrument_small : (w : Way) → nat_abs (by_cells cells (balances_in balances) i w) ≤ 200000000000
+  instrument_small w =
+      by_cells_magnitude cells (balances_in balances) i w (bounds.balances_small.balance i inside) unfilled_small
+
+  pub part_of_small : (g : ℕ) (w : Way) →
+      nat_abs (part_by_cells cells (balances_in balances) (roster_in roster) g i w) ≤ 200000000000000000
+  part_of_small g w =
+      part_small cells (balances_in balances) i (roster_in roster) g w (bounds.roster_small.weight i inside)
+      (bounds.balances_small.balance i inside) unfilled_small
+
 -- an account's cells alone
 pub gathered_at : {cells : List ℕ} {orders : List Order} {a : ℕ} → Gathered cells 0 orders a → (s : Side) (i : ℕ) → Numbered 32 i
     → pos (get_or cells (cell s i) 0) ≡ open_on one orders s a i
@@ -97,11 +110,15 @@ module _ (cells : List ℕ) (S : ℕ → ℤ) (r : Roster) (g : ℕ) (w : Way) w
       none long = refl
       none short = refl
 
-  pub sum_more : (n : ℕ) (x y : ℤ) → x ≡ sum_by_cells cells S r g n w → y ≡ x +ℤ part_by_cells cells S r g (n + 1) w
-      → y ≡ sum_by_cells cells S r g (n + 1) w
+  -- the part of instrument i joins those before it, which makes the first n
+  pub sum_more : (i n : ℕ) → 1 ≤ i → n ≡ i → (x y : ℤ) → x ≡ sum_by_cells cells S r g (i - 1) w → y ≡ x +ℤ part_by_cells cells S r g i w
+      → y ≡ sum_by_cells cells S r g n w
   unfolding sum_by_cells
-  sum_more n x y e f =
-      f ∙ rw (e, add-one n) (rw (add-one n) at (sym (sum_to_more (λ j. part_by_cells cells S r g (suc j) w) n)))
+  sum_more zero n h same x y e f = absurd (omega arith)
+  sum_more (suc j) n h same x y e f =
+      let before : suc j - 1 ≡ j = omega arith in
+      let next : n ≡ j + 1 = omega arith in
+      f ∙ rw (e, before, next) (sym (sum_to_more (λ k. part_by_cells cells S r g (suc k) w) j))
 
   pub sum_small : (n : ℕ) → n ≤ 32 → ((i : ℕ) → Numbered n i → nat_abs (r.weight i) ≤ 1000000)
       → ((i : ℕ) → Numbered n i → nat_abs (S i) ≤ 100000000000)

@@ -1,24 +1,23 @@
--- What the positions of an account need of the lent bytes: that the records are there, and that no number is too large.
+-- What the positions of an account need: that the lent bytes are there, and that no number is too large.
 use Rattle.std.specs.Prelude.{◌+◌, ◌*◌, ◌≤◌, ◌≡◌}
 use Rattle.integers.specs.Basics.{ℕ, List, nat_abs, length, get_or}
+use Rattle.ledger.specs.declared.order.Order.{Order}
 use Rattle.ledger.specs.declared.order.Side.{Side}
 use Rattle.ledger.specs.Roster.{Roster, Numbered}
 use Rattle.ledger.specs.Positions.{open_on}
-use Rattle.ledger.specs.Records.{orders_from, balances_in, roster_in}
+use Rattle.ledger.specs.Records.{balances_in, roster_in}
 use Rattle.ledger.specs.Derivatives.{one}
 use Rattle.positions.specs.Gathered.{cell}
 
 -- for PCI and PVI of account a and instrument i
-pub record InstrumentBounds (orders : List ℕ) (n : ℕ) (balances : List ℕ) (a i : ℕ) : Type 0 where
-  pub orders_long : n * 16 ≤ length orders
+pub record InstrumentBounds (orders : List Order) (balances : List ℕ) (a i : ℕ) : Type 0 where
   pub balances_long : i * 8 + 8 ≤ length balances
-  pub small : (s : Side) → nat_abs (balances_in balances i) + nat_abs (open_on one (orders_from orders 0 n) s a i) ≤ 9000000000000000000
+  pub small : (s : Side) → nat_abs (balances_in balances i) + nat_abs (open_on one orders s a i) ≤ 9000000000000000000
 
 -- for the cells of account a
-pub record GatherBounds (orders : List ℕ) (n a : ℕ) : Type 0 where
-  pub long : n * 16 ≤ length orders
+pub record GatherBounds (orders : List Order) (a : ℕ) : Type 0 where
   pub account : Numbered 16 a
-  pub unfilled : (s : Side) (i : ℕ) → nat_abs (open_on one (orders_from orders 0 n) s a i) ≤ 100000000000
+  pub unfilled : (s : Side) (i : ℕ) → nat_abs (open_on one orders s a i) ≤ 100000000000
 
 -- for PCI and PVI of instrument i by the cells
 pub record CellBounds (cells balances : List ℕ) (i : ℕ) : Type 0 where
@@ -48,7 +47,7 @@ pub record WeighBounds (cells balances roster : List ℕ) : Type 0 where
   pub roster_small : RosterBounds roster (roster_in roster)
 
 -- for PCC and PVC of account a
-pub record GroupBounds (orders : List ℕ) (n : ℕ) (balances roster : List ℕ) (a : ℕ) : Type 0 where
-  pub orders_small : GatherBounds orders n a
+pub record GroupBounds (orders : List Order) (balances roster : List ℕ) (a : ℕ) : Type 0 where
+  pub orders_small : GatherBounds orders a
   pub balances_small : BalanceBounds balances (roster_in roster).instruments
   pub roster_small : RosterBounds roster (roster_in roster)

@@ -1,19 +1,22 @@
-// Little-endian words of 64 bits in lent bytes, fields at any byte, and bytes copied.
+// Little-endian words of 64 bits in lent bytes, fields at any byte, and bytes copied. A word is named by the bytes and its number,
+// which are two parameters: a struct of both would be made for each word that is read.
 #![tactic(auto)]
 
 pub mod copies;
 pub mod fields;
-pub mod signed;
 
 ghost use Rattle.std.specs.Prelude.{◌≡◌, ◌+◌, ◌*◌, ◌≤◌, length};
 ghost use Rattle.words.specs.Words.{word_at, put_word, halves, signed_at, put_signed, words_at, put_words, part_of};
 
+use crate::fields::Field;
+
 // Word `k` of `m`.
+#[tactic(auto, unfolding(crate::specs::Words::word_at, crate::specs::Fields::u64_at))]
 pub fn word(m: &[u8], k: usize) -> u64
     requires { k * 8 + 8 ≤ length m.now }
     ensures { result ≡ word_at m.now k }
 {
-    fields::u64_at(m, k * 8)
+    u64::at(m, k * 8)
 }
 
 // Makes `v` word `k` of `m`.
@@ -21,41 +24,36 @@ pub fn set_word(m: &mut [u8], k: usize, v: u64)
     requires { k * 8 + 8 ≤ length m.old }
     ensures { m.new ≡ put_word m.old k v }
 {
-    let a = k * 8;
-    m[a] = (v % 256) as u8;
-    m[a + 1] = (v / 256 % 256) as u8;
-    m[a + 2] = (v / 65536 % 256) as u8;
-    m[a + 3] = (v / 16777216 % 256) as u8;
-    m[a + 4] = (v / 4294967296 % 256) as u8;
-    m[a + 5] = (v / 1099511627776 % 256) as u8;
-    m[a + 6] = (v / 281474976710656 % 256) as u8;
-    m[a + 7] = (v / 72057594037927936 % 256) as u8;
+    m[k * 8..k * 8 + 8].copy_from_slice(&v.to_le_bytes());
 }
 
 // The word whose lower half is `x` and whose upper half is `y`.
 pub fn halves(x: u32, y: u32) -> u64
     ensures { result ≡ halves x y }
 {
-    (x as u64) + 4294967296 * (y as u64)
+    u64::from(x) + (u64::from(y) << 32)
 }
 
 // Word `k` of `m` as a signed number.
+#[tactic(auto, using(crate::proofs::Complement::cast64), unfolding(crate::specs::Words::signed_at))]
 pub fn signed_word(m: &[u8], k: usize) -> i64
     requires { k * 8 + 8 ≤ length m.now }
     ensures { result ≡ signed_at m.now k }
 {
-    signed::signed64(word(m, k))
+    word(m, k).cast_signed()
 }
 
 // Makes the signed number `z` word `k` of `m`.
+#[tactic(auto, using(crate::proofs::Complement::bits64), unfolding(crate::specs::Words::put_signed))]
 pub fn set_signed_word(m: &mut [u8], k: usize, z: i64)
     requires { k * 8 + 8 ≤ length m.old }
     ensures { m.new ≡ put_signed m.old k z }
 {
-    set_word(m, k, signed::bits64(z))
+    set_word(m, k, z.cast_unsigned())
 }
 
 // The bytes of the `n` words of `m` from word `k` on.
+#[tactic(auto, unfolding(crate::specs::Words::part_of))]
 pub fn part(m: &[u8], k: usize, n: usize) -> &[u8]
     requires { (k + n) * 8 ≤ length m.now }
     ensures { result.now ≡ part_of m.now k n }
@@ -63,54 +61,36 @@ pub fn part(m: &[u8], k: usize, n: usize) -> &[u8]
     &m[k * 8..(k + n) * 8]
 }
 
-// Moves the first `n` words of `s` to word `by` and after it, the last one first.
-fn up(s: &mut [u8], by: usize, n: usize)
-    requires { (by + n) * 8 ≤ length s.old }
-    ensures { s.new ≡ put_words s.old by (words_at s.old 0 n) }
+// Copies the `n` words from word `from` on to word `to` and after it.
+#[tactic(auto, using(crate::proofs::Moved::copied_words))]
+fn words_moved(m: &mut [u8], from: usize, to: usize, n: usize)
+    requires { ((from + n) * 8 ≤ length m.old) × ((to + n) * 8 ≤ length m.old) }
+    ensures { m.new ≡ put_words m.old to (words_at m.old from n) }
 {
-    let mut i = n;
-    while 0 < i {
-        i -= 1;
-        set_word(s, i + by, word(s, i));
-    }
+    m.copy_within(from * 8..(from + n) * 8, to * 8);
 }
 
-// Moves the `n` words of `s` from word `by` on to its first words, the first one first.
-fn down(s: &mut [u8], by: usize, n: usize)
-    requires { (by + n) * 8 ≤ length s.old }
-    ensures { s.new ≡ put_words s.old 0 (words_at s.old by n) }
-{
-    for i in 0..n {
-        set_word(s, i, word(s, i + by));
-    }
-}
-
-// Copies the `n` words from word `from` on to word `to` and after it, which are lower, the first one first. It is a loop of its own:
-// `words_down` has one distance wherever it is called, and so stays a memmove.
+// Copies the `n` words from word `from` on to word `to` and after it, which are lower.
 pub fn words_copied(m: &mut [u8], from: usize, to: usize, n: usize)
     requires { (to ≤ from) × ((from + n) * 8 ≤ length m.old) }
     ensures { m.new ≡ put_words m.old to (words_at m.old from n) }
 {
-    for i in 0..n {
-        set_word(m, to + i, word(m, from + i));
-    }
+    words_moved(m, from, to, n);
 }
 
-// Moves the `n` words from word `k` on to word `k + by` and after it. The loop runs over a part that starts at the lowest word
-// touched: with a `by` that is a constant where it is called, it compiles to one memmove.
+// Moves the `n` words from word `k` on to word `k + by` and after it. Up, down and copied have each one distance wherever they are
+// called: up and down then compile to one memmove.
 pub fn words_up(m: &mut [u8], k: usize, by: usize, n: usize)
     requires { (k + by + n) * 8 ≤ length m.old }
     ensures { m.new ≡ put_words m.old (k + by) (words_at m.old k n) }
 {
-    let first = k * 8;
-    up(&mut m[first..], by, n)
+    words_moved(m, k, k + by, n);
 }
 
-// Moves the `n` words from word `k + by` on to word `k` and after it, as `words_up` does.
+// Moves the `n` words from word `k + by` on to word `k` and after it.
 pub fn words_down(m: &mut [u8], k: usize, by: usize, n: usize)
     requires { (k + by + n) * 8 ≤ length m.old }
     ensures { m.new ≡ put_words m.old k (words_at m.old (k + by) n) }
 {
-    let first = k * 8;
-    down(&mut m[first..], by, n)
+    words_moved(m, k + by, k, n);
 }

@@ -1,28 +1,27 @@
--- A turn counts the order at the place, and the sum stays below what all places count for.
-use Rattle.std.proofs.Common.{◌≡◌, ◌+◌, arith}
+-- The chain yields what each order counts for, so that its sum is what they count for together.
+use Rattle.std.proofs.Common.{rules, tests}
+use Rattle.std.proofs.lemmas.Iterator.{YieldsList-from_slice, YieldsList-from_map}
+use Rattle.std.proofs.lemmas.Iterator.Consumers.{YieldsList-at, sum_by_from_yields_List, fits_by_from_yields_list}
+use Rattle.integers.specs.Basics.{◌∙◌, arith}
 use Rattle.ledger.specs.Derivatives.{counted}
-use Rattle.order_list.specs.OrderList.{order_in}
-use Rattle.order_list.proofs.Sums.{counted_none, counted_next, counted_below}
+use Rattle.order_list.proofs.Sums.{counted_whole}
 use Rattle.order_list.proofs.counted_to.Goals as goal
 
-counts : (c : goal.After-counted-sum)
-    → c.counted-sum.result ≡ counted (order_in c.args.orders.now c.loop-p.p) c.args.side c.args.account c.args.instrument
-counts c = c.counted-sum.ensures
+pub sum-requires-clause-fits : goal.sum-requires-clause-fits
+sum-requires-clause-fits c =
+    let a = c.args in
+    let sum = counted_whole a.orders.now a.side a.account a.instrument in
+    fits_by_from_yields_list _ _ c.map.result _
+    (YieldsList-from_map _ (λ o. counted o a.side a.account a.instrument)
+    (YieldsList-at c.map.ensures.source (YieldsList-from_slice a.orders.now cc)) c.map.ensures.closure
+    (λ o r q k. search (rules, tests)))
+    (omega (arith, sum, c.requires))
 
-pub loop-p-init : goal.loop-p-init
-loop-p-init c = record {
-  within = omega arith;
-  so_far = omega (arith, counted_none c.args.orders.now c.args.side c.args.account c.args.instrument);
-}
-
-pub overflow_add-sum : goal.overflow_add-sum
-overflow_add-sum c =
-    let more = counted_next c.args.orders.now c.args.side c.args.account c.args.instrument c.loop-p.p in
-    let below = counted_below c.args.orders.now c.args.side c.args.account c.args.instrument (c.loop-p.p + 1) c.args.n (omega arith) in
-    omega (arith, counts c, more, below)
-
-pub loop-p-preserved : goal.loop-p-preserved
-loop-p-preserved c = record {
-  within = omega arith;
-  so_far = omega (arith, counts c, counted_next c.args.orders.now c.args.side c.args.account c.args.instrument c.loop-p.p);
-}
+pub returns : goal.returns
+returns c =
+    let a = c.args in
+    sum_by_from_yields_List _ _ c.map.result _ c.sum.ensures.ran
+    (YieldsList-from_map _ (λ o. counted o a.side a.account a.instrument)
+    (YieldsList-at c.map.ensures.source (YieldsList-from_slice a.orders.now cc)) c.map.ensures.closure
+    (λ o r q k. search (rules, tests)))
+    ∙ counted_whole a.orders.now a.side a.account a.instrument

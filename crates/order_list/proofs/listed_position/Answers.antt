@@ -1,20 +1,11 @@
 -- S is the balance's word, and `open_in` gives B and V of the records by the list; `position_by` makes PCI and PVI of them.
 use Rattle.std.specs.Prelude.{◌≡◌}
-use Rattle.integers.specs.Basics.{◌∙◌, w64, to_z-of_z, arith}
+use Rattle.integers.specs.Basics.{◌∙◌, w64, to_z-of_z}
 use Rattle.words.specs.Words.{signed_at}
 use Rattle.ledger.specs.declared.order.Side.TheVariants.{Buy, Sell}
 use Rattle.ledger.specs.Positions.{of_instrument}
 use Rattle.ledger.proofs.Fits.{again}
 use Rattle.order_list.proofs.listed_position.Goals as goal
-
-pub open_in-open-requires : goal.open_in-open-requires
-open_in-open-requires c = (c.requires.0, c.requires.1.orders_long, λ s. omega (arith, c.requires.1.small s))
-
-pub of-buys-requires : goal.of-buys-requires
-of-buys-requires c = omega (arith, rw (← c.open_in-open.ensures.0) at (c.requires.1.small Buy))
-
-pub of-sells-requires : goal.of-sells-requires
-of-sells-requires c = omega (arith, rw (← c.open_in-open.ensures.1) at (c.requires.1.small Sell))
 
 pub position_by-requires : goal.position_by-requires
 position_by-requires c =

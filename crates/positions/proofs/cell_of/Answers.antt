@@ -14,4 +14,4 @@ low_bits w = by (ℕ_discrete (w / 32 % 2) 0)
     by (no sell) = rw (ne_eqb (w / 32 % 2) 0 sell) (omega (arith, sell))
 
 pub returns : goal.returns
-returns c = low_bits c.args.w
+returns c = low_bits c.args.w.0

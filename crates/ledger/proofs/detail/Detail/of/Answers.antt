@@ -14,10 +14,6 @@ unfolding detail remaining
 overflow_add-result-2 c =
     omega (arith, c.pack.ensures, detail_below c.args.o c.requires)
 
-pub overflow_mul-result-2 : goal.overflow_mul-result-2
-unfolding detail remaining
-overflow_mul-result-2 c = omega arith
-
 pub returns : goal.returns
 unfolding detail remaining
 returns c = rw c.pack.ensures (detail_back c.args.o c.requires)

@@ -9,4 +9,4 @@ pub returns : goal.returns
 unfolding replaced_total order_of
 returns c id =
     let low = below_remaining c.args.self.0 in
-    rw (c.filled_of.ensures, low) (moved id _ _ _ _ (omega arith) (omega arith) (omega arith) refl)
+    rw (c.filled.ensures.in_detail, low) (moved id _ _ _ _ (omega arith) (omega arith) (omega arith) refl)
