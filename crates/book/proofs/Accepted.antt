@@ -1,6 +1,6 @@
 -- What an answer of 0 says: the event passed every question, each by its name.
 use Rattle.std.specs.Prelude.{◌≤◌, ◌≡◌, ◌≢◌, ◌++◌, ◌≤ℤ◌}
-use Rattle.integers.specs.Basics.{ℕ, refl, ◌∙◌, sym, ap, inl, inr, true, false, List, [], Option, none, some}
+use Rattle.integers.specs.Basics.{ℕ, refl, ◌∙◌, sym, ap, inl, inr, true, false, List, [], Option, None, Some}
 use Rattle.integers.specs.Basics.{arith}
 use Rattle.ledger.specs.declared.order.Order.{Order}
 use Rattle.ledger.specs.Positions.{Way, Scope}
@@ -33,13 +33,13 @@ pub record Accepted (k : State) (e : Event) : Type 0 where
   pub passed : Passed k e
   pub within :
       (o : Order)
-      → entered k.book e ≡ some o
+      → entered k.book e ≡ Some o
       → (p : Scope) (w : Way)
       → Moves k.roster o p w
       → potential_of (work k e) o.account p w ≤ℤ limit_of (work k e) o.account p w
 
 -- the order entered or raised is asked 21 to 24, and then what stands behind 24
-module _ (k : State) (e : Event) (o : Order) (enters : entered k.book e ≡ some o) where
+module _ (k : State) (e : Event) (o : Order) (enters : entered k.book e ≡ Some o) where
   abbrev pub asked_of : List Question
   asked_of =
       let b = (work k e).book in
@@ -52,7 +52,7 @@ module _ (k : State) (e : Event) (o : Order) (enters : entered k.book e ≡ some
   -- which is no position limit
   others : (n : ℕ) → 21 ≤ n → n ≤ 24 → first_no (behind 24 (limit_questions k e)) ≢ n
   unfolding limit_questions position_questions
-  others n low high = rw enters (never_answered n (behind 24 (positions_after (work k e) (some o))) (omega arith) (omega arith))
+  others n low high = rw enters (never_answered n (behind 24 (positions_after (work k e) (Some o))) (omega arith) (omega arith))
 
   pub no_position : PositionNumber (first_no (behind 24 (limit_questions k e))) → ⊥
   no_position (inl z) = others 21 (omega arith) (omega arith) z
@@ -89,7 +89,7 @@ module _ (k : State) (e : Event) where
             room = yes 18;
           }
 
-      inside : (o : Order) → entered k.book e ≡ some o → (p : Scope) (w : Way) → Moves k.roster o p w
+      inside : (o : Order) → entered k.book e ≡ Some o → (p : Scope) (w : Way) → Moves k.roster o p w
           → potential_of (work k e) o.account p w ≤ℤ limit_of (work k e) o.account p w
       inside o enters =
           let b = (work k e).book in
@@ -102,9 +102,9 @@ unfolding answer questions_before limit_questions position_questions
 never_5 k e = by (entered k.book e)
   where
     by : (x : Option Order) → first_no (questions_before k e ++ positions_after (work k e) x) ≢ 5
-    by none = never_answered 5 (questions_before k e ++ []) (omega arith) (omega arith)
-    by (some o) =
-        never_answered 5 (questions_before k e ++ positions_after (work k e) (some o)) (omega arith)
+    by None = never_answered 5 (questions_before k e ++ []) (omega arith) (omega arith)
+    by (Some o) =
+        never_answered 5 (questions_before k e ++ positions_after (work k e) (Some o)) (omega arith)
         (omega arith)
 
 -- of a sound desk the whole table answers as the rest of it does; of any other it answers 5

@@ -1,7 +1,7 @@
 -- Where an order joins the open orders, where it stands in them, and what changing it changes: the list cut in two.
 use Rattle.std.specs.Prelude.{◌+◌, ◌<◌, ◌≡◌, ◌⊎◌, ◌↔◌, ◌∷◌, ◌++◌}
 use Rattle.integers.specs.Basics.{ℕ, suc, refl, sym, ap, inl, inr, ⊎_elim, List, [], ListMemᴰ}
-use Rattle.integers.specs.Basics.{ListMemᴰ_head, ListMemᴰ_tail, none, some, ltb, eqb, length, arith, ltb-true, ltb-false, eqb-true}
+use Rattle.integers.specs.Basics.{ListMemᴰ_head, ListMemᴰ_tail, None, Some, ltb, eqb, length, arith, ltb-true, ltb-false, eqb-true}
 use Rattle.integers.specs.Basics.{eqb-false}
 use mathlib.Core.List.Memᴰ
 use lib.ListN.{length-append}
@@ -14,7 +14,7 @@ use Rattle.book.specs.Sound.{Ascending, nothing, next}
 
 -- ---- an order joins
 -- one whose id is not open joins where ids stay ascending
-pub insert_ascending : {least : ℕ} {os : List Order} → Ascending least os → (o : Order) → least < o.id → find o.id os ≡ none
+pub insert_ascending : {least : ℕ} {os : List Order} → Ascending least os → (o : Order) → least < o.id → find o.id os ≡ None
     → Ascending least (insert o os)
 unfolding insert find
 insert_ascending nothing o l e = next l nothing
@@ -78,9 +78,9 @@ pub record Standing (id : ℕ) (os : List Order) (o : Order) : Type 0 where
   pub named : o.id ≡ id
   pub changed : (f : Order → List Order) → change id f os ≡ front ++ (f o ++ back)
 
-pub standing : (id : ℕ) (os : List Order) (o : Order) → find id os ≡ some o → Standing id os o
+pub standing : (id : ℕ) (os : List Order) (o : Order) → find id os ≡ Some o → Standing id os o
 unfolding find change
-standing id [] o e = absurd (let z : ◌≡◌ {A = ℕ} 0 1 = cc in omega arith)
+standing id [] o e = cc
 standing id (x ∷ os) o e =
     by_test (eqb x.id id)
     (λ d.

@@ -9,7 +9,7 @@ use Rattle.book.specs.declared.Setting.{Setting}
 use Rattle.book.specs.declared.OrderChange.{OrderChange}
 use Rattle.book.specs.declared.Event.{Event}
 use Rattle.book.specs.declared.Event.TheVariants.{Set, New, Change, Junk}
-use Rattle.book.specs.declared.Named.{Named}
+use Rattle.book.specs.declared.NamedFields.{NamedFields}
 use Rattle.book.specs.Decoding.{kind_of, level_field, id_field, is_setting, by_kind, new_names, named, fields_fit, is_kind, well_formed}
 use Rattle.book.specs.Decoding.{event_of, decode}
 
@@ -21,7 +21,7 @@ HasId (Change id c) = Unit
 HasId Junk = Unit
 
 -- bytes that fit have an id where one is named
-named_id : (n : Named) (e : List ℕ) → n.id ≡ true → fields_fit n e ≡ true → 1 ≤ id_field e
+named_id : (n : NamedFields) (e : List ℕ) → n.id ≡ true → fields_fit n e ≡ true → 1 ≤ id_field e
 unfolding fields_fit
 named_id n e named fit =
     let apart : id_field e ≢ 0 = λ zero. true≢false (sym fit ∙ simp (named, zero, and-false)) in
@@ -52,7 +52,7 @@ decoded_each P e set new change junk =
   where
     each : fields_fit (named (kind_of e) (level_field e)) e ≡ true → P (event_of e)
     each =
-        kind_by_kind {A = Named} (λ n x. fields_fit n e ≡ true → P x) (kind_of e) _ _ _ _ _ _ _ _ _ _
+        kind_by_kind {A = NamedFields} (λ n x. fields_fit n e ≡ true → P x) (kind_of e) _ _ _ _ _ _ _ _ _ _
         (λ _. set _) (λ fit. new _ _ _ _ (named_id new_names e refl fit)) (λ _. change _ _) (λ _. change _ _) (λ _. change _ _)
 
 pub decoded_id : (e : List ℕ) → HasId (decode e)

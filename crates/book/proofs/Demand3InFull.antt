@@ -1,6 +1,6 @@
 -- Demand 3 with every premise and conclusion written out, in the order of document 01's words.
 use Rattle.std.specs.Prelude.{◌≡◌, ◌⊎◌, ◌↔◌, ◌∷◌, ◌++◌, ◌≤ℤ◌, ◌<ℤ◌}
-use Rattle.integers.specs.Basics.{ℕ, ◌∙◌, sym, ap, subst, true, List, some}
+use Rattle.integers.specs.Basics.{ℕ, ◌∙◌, sym, ap, subst, true, List, Some}
 use Rattle.ledger.specs.declared.order.Order.{Order}
 use Rattle.ledger.specs.Positions.{Scope, Way, position}
 use Rattle.ledger.specs.Fillings.{Filling, balance_after}
@@ -17,7 +17,7 @@ use Rattle.book.proofs.NotSetAgainLaws.{not_set_again_iff}
 
 -- N is an event that enters or raises order o and passes every check before the position limits, and it says nothing else
 pub judged_iff : (k : State) (n : RawEvent) (o : Order) → Judged k n o
-    ↔ ((entered k.book (as_event n) ≡ some o) × (all_pass (questions_before k (as_event n)) ≡ true))
+    ↔ ((entered k.book (as_event n) ≡ Some o) × (all_pass (questions_before k (as_event n)) ≡ true))
 judged_iff k n o = (λ j. (j.enters, j.passes), λ h. record { enters = h.0; passes = h.1 })
 
 -- of the position of account a at p: the limit is as it was at N, the position as it stands now is not past it, and no filling of what is
@@ -46,7 +46,7 @@ module _ (D : Desk) (m₀ : D.Memory) (k₀ : State) where
   abbrev pub InFull : Type 0
   InFull =
       (events : List RawEvent) (n : RawEvent) (o : Order)
-      → entered (kept_at events).book (as_event n) ≡ some o
+      → entered (kept_at events).book (as_event n) ≡ Some o
       → all_pass (questions_before (kept_at events) (as_event n)) ≡ true
       → ((answer_at events n ≡ 21) ⊎ ((answer_at events n ≡ 22) ⊎ ((answer_at events n ≡ 23) ⊎ (answer_at events n ≡ 24)))
       ↔ ((p : Scope)

@@ -1,6 +1,6 @@
 -- Demand 3, of every desk that meets the contract.
 use Rattle.std.specs.Prelude.{◌≡◌, ◌∷◌, ◌≤ℤ◌}
-use Rattle.integers.specs.Basics.{ℕ, ◌∙◌, sym, ap, by_cases, true, true≢false, List, [], some, ℤ, ℕ_discrete, not-true}
+use Rattle.integers.specs.Basics.{ℕ, ◌∙◌, sym, ap, by_cases, true, true≢false, List, [], Some, ℤ, ℕ_discrete, not-true}
 use Rattle.integers.specs.Basics.{signed}
 use Rattle.ledger.specs.declared.order.Order.{Order}
 use Rattle.ledger.specs.Positions.{Scope, Way}
@@ -75,7 +75,7 @@ module _ {D : Desk} (C : Contract D) where
         safe_after (D.next m e) (keep k (as_event e) (D.answer_to m e)) es (safe_next m k e s out.0) out.1
 
   -- N itself leaves it so
-  safe_at_first : (m : D.Memory) (k : State) (n : RawEvent) (o : Order) → Holds C m k → entered k.book (as_event n) ≡ some o
+  safe_at_first : (m : D.Memory) (k : State) (n : RawEvent) (o : Order) → Holds C m k → entered k.book (as_event n) ≡ Some o
       → D.answer_to m n ≡ 0 → (p : Scope) (w : Way) → Moves k.roster o p w
       → Safe o.account p w (limit_of k o.account p w) (D.next m n) (work k (as_event n))
   safe_at_first m k n o h enters zero p w moves =

@@ -2,7 +2,7 @@
 -- what one filling of its open orders makes of it.
 use Rattle.std.specs.Prelude.{◌+◌, ◌*◌, ◌≤◌, ◌≡◌, ◌∷◌, ◌++◌, ◌+ℤ◌}
 use Rattle.integers.specs.Basics.{ℕ, refl, ◌∙◌, sym, ap, subst, fun_ext, by_cases, List, [], ListMemᴰ}
-use Rattle.integers.specs.Basics.{ListMemᴰ_head, ListMemᴰ_tail, some, ℤ, pos, nat_abs, +ℤ_idr, eqb, ℕ_discrete, arith, leb-true}
+use Rattle.integers.specs.Basics.{ListMemᴰ_head, ListMemᴰ_tail, Some, ℤ, pos, nat_abs, +ℤ_idr, eqb, ℕ_discrete, arith, leb-true}
 use Rattle.integers.specs.Basics.{sum_parts}
 use Rattle.ledger.specs.declared.order.Order.{Order}
 use Rattle.ledger.specs.Orders.{remaining, filled_by}
@@ -41,10 +41,10 @@ module _ (unit : Order → ℕ) where
         rw (kept_whole o (open-each o (ListMemᴰ_head refl)), h.2),
       )
 
-  of_one : (os : List Order) → ((x : Order) → ListMemᴰ x os → 1 ≤ remaining x) → (id n : ℕ) (o : Order) → find id os ≡ some o
+  of_one : (os : List Order) → ((x : Order) → ListMemᴰ x os → 1 ≤ remaining x) → (id n : ℕ) (o : Order) → find id os ≡ Some o
       → n ≤ remaining o → Makes unit os (λ a i. fill_moves unit a i o n) (change id (λ y. kept (filled_by y n)) os)
   unfolding balance_after leaves find change
-  of_one [] open-each id n o found most = absurd (let z : ◌≡◌ {A = ℕ} 0 1 = cc in omega arith)
+  of_one [] open-each id n o found most = cc
   of_one (x ∷ os) open-each id n o found most =
       by_test (eqb x.id id)
       (λ t.

@@ -1,7 +1,7 @@
 -- Every filling of a sound book's open orders is worked by FILLs that the table accepts one after the other.
 use Rattle.std.specs.Prelude.{◌+◌, ◌≤◌, ◌≡◌, ◌≢◌, ◌∷◌, ◌++◌, ◌+ℤ◌}
 use Rattle.integers.specs.Basics.{ℕ, refl, ◌∙◌, sym, ap, by_cases, true, List, [], ListMemᴰ, ListMemᴰ_head}
-use Rattle.integers.specs.Basics.{some, ℤ, pos, +ℤ_idr, le_z, ℕ_discrete, arith, le-leb, signed, sum_parts}
+use Rattle.integers.specs.Basics.{Some, ℤ, pos, +ℤ_idr, le_z, ℕ_discrete, arith, le-leb, signed, sum_parts}
 use mathlib.Core.List.Memᴰ
 use mathlib.Core.List.{append_assoc}
 use Rattle.ledger.specs.declared.order.Order.{Order}
@@ -50,7 +50,7 @@ pub data Fills : State → State → Type 0 where
   then : {k k' : State} (id : ℕ) (n : ℤ) → answer k (fill_of id n) ≡ 0 → Fills (work k (fill_of id n)) k' → Fills k k'
 
 -- a FILL of an open order by what remains or less is accepted
-fill_accepted : (k : State) (id n : ℕ) (o : Order) → find id k.book.orders ≡ some o → 1 ≤ n → n ≤ 1000000 → n ≤ remaining o
+fill_accepted : (k : State) (id n : ℕ) (o : Order) → find id k.book.orders ≡ Some o → 1 ≤ n → n ≤ 1000000 → n ≤ remaining o
     → answer k (fill_of id (pos n)) ≡ 0
 unfolding answer questions_before limit_questions first_no is_event account_known item_known figures_fit not_yet_trading id_open
     quantity_fits entered
@@ -106,7 +106,7 @@ fills_behind (fill {o} {orders} n most f) front k sound whole =
     stands : ListMemᴰ o k.book.orders
     stands = rw whole (Memᴰ.append_right front (ListMemᴰ_head refl))
 
-    found : find o.id k.book.orders ≡ some o
+    found : find o.id k.book.orders ≡ Some o
     found = (find_member sound.ids o.id o).1 (stands, refl)
 
     fits : OrderFits k.roster o

@@ -1,6 +1,6 @@
 -- By how much an event moves a group's potential positions: the magnitude of the weight times what it moves those of the instrument.
 use Rattle.std.specs.Prelude.{◌+◌, ◌*◌, ◌≡◌, ◌≢◌, ◌+ℤ◌, ◌-ℤ◌, ◌*ℤ◌}
-use Rattle.integers.specs.Basics.{ℕ, refl, ◌∙◌, sym, ap, some, ℤ, pos, negsuc, neg_ℤ, nat_abs}
+use Rattle.integers.specs.Basics.{ℕ, refl, ◌∙◌, sym, ap, Some, ℤ, pos, negsuc, neg_ℤ, nat_abs}
 use Rattle.integers.specs.Basics.{difference_parts}
 use Rattle.integers.specs.Ring.{*ℤ_neg_ℤ}
 use Rattle.ledger.specs.declared.order.Order.{Order}
@@ -44,7 +44,7 @@ module _ (k : State) where
       shift_group (new_shift k s a i id n) a (k.book.balance_of a) refl (pos (k.market.unit (new_order s a i id n) * nat_abs n))
       (new_counts k s a i id n) r w numbered moves.2
 
-  module _ (id : ℕ) (o : Order) (found : find id k.book.orders ≡ some o) (c : OrderChange) where
+  module _ (id : ℕ) (o : Order) (found : find id k.book.orders ≡ Some o) (c : OrderChange) where
     abbrev after : State
     after = work k (Change id c)
 

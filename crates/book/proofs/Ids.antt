@@ -2,7 +2,7 @@
 -- wherever it stands.
 use Rattle.std.specs.Prelude.{◌≤◌, ◌<◌, ◌≡◌, ◌⊎◌, ◌↔◌, ◌≢◌, ◌∷◌, ◌++◌}
 use Rattle.integers.specs.Basics.{ℕ, refl, ap, inl, inr, ⊎_elim, Bool, true, false, cond, List, []}
-use Rattle.integers.specs.Basics.{ListMemᴰ, ListMemᴰ_head, ListMemᴰ_tail, ListMemᴰ_not_nil, some, eqb, arith, eqb-true}
+use Rattle.integers.specs.Basics.{ListMemᴰ, ListMemᴰ_head, ListMemᴰ_tail, ListMemᴰ_not_nil, Some, eqb, arith, eqb-true}
 use Rattle.integers.specs.Basics.{eqb-false, eq-eqb, ne_eqb}
 use mathlib.Core.List.Memᴰ
 use Rattle.ledger.specs.declared.order.Order.{Order}
@@ -35,22 +35,22 @@ ascending_above (next {least} {o} {os} h a) x m =
 
 -- ---- find
 -- the order that is found is the member with that id: where it stands makes no difference
-pub find_member : {least : ℕ} {os : List Order} → Ascending least os → (n : ℕ) (o : Order) → (find n os ≡ some o)
+pub find_member : {least : ℕ} {os : List Order} → Ascending least os → (n : ℕ) (o : Order) → (find n os ≡ Some o)
     ↔ (ListMemᴰ o os × (o.id ≡ n))
 unfolding find
 find_member nothing n o =
-    (λ e. absurd (let z : ◌≡◌ {A = ℕ} 0 1 = cc in omega arith), λ h. absurd (ListMemᴰ_not_nil h.0))
+    (λ e. cc, λ h. absurd (ListMemᴰ_not_nil h.0))
 find_member (next {o = x} {os} l a) n o =
-    by_number x.id n (λ t. (cond t (some x) (find n os) ≡ some o) ↔ (ListMemᴰ o (x ∷ os) × (o.id ≡ n))) here
+    by_number x.id n (λ t. (cond t (Some x) (find n os) ≡ Some o) ↔ (ListMemᴰ o (x ∷ os) × (o.id ≡ n))) here
     (there (find_member a n o))
   where
-    here : x.id ≡ n → (some x ≡ some o) ↔ (ListMemᴰ o (x ∷ os) × (o.id ≡ n))
+    here : x.id ≡ n → (Some x ≡ Some o) ↔ (ListMemᴰ o (x ∷ os) × (o.id ≡ n))
     here d = (
       λ e. let same : o ≡ x = cc in (ListMemᴰ_head same, rw same d),
       λ h. ⊎_elim (λ same. rw same) (λ m. let above = ascending_above a o m in absurd (omega (arith, h.1))) (Memᴰ.cases_cons h.0),
     )
 
-    there : (find n os ≡ some o) ↔ (ListMemᴰ o os × (o.id ≡ n)) → x.id ≢ n → (find n os ≡ some o) ↔ (ListMemᴰ o (x ∷ os) × (o.id ≡ n))
+    there : (find n os ≡ Some o) ↔ (ListMemᴰ o os × (o.id ≡ n)) → x.id ≢ n → (find n os ≡ Some o) ↔ (ListMemᴰ o (x ∷ os) × (o.id ≡ n))
     there rest apart = (
       λ e. (ListMemᴰ_tail (rest.0 e).0, (rest.0 e).1),
       λ h. ⊎_elim (λ same. absurd (apart (rw (← same) h.1))) (λ m. rest.1 (m, h.1)) (Memᴰ.cases_cons h.0),
@@ -71,9 +71,9 @@ change_ascending (next {least} {o = x} {os} h a) id f b = by (eqb x.id id) (f x)
 
 -- the members after it are what the order became and the others, none of which has its id
 pub change_exactly : {least : ℕ} {os : List Order} → Ascending least os → (id : ℕ) (f : Order → List Order) (o : Order)
-    → find id os ≡ some o → (x : Order) → ListMemᴰ x (change id f os) ↔ (ListMemᴰ x (f o) ⊎ (ListMemᴰ x os × (x.id ≢ id)))
+    → find id os ≡ Some o → (x : Order) → ListMemᴰ x (change id f os) ↔ (ListMemᴰ x (f o) ⊎ (ListMemᴰ x os × (x.id ≢ id)))
 unfolding change find
-change_exactly nothing id f o e x = absurd (let z : ◌≡◌ {A = ℕ} 0 1 = cc in omega arith)
+change_exactly nothing id f o e x = cc
 change_exactly (next {o = y} {os} h a) id f o e x =
     by_test (eqb y.id id)
     (λ d.

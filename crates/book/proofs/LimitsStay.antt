@@ -1,6 +1,6 @@
 -- "Set again", by lines; and a limit stays as it is unless it is set again.
 use Rattle.std.specs.Prelude.{◌≡◌, ◌↔◌}
-use Rattle.integers.specs.Basics.{ℕ, refl, ◌∙◌, sym, ap, inl, inr, ⊎_elim, by_cases, true, false, some, ℕ_discrete}
+use Rattle.integers.specs.Basics.{ℕ, refl, ◌∙◌, sym, ap, inl, inr, ⊎_elim, by_cases, true, false, Some, ℕ_discrete}
 use Rattle.ledger.specs.Roster.{Roster}
 use Rattle.ledger.specs.Positions.{Way, Scope, instrument, group}
 use Rattle.ledger.proofs.Ways.{by_test}
@@ -34,10 +34,10 @@ module _ (r : Roster) (b : Book) (a : ℕ) where
   under_group g = refl
 
 -- a group's limit is set again by a LIMIT on the group's line
-pub group_set_again : (k : State) (e : Event) (a g : ℕ) → SetsAgain k e a (group g) ↔ (line_set e ≡ some (group_line a g))
+pub group_set_again : (k : State) (e : Event) (a g : ℕ) → SetsAgain k e a (group g) ↔ (line_set e ≡ Some (group_line a g))
 group_set_again k e a g = (
-  ⊎_elim (λ h. h ∙ ap some (under_group k.roster _ a g)) (λ h. h ∙ ap some (under_group k.roster _ a g)),
-  λ h. inl (h ∙ ap some (sym (under_group k.roster _ a g))),
+  ⊎_elim (λ h. h ∙ ap Some (under_group k.roster _ a g)) (λ h. h ∙ ap Some (under_group k.roster _ a g)),
+  λ h. inl (h ∙ ap Some (sym (under_group k.roster _ a g))),
 )
 
 -- ---- the lines after a LIMIT of the account

@@ -77,7 +77,7 @@ pub weighs_more : pos 10000 ≢ pos 0
 weighs_more e = let z : ◌≡◌ {A = ℕ} 10000 0 = cc in omega arith
 
 pub weighs_less : negsuc 4999 ≢ pos 0
-weighs_less e = let z : ◌≡◌ {A = ℕ} 0 1 = cc in omega arith
+weighs_less e = cc
 
 -- ---- refused, each both ways: from the answer a filling past a limit, and from such a filling the answer
 abbrev Exactly : List ℕ → Order → Type 0

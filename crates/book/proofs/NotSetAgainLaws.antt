@@ -1,7 +1,7 @@
 -- "Until a limit that applies to them is set again": no event of the list that is accepted sets it, whatever stands around it.
 use Rattle.std.specs.Prelude.{◌≡◌, ◌↔◌, ◌&&◌, ◌||◌, ◌∷◌, ◌++◌}
 use Rattle.integers.specs.Basics.{ℕ, refl, sym, ap, ⊎_elim, Bool, true, false, not, true≢false, List, []}
-use Rattle.integers.specs.Basics.{Option, none, some, eqb, eq-eqb}
+use Rattle.integers.specs.Basics.{Option, None, Some, eqb, eq-eqb}
 use Rattle.ledger.specs.Positions.{Scope}
 use Rattle.limits.proofs.Answers.{both_true}
 use Rattle.book.specs.declared.Event.{Event}
@@ -53,13 +53,13 @@ abbrev same_line : LineName → LineName → Bool
 same_line m n = eqb (parts m).0 (parts n).0 && eqb (parts m).1.0 (parts n).1.0 && eqb (parts m).1.1 (parts n).1.1
 
 abbrev is_line : Option LineName → LineName → Bool
-is_line none n = false
-is_line (some x) n = same_line x n
+is_line None n = false
+is_line (Some x) n = same_line x n
 
 same_as_itself : (n : LineName) → same_line n n ≡ true
 same_as_itself n = simp (eq-eqb (parts n).0 _ refl, eq-eqb (parts n).1.0 _ refl, eq-eqb (parts n).1.1 _ refl)
 
-is_not_line : (x : Option LineName) (n : LineName) → not (is_line x n) ≡ true → x ≡ some n → ⊥
+is_not_line : (x : Option LineName) (n : LineName) → not (is_line x n) ≡ true → x ≡ Some n → ⊥
 is_not_line x n test e = true≢false (sym (rw (e, same_as_itself n) at test))
 
 -- does an event with this answer leave the limit as it is

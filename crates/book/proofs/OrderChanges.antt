@@ -1,6 +1,6 @@
 -- What a change makes of an order, case by case. Laws that go through all the cases of a change stand here, and the others take them.
 use Rattle.std.specs.Prelude.{◌+◌, ◌-◌, ◌≤◌, ◌<◌, ◌≡◌}
-use Rattle.integers.specs.Basics.{refl, ◌∙◌, sym, ap, true, Option, none, some, ℤ, nat_abs, ltb, arith}
+use Rattle.integers.specs.Basics.{refl, ◌∙◌, sym, ap, true, Option, None, Some, ℤ, nat_abs, ltb, arith}
 use Rattle.integers.specs.Basics.{leb-true, ltb-true, ltb-false}
 use Rattle.ledger.specs.declared.order.Order.{Order}
 use Rattle.ledger.specs.Orders.{remaining, filled_by, replaced_total}
@@ -72,25 +72,25 @@ after_fits (Fill n) o whole small figures fits = let most = leb-true (nat_abs n)
 
 -- ---- what it raises
 -- the order raised is one that was found, at the new total, by a REPLACE
-pub raised_found : (c : OrderChange) (x : Option Order) (o : Order) → raised c x ≡ some o
-    → (n : ℤ) × (y : Order) × (c ≡ Replace n) × (x ≡ some y) × (y.total < nat_abs n) × (o ≡ replaced_total y (nat_abs n))
-raised_found (Replace n) none o e = none_some o e
-raised_found (Replace n) (some y) o e =
+pub raised_found : (c : OrderChange) (x : Option Order) (o : Order) → raised c x ≡ Some o
+    → (n : ℤ) × (y : Order) × (c ≡ Replace n) × (x ≡ Some y) × (y.total < nat_abs n) × (o ≡ replaced_total y (nat_abs n))
+raised_found (Replace n) None o e = none_some o e
+raised_found (Replace n) (Some y) o e =
     by_test (ltb y.total (nat_abs n))
     (λ t. let same = rw t at e in (n, y, refl, refl, ltb-true y.total (nat_abs n) t, cc)) (λ t. none_some o (rw t at e))
 raised_found Cancel x o e = none_some o e
 raised_found (Fill n) x o e = none_some o e
 
 -- it is what the change makes of the order found
-pub raised_after : (c : OrderChange) (y o : Order) → raised c (some y) ≡ some o → o ≡ order_after c y
+pub raised_after : (c : OrderChange) (y o : Order) → raised c (Some y) ≡ Some o → o ≡ order_after c y
 unfolding order_after
 raised_after c y o e =
-    let h = raised_found c (some y) o e in
+    let h = raised_found c (Some y) o e in
     let same : y ≡ h.1 = cc h.3 in
     h.5 ∙ ap (λ z. replaced_total z (nat_abs h.0)) (sym same) ∙ sym (ap (λ d. order_after d y) h.2)
 
 -- where it raises none, no more remains and is filled than remained
-pub not_raised : (c : OrderChange) (o : Order) → raised c (some o) ≡ none → fits_order c o ≡ true
+pub not_raised : (c : OrderChange) (o : Order) → raised c (Some o) ≡ None → fits_order c o ≡ true
     → remaining (order_after c o) + filled_in c ≤ remaining o
 unfolding order_after replaced_total filled_by remaining
 not_raised (Replace n) o e fits =

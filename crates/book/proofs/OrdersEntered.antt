@@ -1,6 +1,6 @@
 -- The event that N is: it enters or raises one order, of a marked account, and leaves every line as it is.
 use Rattle.std.specs.Prelude.{◌≡◌}
-use Rattle.integers.specs.Basics.{refl, true, some}
+use Rattle.integers.specs.Basics.{refl, true, Some}
 use Rattle.ledger.specs.declared.order.Order.{Order}
 use Rattle.ledger.specs.Orders.{replaced_total}
 use Rattle.limits.proofs.LineLaws.{none_some}
@@ -15,14 +15,14 @@ use Rattle.book.proofs.Cuts.{standing, standing_member}
 use Rattle.book.proofs.Tables.{at_here}
 use Rattle.book.proofs.OrderChanges.{raised_found}
 
-pub enters_lines : (k : State) (e : Event) (o : Order) → entered k.book e ≡ some o → (work k e).book.lines_of ≡ k.book.lines_of
+pub enters_lines : (k : State) (e : Event) (o : Order) → entered k.book e ≡ Some o → (work k e).book.lines_of ≡ k.book.lines_of
 unfolding entered book_after
 enters_lines k (Set x) o enters = none_some o enters
 enters_lines k (New s c i id n) o enters = refl
 enters_lines k (Change id c) o enters = refl
 enters_lines k Junk o enters = refl
 
-pub enters_marked : (k : State) → Sound k → (e : Event) (o : Order) → entered k.book e ≡ some o
+pub enters_marked : (k : State) → Sound k → (e : Event) (o : Order) → entered k.book e ≡ Some o
     → (work k e).beside.trading o.account ≡ true
 unfolding entered mark new_order replaced_total
 enters_marked k sound (Set x) o enters = none_some o enters

@@ -1,6 +1,6 @@
 -- An event of one account leaves every other account's orders, balances and lines as they were.
 use Rattle.std.specs.Prelude.{◌≡◌, ◌↔◌, ◌≢◌, ◌+ℤ◌}
-use Rattle.integers.specs.Basics.{ℕ, refl, ◌∙◌, sym, ap, inr, ⊎_elim, List, ListMemᴰ, Option, none, some, ℤ, +ℤ_idr}
+use Rattle.integers.specs.Basics.{ℕ, refl, ◌∙◌, sym, ap, inr, ⊎_elim, List, ListMemᴰ, Option, None, Some, ℤ, +ℤ_idr}
 use mathlib.Core.Logic.Iff
 use Rattle.ledger.specs.declared.order.Order.{Order}
 use Rattle.ledger.proofs.Amounts.{fill_apart}
@@ -25,7 +25,7 @@ use Rattle.book.proofs.SoundOrders.{changed_account}
 abbrev pub OfAnother : ℕ → Book → Event → Type 0
 OfAnother a b (Set x) = ((l : IsLimit x) → a ≢ l.account) × ((z : IsBalance x) → a ≢ z.account)
 OfAnother a b (New s c i id n) = a ≢ c
-OfAnother a b (Change id c) = (o : Order) → find id b.orders ≡ some o → a ≢ o.account
+OfAnother a b (Change id c) = (o : Order) → find id b.orders ≡ Some o → a ≢ o.account
 OfAnother a b Junk = Unit
 
 -- the open orders, balances and lines of account a are as they were
@@ -36,7 +36,7 @@ pub record Untouched (a : ℕ) (b b' : Book) : Type 0 where
 
 -- a change of one order, to orders of the same account
 changed_elsewhere : {least : ℕ} {os : List Order} → Ascending least os → (a id : ℕ) (f : Order → List Order) (o : Order)
-    → find id os ≡ some o → a ≢ o.account → ((x : Order) → ListMemᴰ x (f o) → x.account ≡ o.account) → (x : Order) → x.account ≡ a
+    → find id os ≡ Some o → a ≢ o.account → ((x : Order) → ListMemᴰ x (f o) → x.account ≡ o.account) → (x : Order) → x.account ≡ a
     → ListMemᴰ x (change id f os) ↔ ListMemᴰ x os
 changed_elsewhere {least} {os} asc a id f o found other same x own = (
   λ m. ⊎_elim (λ k. absurd (other (sym own ∙ same x k))) (λ k. k.0) ((change_exactly asc id f o found x).0 m),
@@ -52,12 +52,12 @@ changed_elsewhere {least} {os} asc a id f o found other same x own = (
 -- lines and balances with those set of another account
 module _ {x : Setting} (a : ℕ) where
   lines_elsewhere : (ls : ℕ → Lines) → ((l : IsLimit x) → a ≢ l.account) → (y : Option (IsLimit x)) → set_lines y ls a ≡ ls a
-  lines_elsewhere ls other none = refl
-  lines_elsewhere ls other (some s) = at_elsewhere s.account (set_line s.line (ls s.account)) ls a (other s)
+  lines_elsewhere ls other None = refl
+  lines_elsewhere ls other (Some s) = at_elsewhere s.account (set_line s.line (ls s.account)) ls a (other s)
 
   balances_elsewhere : (S : ℕ → ℕ → ℤ) → ((z : IsBalance x) → a ≢ z.account) → (y : Option (IsBalance x)) → set_balances y S a ≡ S a
-  balances_elsewhere S other none = refl
-  balances_elsewhere S other (some s) = at_elsewhere s.account (at s.instrument s.balance (S s.account)) S a (other s)
+  balances_elsewhere S other None = refl
+  balances_elsewhere S other (Some s) = at_elsewhere s.account (at s.instrument s.balance (S s.account)) S a (other s)
 
 module _ (k : State) (sound : Sound k) (a : ℕ) where
   pub untouched : (e : Event) → Passed k e → OfAnother a k.book e → Untouched a k.book (work k e).book

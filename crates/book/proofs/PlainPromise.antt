@@ -1,6 +1,6 @@
 -- Demand 3 at the plain desk, used of events in bytes: N after a list, and a later list after N.
 use Rattle.std.specs.Prelude.{◌≡◌, ◌⊎◌, ◌∷◌, ◌++◌, ◌≤ℤ◌}
-use Rattle.integers.specs.Basics.{ℕ, Bool, true, List, some, ℤ}
+use Rattle.integers.specs.Basics.{ℕ, Bool, true, List, Some, ℤ}
 use Rattle.ledger.specs.declared.order.Order.{Order}
 use Rattle.ledger.specs.Roster.{Roster}
 use Rattle.ledger.specs.Positions.{Scope, Way}
@@ -36,7 +36,7 @@ module _ (r : Roster) where
     -- N enters or raises o, and passes every check before the position limits
     abbrev pub Meets : Order → Type 0
     Meets o =
-        (entered state_before.book (as_event (written n)) ≡ some o)
+        (entered state_before.book (as_event (written n)) ≡ Some o)
         × (all_pass (questions_before state_before (as_event (written n))) ≡ true)
 
     abbrev pub answer_to : ℕ

@@ -1,6 +1,6 @@
 -- What an accepted BALANCE, NEW or change of an open order does to each potential position; no other kind moves any.
 use Rattle.std.specs.Prelude.{◌+◌, ◌*◌, ◌-◌, ◌≤◌, ◌≡◌, ◌≢◌, ◌+ℤ◌, ◌-ℤ◌, ◌≤ℤ◌}
-use Rattle.integers.specs.Basics.{ℕ, refl, ◌∙◌, ap, ListMemᴰ, some, ℤ, pos, nat_abs, arith}
+use Rattle.integers.specs.Basics.{ℕ, refl, ◌∙◌, ap, ListMemᴰ, Some, ℤ, pos, nat_abs, arith}
 use Rattle.ledger.specs.declared.order.Order.{Order}
 use Rattle.ledger.specs.declared.order.Side.{Side}
 use Rattle.ledger.specs.Orders.{remaining}
@@ -45,7 +45,7 @@ module _ (k : State) (a : ℕ) (p : Scope) (w : Way) where
     unfolding book_after new_order
     new_other = shift_of_another (new_shift k s c i id n) a (k.book.balance_of a) k.roster p w
 
-  module _ (id : ℕ) (o : Order) (found : find id k.book.orders ≡ some o) where
+  module _ (id : ℕ) (o : Order) (found : find id k.book.orders ≡ Some o) where
     -- a change that leaves no more to remain, with what it fills, than remained raises none: a REPLACE whose total does not rise, a
     -- CANCEL, a FILL
     pub change_lowers : (c : OrderChange) → remaining (order_after c o) + filled_in c ≤ remaining o
@@ -70,7 +70,7 @@ module _ (k : State) where
   unfolding book_after potential new_order
   new_own s a i id n = shift_by (new_shift k s a i id n) a (k.book.balance_of a) refl _ (new_counts s a i id n) (way_of s) refl
 
-  module _ (id : ℕ) (o : Order) (found : find id k.book.orders ≡ some o) where
+  module _ (id : ℕ) (o : Order) (found : find id k.book.orders ≡ Some o) where
     -- the position of the order's account and instrument on side w, and what m contracts of the order count for
     abbrev own_at : State → Way → ℤ
     own_at h w = potential_of h o.account (instrument o.instrument) w

@@ -1,9 +1,9 @@
 -- LIMITs that set a limit again, and LIMITs that do not, computed.
 use Rattle.std.specs.Prelude.{◌≡◌}
-use Rattle.integers.specs.Basics.{ℕ, refl, inl, inr, ⊎_elim, false, [], none, some, ℤ, pos, negsuc, arith}
+use Rattle.integers.specs.Basics.{ℕ, refl, inl, inr, ⊎_elim, false, [], None, Some, ℤ, pos, negsuc, arith}
 use Rattle.ledger.specs.Roster.{Roster}
 use Rattle.ledger.specs.Positions.{Scope, instrument, group}
-use Rattle.limits.specs.Lines.{Line}
+use Rattle.limits.specs.declared.lines.Line.{Line}
 use Rattle.book.specs.declared.Figures.{Figures}
 use Rattle.book.specs.declared.LimitLine.TheVariants.{Own, Default, OfGroup}
 use Rattle.book.specs.declared.Setting.{Setting}
@@ -30,10 +30,10 @@ book =
       balance_of = λ a i. pos 0;
       lines_of =
           λ a. record {
-            own_of = at 2 (some line) (λ i. none);
-            default_of = λ c. some line;
+            own_of = at 2 (Some line) (λ i. None);
+            default_of = λ c. Some line;
             line_of_group =
-                λ g. some (record { lcc = 9; lvc = 9 });
+                λ g. Some (record { lcc = 9; lvc = 9 });
           };
       blocks = record { account = λ a. false; instrument = λ i. false; group = λ a g. false };
       orders = [];
@@ -46,12 +46,12 @@ Again x p =
 -- the own line is unset while it is not set: nothing in force changes
 unset_twice : ¬ Again (Limit 1 (Own 1 (figures (negsuc 0)))) (instrument 1)
 unfolding line_set line_over book_after set_line line_of unsets
-unset_twice = ⊎_elim (λ e. let z : ◌≡◌ {A = ℕ} 0 1 = cc in omega arith) (λ e. let z : ◌≡◌ {A = ℕ} 0 1 = cc in omega arith)
+unset_twice = ⊎_elim (λ e. cc) (λ e. cc)
 
 -- the default line under an own line that is set
 default_under_own : ¬ Again (Limit 1 (Default 1 (figures (pos 5)))) (instrument 2)
 unfolding line_set line_over book_after set_line line_of unsets
-default_under_own = ⊎_elim (λ e. let z : ◌≡◌ {A = ℕ} 0 1 = cc in omega arith) (λ e. let z : ◌≡◌ {A = ℕ} 0 1 = cc in omega arith)
+default_under_own = ⊎_elim (λ e. cc) (λ e. cc)
 
 -- the same line of another account
 another_account : ¬ Again (Limit 2 (Default 1 (figures (pos 5)))) (instrument 1)
@@ -61,16 +61,16 @@ another_account = ⊎_elim (λ e. let z : ◌≡◌ {A = ℕ} 1 2 = cc in omega 
 -- an instrument's line, for the group; the group's line, for an instrument
 instrument_for_group : ¬ Again (Limit 1 (Own 2 (figures (pos 5)))) (group 1)
 unfolding line_set line_over book_after set_line line_of unsets
-instrument_for_group = ⊎_elim (λ e. let z : ◌≡◌ {A = ℕ} 0 1 = cc in omega arith) (λ e. let z : ◌≡◌ {A = ℕ} 0 1 = cc in omega arith)
+instrument_for_group = ⊎_elim (λ e. cc) (λ e. cc)
 
 group_for_instrument : ¬ Again (Limit 1 (OfGroup 1 (pos 5) (pos 5))) (instrument 2)
 unfolding line_set line_over book_after set_line line_of unsets
-group_for_instrument = ⊎_elim (λ e. let z : ◌≡◌ {A = ℕ} 0 1 = cc in omega arith) (λ e. let z : ◌≡◌ {A = ℕ} 0 1 = cc in omega arith)
+group_for_instrument = ⊎_elim (λ e. cc) (λ e. cc)
 
 -- no other kind of event
 by_balance : ¬ Again (Balance 1 1 (pos 5)) (instrument 1)
 unfolding line_set line_over book_after
-by_balance = ⊎_elim (λ e. let z : ◌≡◌ {A = ℕ} 0 1 = cc in omega arith) (λ e. let z : ◌≡◌ {A = ℕ} 0 1 = cc in omega arith)
+by_balance = ⊎_elim (λ e. cc) (λ e. cc)
 
 -- the default line in force, with the figures that it has: set again
 default_in_force : Again (Limit 1 (Default 1 (figures (pos 9)))) (instrument 1)

@@ -1,6 +1,6 @@
 -- What a NEW and a change do to the open orders: what counts of one order is another number, and the balances move by what is filled.
 use Rattle.std.specs.Prelude.{◌*◌, ◌-◌, ◌≡◌, ◌≢◌, ◌∷◌, ◌+ℤ◌}
-use Rattle.integers.specs.Basics.{ℕ, refl, ◌∙◌, ap, fun_ext, by_cases, [], Option, none, some, ℤ, pos}
+use Rattle.integers.specs.Basics.{ℕ, refl, ◌∙◌, ap, fun_ext, by_cases, [], Option, None, Some, ℤ, pos}
 use Rattle.integers.specs.Basics.{+ℤ_idr, ℕ_discrete, arith, ne_eqb, signed}
 use Rattle.ledger.specs.declared.order.Order.{Order}
 use Rattle.ledger.specs.declared.order.Side.{Side}
@@ -38,8 +38,8 @@ no_fill unit a i o =
     by_test (stands_in a i o) (λ t. rw (t, nought) (zero_toward (way_of o.side))) (λ t. rw t)
 
 pub none_filled : (unit : Order → ℕ) (x : Option Order) (s : ℕ → ℕ → ℤ) (a : ℕ) → filled_balances unit x 0 s a ≡ s a
-none_filled unit none s a = refl
-none_filled unit (some o) s a = fun_ext (λ i. ap (λ z. s a i +ℤ z) (no_fill unit a i o) ∙ +ℤ_idr (s a i))
+none_filled unit None s a = refl
+none_filled unit (Some o) s a = fun_ext (λ i. ap (λ z. s a i +ℤ z) (no_fill unit a i o) ∙ +ℤ_idr (s a i))
 
 module _ (k : State) where
   pub new_shift : (s : Side) (a i id : ℕ) (n : ℤ)
@@ -50,7 +50,7 @@ module _ (k : State) where
       let o = new_order s a i id n in
       entered k.market.unit o k.book.orders (insert o k.book.orders) (insert_sums o k.book.orders)
 
-  module _ (id : ℕ) (o : Order) (found : find id k.book.orders ≡ some o) where
+  module _ (id : ℕ) (o : Order) (found : find id k.book.orders ≡ Some o) where
     -- a change by which the order becomes o', or leaves
     stays : (c : OrderChange) (o' : Order) → changed c o ≡ o' ∷ [] → Changed o o' k.book.orders (work k (Change id c)).book.orders
     unfolding book_after

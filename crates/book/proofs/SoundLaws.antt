@@ -1,11 +1,13 @@
 -- "A desk is sound if ..": each condition of document 01's sentence, and no other.
 use Rattle.std.specs.Prelude.{◌≤◌, ◌<◌, ◌≡◌, ◌↔◌, ◌∷◌, ◌≤ℤ◌}
-use Rattle.integers.specs.Basics.{ℕ, true, List, [], ListMemᴰ, some, pos, nat_abs, length}
+use Rattle.integers.specs.Basics.{ℕ, true, List, [], ListMemᴰ, Some, pos, nat_abs, length}
 use Rattle.ledger.specs.declared.order.Order.{Order}
 use Rattle.ledger.specs.Orders.{remaining}
 use Rattle.ledger.specs.Roster.{Roster, Numbered}
 use Rattle.ledger.specs.Positions.{Way, of_instrument}
-use Rattle.limits.specs.Lines.{Line, GroupLine, Lines}
+use Rattle.limits.specs.declared.lines.Line.{Line}
+use Rattle.limits.specs.declared.lines.GroupLine.{GroupLine}
+use Rattle.limits.specs.Lines.{Lines}
 use Rattle.book.specs.States.{State}
 use Rattle.book.specs.Sound.{RosterFits, LineFits, LinesFit, OrderFits, Ascending, nothing, next, Sound}
 
@@ -24,9 +26,9 @@ roster_fits_iff r = (
 
 -- "its lines .. are in range": "figures run from 0 to 1,000,000,000"
 pub lines_fit_iff : (largest : ℕ) (ls : Lines) → LinesFit largest ls
-    ↔ (((i : ℕ) (l : Line) → ls.own_of i ≡ some l → (l.tci ≤ largest) × (l.tvi ≤ largest) × (l.lci ≤ largest) × (l.lvi ≤ largest))
-    × ((c : ℕ) (l : Line) → ls.default_of c ≡ some l → (l.tci ≤ largest) × (l.tvi ≤ largest) × (l.lci ≤ largest) × (l.lvi ≤ largest))
-    × ((g : ℕ) (l : GroupLine) → ls.line_of_group g ≡ some l → (l.lcc ≤ largest) × (l.lvc ≤ largest)))
+    ↔ (((i : ℕ) (l : Line) → ls.own_of i ≡ Some l → (l.tci ≤ largest) × (l.tvi ≤ largest) × (l.lci ≤ largest) × (l.lvi ≤ largest))
+    × ((c : ℕ) (l : Line) → ls.default_of c ≡ Some l → (l.tci ≤ largest) × (l.tvi ≤ largest) × (l.lci ≤ largest) × (l.lvi ≤ largest))
+    × ((g : ℕ) (l : GroupLine) → ls.line_of_group g ≡ Some l → (l.lcc ≤ largest) × (l.lvc ≤ largest)))
 lines_fit_iff largest ls = (
   λ h. (λ i l e. all_four (h.own i l e), λ c l e. all_four (h.default c l e), λ g l e. ((h.of_group g l e).lcc, (h.of_group g l e).lvc)),
   λ h. record {

@@ -1,11 +1,13 @@
 -- Lines stay in range: the figures that pass question 9 make a line in range, and a line in range gives limits in range.
 use Rattle.std.specs.Prelude.{◌≤◌, ◌≡◌, ◌&&◌, ◌||◌, ◌≤ℤ◌}
-use Rattle.integers.specs.Basics.{ℕ, refl, Bool, true, Option, none, some, ℤ, pos, nat_abs, signed}
+use Rattle.integers.specs.Basics.{ℕ, refl, Bool, true, Option, None, Some, ℤ, pos, nat_abs, signed}
 use Rattle.integers.specs.Basics.{magnitude_parts}
 use Rattle.ledger.specs.Roster.{Roster}
 use Rattle.ledger.specs.Positions.{Way, long, short, instrument}
 use Rattle.ledger.proofs.Ways.{by_test}
-use Rattle.limits.specs.Lines.{Line, GroupLine, Lines, or_else, line_in_force, figure, largest_position, limit}
+use Rattle.limits.specs.declared.lines.Line.{Line}
+use Rattle.limits.specs.declared.lines.GroupLine.{GroupLine}
+use Rattle.limits.specs.Lines.{Lines, or_else, line_in_force, figure, largest_position, limit}
 use Rattle.limits.proofs.Answers.{both_true}
 use Rattle.limits.proofs.LineLaws.{none_some}
 use Rattle.book.specs.declared.Figures.{Figures}
@@ -30,7 +32,7 @@ module _ (largest : ℕ) where
       let h = between_ℤ_both (pos 0) (pos largest) z e in
       omega (signed, magnitude_parts z)
 
-  pub line_fits_lem : (f : Figures) → figures_of_line_fit largest f ≡ true → (l : Line) → line_of f ≡ some l → LineFits largest l
+  pub line_fits_lem : (f : Figures) → figures_of_line_fit largest f ≡ true → (l : Line) → line_of f ≡ Some l → LineFits largest l
   unfolding line_of
   line_fits_lem f fit l e =
       by_test (unsets f) (λ t. none_some l (rw t at e))
@@ -49,7 +51,7 @@ module _ (largest : ℕ) where
 
   pub group_line_fits : (x y : ℤ) → (is_minus_one x && is_minus_one y) || (is_limit largest x && is_limit largest y) ≡ true
       → (l : GroupLine)
-      → group_line_of x y ≡ some l → GroupLineFits largest l
+      → group_line_of x y ≡ Some l → GroupLineFits largest l
   unfolding group_line_of
   group_line_fits x y fit l e =
       by_test (is_minus_one x && is_minus_one y) (λ t. none_some l (rw t at e))
@@ -64,7 +66,7 @@ module _ (largest : ℕ) where
   set_fits (Own i f) ls fit was =
       record {
         own =
-            λ j l. at_each i (line_of f) ls.own_of (λ x. x ≡ some l → LineFits largest l) j (λ _. line_fits_lem f fit l)
+            λ j l. at_each i (line_of f) ls.own_of (λ x. x ≡ Some l → LineFits largest l) j (λ _. line_fits_lem f fit l)
             (λ _. was.own j l);
         default = was.default;
         of_group = was.of_group;
@@ -73,7 +75,7 @@ module _ (largest : ℕ) where
       record {
         own = was.own;
         default =
-            λ j l. at_each c (line_of f) ls.default_of (λ x. x ≡ some l → LineFits largest l) j (λ _. line_fits_lem f fit l)
+            λ j l. at_each c (line_of f) ls.default_of (λ x. x ≡ Some l → LineFits largest l) j (λ _. line_fits_lem f fit l)
             (λ _. was.default j l);
         of_group = was.of_group;
       }
@@ -82,7 +84,7 @@ module _ (largest : ℕ) where
         own = was.own;
         default = was.default;
         of_group =
-            λ j l. at_each g (group_line_of x y) ls.line_of_group (λ k. k ≡ some l → GroupLineFits largest l) j
+            λ j l. at_each g (group_line_of x y) ls.line_of_group (λ k. k ≡ Some l → GroupLineFits largest l) j
             (λ _. group_line_fits x y fit l) (λ _. was.of_group j l);
       }
 
@@ -96,8 +98,8 @@ pub limit_fits : (r : Roster) (ls : Lines) (largest : ℕ) → LinesFit largest 
 unfolding limit line_in_force
 limit_fits r ls largest fit i w = by (ls.own_of i) (ls.default_of (r.contract_of i)) (fit.own i) (fit.default (r.contract_of i))
   where
-    by : (own default : Option Line) → ((l : Line) → own ≡ some l → LineFits largest l)
-        → ((l : Line) → default ≡ some l → LineFits largest l) → figure (largest_position w) (or_else own default) ≤ℤ pos largest
-    by (some l) default h k = let f = largest_fits largest w l (h l refl) in omega signed
-    by none (some l) h k = let f = largest_fits largest w l (k l refl) in omega signed
-    by none none h k = omega signed
+    by : (own default : Option Line) → ((l : Line) → own ≡ Some l → LineFits largest l)
+        → ((l : Line) → default ≡ Some l → LineFits largest l) → figure (largest_position w) (or_else own default) ≤ℤ pos largest
+    by (Some l) default h k = let f = largest_fits largest w l (h l refl) in omega signed
+    by None (Some l) h k = let f = largest_fits largest w l (k l refl) in omega signed
+    by None None h k = omega signed

@@ -1,6 +1,6 @@
 -- Open orders stay in range, at most 256, and marked: what each kind of accepted event leaves of them.
 use Rattle.std.specs.Prelude.{◌≤◌, ◌≡◌, ◌≢◌}
-use Rattle.integers.specs.Basics.{ℕ, refl, ◌∙◌, ap, ⊎_elim, by_cases, true, List, ListMemᴰ, ListMemᴰ_not_nil, some, ℤ}
+use Rattle.integers.specs.Basics.{ℕ, refl, ◌∙◌, ap, ⊎_elim, by_cases, true, List, ListMemᴰ, ListMemᴰ_not_nil, Some, ℤ}
 use Rattle.integers.specs.Basics.{nat_abs, length, ℕ_discrete, arith, not-true, ltb-true}
 use mathlib.Core.List.Memᴰ
 use Rattle.ledger.specs.declared.order.Order.{Order}
@@ -38,7 +38,7 @@ became_length : (o : Order) (l : List Order) → Became o l → length l ≤ 1
 became_length o l gone = omega arith
 became_length o l (became e) = omega arith
 
-module _ (id : ℕ) (f : Order → List Order) (os : List Order) (o : Order) (found : find id os ≡ some o) where
+module _ (id : ℕ) (f : Order → List Order) (os : List Order) (o : Order) (found : find id os ≡ Some o) where
   -- what holds of the open orders, and of what one of them becomes, holds after the change
   pub change_each : (P : Order → Type 0) → ((x : Order) → ListMemᴰ x os → P x) → ((x : Order) → ListMemᴰ x (f o) → P x) → (x : Order)
       → ListMemᴰ x (change id f os) → P x
@@ -76,7 +76,7 @@ changed_fits r c o was figures fits x m =
 
 -- ---- what each kind leaves
 module _ (k : State) (sound : Sound k) where
-  member : (id : ℕ) (o : Order) → find id k.book.orders ≡ some o → ListMemᴰ o k.book.orders
+  member : (id : ℕ) (o : Order) → find id k.book.orders ≡ Some o → ListMemᴰ o k.book.orders
   member id o found = standing_member (standing id k.book.orders o found)
 
   pub fits_after : (e : Event) → Passed k e → (x : Order) → ListMemᴰ x (work k e).book.orders → OrderFits k.roster x

@@ -1,6 +1,6 @@
 -- "The plain book is kept from the roster, the events and their answers": what is kept after a list, event by event.
 use Rattle.std.specs.Prelude.{◌<◌, ◌≡◌, ◌∷◌, ◌++◌}
-use Rattle.integers.specs.Basics.{ℕ, refl, ◌∙◌, false, List, [], none, pos, eqb, get_or}
+use Rattle.integers.specs.Basics.{ℕ, refl, ◌∙◌, false, List, [], None, pos, eqb, get_or}
 use Rattle.ledger.specs.Roster.{Roster}
 use Rattle.ledger.proofs.Ways.{by_test}
 use Rattle.book.specs.declared.Event.{Event}
@@ -20,9 +20,9 @@ only_bytes e = e.are
 -- "It begins with balances 0 and no line, block or open order", and no account is trading
 pub begins_empty : (mk : Market) (r : Roster) → ((begun mk r).book.orders ≡ [])
     × ((a i : ℕ) → (begun mk r).book.balance_of a i ≡ pos 0)
-    × ((a i : ℕ) → ((begun mk r).book.lines_of a).own_of i ≡ none)
-    × ((a c : ℕ) → ((begun mk r).book.lines_of a).default_of c ≡ none)
-    × ((a g : ℕ) → ((begun mk r).book.lines_of a).line_of_group g ≡ none)
+    × ((a i : ℕ) → ((begun mk r).book.lines_of a).own_of i ≡ None)
+    × ((a c : ℕ) → ((begun mk r).book.lines_of a).default_of c ≡ None)
+    × ((a g : ℕ) → ((begun mk r).book.lines_of a).line_of_group g ≡ None)
     × ((a : ℕ) → (begun mk r).book.blocks.account a ≡ false)
     × ((i : ℕ) → (begun mk r).book.blocks.instrument i ≡ false)
     × ((a g : ℕ) → (begun mk r).book.blocks.group a g ≡ false)

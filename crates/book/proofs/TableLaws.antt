@@ -1,6 +1,6 @@
 -- The order that the later questions of an event's table are asked of.
 use Rattle.std.specs.Prelude.{◌<◌, ◌≡◌, ◌⊎◌, ◌↔◌}
-use Rattle.integers.specs.Basics.{ℕ, sym, ap, inl, inr, ⊎_elim, some, ℤ, nat_abs, lt-ltb}
+use Rattle.integers.specs.Basics.{ℕ, sym, ap, inl, inr, ⊎_elim, Some, ℤ, nat_abs, lt-ltb}
 use Rattle.ledger.specs.declared.order.Order.{Order}
 use Rattle.ledger.specs.Orders.{replaced_total}
 use Rattle.limits.proofs.LineLaws.{none_some}
@@ -25,16 +25,16 @@ Raises b e o =
     × (n : ℤ)
     × (x : Order)
     × (e ≡ Change id (Replace n))
-    × (find id b.orders ≡ some x)
+    × (find id b.orders ≡ Some x)
     × (x.total < nat_abs n)
     × (o ≡ record { id = x.id; account = x.account; instrument = x.instrument; side = x.side; total = nat_abs n; filled = x.filled })
 
-pub entered_iff : (b : Book) (e : Event) (o : Order) → (entered b e ≡ some o) ↔ (IsNew e o ⊎ Raises b e o)
+pub entered_iff : (b : Book) (e : Event) (o : Order) → (entered b e ≡ Some o) ↔ (IsNew e o ⊎ Raises b e o)
 unfolding entered new_order replaced_total
 entered_iff b e o = (
   there e,
   ⊎_elim (λ h. rw h.1
-      (λ i. some (record {
+      (λ i. Some (record {
         id = o.id;
         account = o.account;
         instrument = o.instrument;
@@ -46,7 +46,7 @@ entered_iff b e o = (
       (λ h. rw (h.3, h.4, lt-ltb h.2.total (nat_abs h.1) h.5, h.6)),
 )
   where
-    there : (e : Event) → entered b e ≡ some o → IsNew e o ⊎ Raises b e o
+    there : (e : Event) → entered b e ≡ Some o → IsNew e o ⊎ Raises b e o
     there (Set x) h = none_some o h
     there (New s a i id n) h = inl (n, cc, cc, cc)
     there (Change id c) h =

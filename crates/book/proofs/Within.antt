@@ -1,7 +1,7 @@
 -- An accepted event keeps a potential position within every bound that its limit is within. With the limit itself for the
 -- bound this is demand 3's second half; with the largest figure it is soundness.
 use Rattle.std.specs.Prelude.{◌≡◌, ◌≢◌, ◌≤ℤ◌}
-use Rattle.integers.specs.Basics.{ℕ, refl, ◌∙◌, sym, ap, by_cases, true, Option, none, some, ℤ, ℕ_discrete, signed}
+use Rattle.integers.specs.Basics.{ℕ, refl, ◌∙◌, sym, ap, by_cases, true, Option, None, Some, ℤ, ℕ_discrete, signed}
 use Rattle.ledger.specs.declared.order.Order.{Order}
 use Rattle.ledger.specs.Roster.{Roster}
 use Rattle.ledger.specs.Positions.{Way, Scope, instrument, group}
@@ -27,16 +27,16 @@ use Rattle.book.proofs.Potentials.{balance_other, new_unmoved, new_other, change
 
 -- the event sets no balance of account a
 abbrev pub SetsNoBalance : ℕ → Event → Type 0
-SetsNoBalance a e = balance_account e ≢ some a
+SetsNoBalance a e = balance_account e ≢ Some a
 
 -- the order that an accepted REPLACE, CANCEL or FILL names
-pub found_order : (id : ℕ) (b : Book) → is_set (find id b.orders) ≡ true → (o : Order) × (find id b.orders ≡ some o)
+pub found_order : (id : ℕ) (b : Book) → is_set (find id b.orders) ≡ true → (o : Order) × (find id b.orders ≡ Some o)
 found_order id b e = set_some (find id b.orders) e
 
 -- the order that an accepted change names, and that the change fits it
 pub record Named (k : State) (id : ℕ) (c : OrderChange) : Type 0 where
   pub order : Order
-  pub found : find id k.book.orders ≡ some order
+  pub found : find id k.book.orders ≡ Some order
   pub fits : fits_order c order ≡ true
   pub figures : change_in_range c ≡ true
 
@@ -58,7 +58,7 @@ same_moves r same w (group g) m = rw (same.instrument, same.side) m
 
 module _ (k : State) (a : ℕ) (p : Scope) (w : Way) (bound : ℤ) where
   -- the order that it enters or raises: what that moves was checked
-  entered_within : (e : Event) → Accepted k e → (o : Order) → entered k.book e ≡ some o
+  entered_within : (e : Event) → Accepted k e → (o : Order) → entered k.book e ≡ Some o
       → (work k e).book.lines_of ≡ k.book.lines_of → limit_of k a p w ≤ℤ bound → o.account ≡ a → Moves k.roster o p w
       → potential_of (work k e) a p w ≤ℤ bound
   entered_within e acc o enters lines le own m =
@@ -70,7 +70,7 @@ module _ (k : State) (a : ℕ) (p : Scope) (w : Way) (bound : ℤ) where
   changed_within : (id : ℕ) (c : OrderChange) → Accepted k (Change id c) → limit_of k a p w ≤ℤ bound → potential_of k a p w ≤ℤ bound
       → potential_of (work k (Change id c)) a p w ≤ℤ bound
   unfolding entered book_after
-  changed_within id c acc le h = by (raised c (some o)) refl
+  changed_within id c acc le h = by (raised c (Some o)) refl
     where
       x : Named k id c
       x = named_order k id c acc.passed
@@ -78,9 +78,9 @@ module _ (k : State) (a : ℕ) (p : Scope) (w : Way) (bound : ℤ) where
       o : Order
       o = x.order
 
-      by : (y : Option Order) → raised c (some o) ≡ y → potential_of (work k (Change id c)) a p w ≤ℤ bound
-      by none e = omega (signed, change_lowers k a p w id o x.found c (not_raised c o e x.fits))
-      by (some y) e =
+      by : (y : Option Order) → raised c (Some o) ≡ y → potential_of (work k (Change id c)) a p w ≤ℤ bound
+      by None e = omega (signed, change_lowers k a p w id o x.found c (not_raised c o e x.fits))
+      by (Some y) e =
           let same : SameOrder o y = rw (raised_after c o y e) (same_order c o) in
           let rest : ¬ ((o.account ≡ a) × Moves k.roster o p w) → potential_of (work k (Change id c)) a p w ≤ℤ bound =
           λ out. omega (signed, change_unmoved k a p w id o x.found c out) in
@@ -95,7 +95,7 @@ module _ (k : State) (a : ℕ) (p : Scope) (w : Way) (bound : ℤ) where
   unfolding book_after
   set_within x out h =
       by_balance (λ s. SetsNoBalance a (Set s) → potential_of (work k (Set s)) a p w ≤ℤ bound) x
-      (λ c i z other. let same = balance_other k a p w c i z (λ e. other (ap some (sym e))) in omega signed) (λ none _. rw none h) out
+      (λ c i z other. let same = balance_other k a p w c i z (λ e. other (ap Some (sym e))) in omega signed) (λ none _. rw none h) out
 
   pub kept_within : (e : Event) → Accepted k e → SetsNoBalance a e → limit_of k a p w ≤ℤ bound → potential_of k a p w ≤ℤ bound
       → potential_of (work k e) a p w ≤ℤ bound

@@ -1,11 +1,13 @@
 -- Document 01, "The plain book", and what an accepted event does to it.
 use Rattle.std.specs.Prelude.{◌&&◌, ◌+ℤ◌}
-use Rattle.integers.specs.Basics.{ℕ, Bool, false, not, cond, List, [], Option, none, some, ℤ, pos, negsuc, nat_abs, eqb}
+use Rattle.integers.specs.Basics.{ℕ, Bool, false, not, cond, List, [], Option, None, Some, ℤ, pos, negsuc, nat_abs, eqb}
 use Rattle.ledger.specs.declared.order.Order.{Order}
 use Rattle.ledger.specs.declared.order.Side.{Side}
 use Rattle.ledger.specs.Orders.{filled_by, replaced_total}
 use Rattle.ledger.specs.Fillings.{fill_moves}
-use Rattle.limits.specs.Lines.{Line, GroupLine, Lines}
+use Rattle.limits.specs.declared.lines.Line.{Line}
+use Rattle.limits.specs.declared.lines.GroupLine.{GroupLine}
+use Rattle.limits.specs.Lines.{Lines}
 use Rattle.limits.specs.Asked.{is_zero}
 use Rattle.book.specs.declared.Figures.{Figures}
 use Rattle.book.specs.declared.LimitLine.{LimitLine}
@@ -38,7 +40,7 @@ unfoldable pub empty_book : Book
 empty_book =
     record {
       balance_of = λ a i. pos 0;
-      lines_of = λ a. record { own_of = λ i. none; default_of = λ c. none; line_of_group = λ g. none };
+      lines_of = λ a. record { own_of = λ i. None; default_of = λ c. None; line_of_group = λ g. None };
       blocks = record { account = λ a. false; instrument = λ i. false; group = λ a g. false };
       orders = [];
     }
@@ -58,12 +60,12 @@ unsets f = is_minus_one f.tci && is_minus_one f.tvi && is_minus_one f.lci && is_
 -- the line that figures name: −1 throughout means not set
 unfoldable pub line_of : Figures → Option Line
 line_of f =
-    cond (unsets f) none
-    (some (record { tci = nat_abs f.tci; tvi = nat_abs f.tvi; lci = nat_abs f.lci; lvi = nat_abs f.lvi }))
+    cond (unsets f) None
+    (Some (record { tci = nat_abs f.tci; tvi = nat_abs f.tvi; lci = nat_abs f.lci; lvi = nat_abs f.lvi }))
 
 unfoldable pub group_line_of : ℤ → ℤ → Option GroupLine
 group_line_of x y =
-    cond (is_minus_one x && is_minus_one y) none (some (record { lcc = nat_abs x; lvc = nat_abs y }))
+    cond (is_minus_one x && is_minus_one y) None (Some (record { lcc = nat_abs x; lvc = nat_abs y }))
 
 -- the figures become that line
 unfoldable pub set_line : LimitLine → Lines → Lines
@@ -107,26 +109,26 @@ filled_in (Fill n) = nat_abs n
 
 -- balances after n contracts of the order found are filled
 abbrev pub filled_balances : (Order → ℕ) → Option Order → ℕ → (ℕ → ℕ → ℤ) → ℕ → ℕ → ℤ
-filled_balances unit none n s a i = s a i
-filled_balances unit (some o) n s a i = s a i +ℤ fill_moves unit a i o n
+filled_balances unit None n s a i = s a i
+filled_balances unit (Some o) n s a i = s a i +ℤ fill_moves unit a i o n
 
 abbrev pub with_orders : Book → List Order → Book
 with_orders b os = record { balance_of = b.balance_of; lines_of = b.lines_of; blocks = b.blocks; orders = os }
 
 -- LIMIT: the figures become that line; no other setting sets one
 abbrev pub set_lines : {x : Setting} → Option (IsLimit x) → (ℕ → Lines) → ℕ → Lines
-set_lines none ls = ls
-set_lines (some s) ls = at s.account (set_line s.line (ls s.account)) ls
+set_lines None ls = ls
+set_lines (Some s) ls = at s.account (set_line s.line (ls s.account)) ls
 
 -- BALANCE: the figure becomes that S; no other setting does
 abbrev pub set_balances : {x : Setting} → Option (IsBalance x) → (ℕ → ℕ → ℤ) → ℕ → ℕ → ℤ
-set_balances none S = S
-set_balances (some s) S = at s.account (at s.instrument s.balance (S s.account)) S
+set_balances None S = S
+set_balances (Some s) S = at s.account (at s.instrument s.balance (S s.account)) S
 
 -- BLOCK: the figure becomes that block; no other setting does
 abbrev pub set_blocks : {x : Setting} → Option (IsBlock x) → Blocks → Blocks
-set_blocks none bs = bs
-set_blocks (some s) bs = set_block s.what (not (is_zero s.on)) bs
+set_blocks None bs = bs
+set_blocks (Some s) bs = set_block s.what (not (is_zero s.on)) bs
 
 -- the book after an accepted event.
 -- LIMIT, BALANCE, BLOCK: the figures become that line, S or block, and the open orders stay. NEW: an order joins. REPLACE, CANCEL, FILL:

@@ -5,7 +5,7 @@ use Rattle.words.specs.Fields.{u8_at, u16_at, u64_at, i64_at}
 use Rattle.ledger.specs.Records.{side_of}
 use Rattle.limits.specs.Asked.{is_zero}
 use Rattle.book.specs.declared.Figures.{Figures}
-use Rattle.book.specs.declared.Named.{Named}
+use Rattle.book.specs.declared.NamedFields.{NamedFields}
 use Rattle.book.specs.declared.Setting.{Setting}
 use Rattle.book.specs.declared.Setting.TheVariants.{Limit, Balance, Block}
 use Rattle.book.specs.declared.Event.{Event}
@@ -60,34 +60,34 @@ abbrev pub between : ℕ → ℕ → ℕ → Bool
 between low high n = leb low n && leb n high
 
 -- LIMIT: account, item, level, figures
-abbrev pub limit_names : ℕ → Named
+abbrev pub limit_names : ℕ → NamedFields
 limit_names n = record { side = false; account = true; item = true; level = true; id = false; figures = n }
 
 -- BALANCE: account, instrument as item, figure one
-abbrev pub balance_names : Named
+abbrev pub balance_names : NamedFields
 balance_names = record { side = false; account = true; item = true; level = false; id = false; figures = 1 }
 
 -- BLOCK: level, figure one, and by the level account, item or both
-abbrev pub block_names : Bool → Bool → Named
+abbrev pub block_names : Bool → Bool → NamedFields
 block_names account item =
     record { side = false; account = account; item = item; level = true; id = false; figures = 1 }
 
 -- NEW: side, account, instrument as item, id, quantity as figure one
-abbrev pub new_names : Named
+abbrev pub new_names : NamedFields
 new_names = record { side = true; account = true; item = true; level = false; id = true; figures = 1 }
 
 -- REPLACE and FILL: id, figure one; CANCEL: id
-abbrev pub order_names : ℕ → Named
+abbrev pub order_names : ℕ → NamedFields
 order_names n = record { side = false; account = false; item = false; level = false; id = true; figures = n }
 
-abbrev pub setting_names : ℕ → ℕ → Named
+abbrev pub setting_names : ℕ → ℕ → NamedFields
 setting_names kind level =
     by_setting kind
     (by_level level (limit_names 4) (limit_names 4) (limit_names 2))
     balance_names
     (by_level level (block_names true false) (block_names false true) (block_names true true))
 
-unfoldable pub named : ℕ → ℕ → Named
+unfoldable pub named : ℕ → ℕ → NamedFields
 named kind level =
     by_kind kind
     (setting_names kind level)
@@ -97,7 +97,7 @@ named kind level =
     (order_names 1)
 
 -- is a named side and level one of the listed values, a named id non-zero, every unnamed field zero?
-unfoldable pub fields_fit : Named → List ℕ → Bool
+unfoldable pub fields_fit : NamedFields → List ℕ → Bool
 fields_fit n e =
     cond n.side (between 1 2 (side_field e)) (eqb (side_field e) 0)
     && (n.account || eqb (account_field e) 0)

@@ -1,6 +1,6 @@
 -- Demand 3, of a desk D whose memory m₀ holds what k₀ says: a single claim about every list of events.
 use Rattle.std.specs.Prelude.{◌≡◌, ◌⊎◌, ◌↔◌, ◌∷◌, ◌≤ℤ◌, ◌<ℤ◌}
-use Rattle.integers.specs.Basics.{ℕ, true, List, [], some, ℤ}
+use Rattle.integers.specs.Basics.{ℕ, true, List, [], Some, ℤ}
 use Rattle.ledger.specs.declared.order.Order.{Order}
 use Rattle.ledger.specs.Positions.{Scope, Way, position}
 use Rattle.ledger.specs.Fillings.{Filling, balance_after}
@@ -32,7 +32,7 @@ SomeFillingPasses k a p w = (f : Filling k.book.orders) × (limit_of k a p w <�
 
 -- N enters or raises order o, and passes every check before the position limits
 pub record Judged (k : State) (n : RawEvent) (o : Order) : Type 0 where
-  pub enters : entered k.book (as_event n) ≡ some o
+  pub enters : entered k.book (as_event n) ≡ Some o
   pub passes : all_pass (questions_before k (as_event n)) ≡ true
 
 -- refused for a position limit exactly when some filling of the open orders and N puts the instrument's or group's position

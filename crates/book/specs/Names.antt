@@ -1,44 +1,46 @@
 -- What an event names, in document 01's words: an account, an item, an order that is to be new, an open order and its change.
-use Rattle.integers.specs.Basics.{ℕ, Option, none, some}
+use Rattle.integers.specs.Basics.{ℕ, Option, None, Some}
 use Rattle.ledger.specs.declared.order.Order.{Order}
 use Rattle.book.specs.declared.OrderChange.{OrderChange}
 use Rattle.book.specs.declared.Setting.{Setting}
 use Rattle.book.specs.declared.Event.{Event}
 use Rattle.book.specs.declared.Event.TheVariants.{Set, New, Change, Junk}
-use Rattle.book.specs.Settings.{Item, an_instrument, setting_account, setting_item, IsBalance, as_balance}
+use Rattle.book.specs.declared.Item.{Item}
+use Rattle.book.specs.declared.Item.TheVariants as item
+use Rattle.book.specs.Settings.{setting_account, setting_item, IsBalance, as_balance}
 use Rattle.book.specs.Books.{new_order}
 
 -- the named account
 abbrev pub named_account : Event → Option ℕ
 named_account (Set x) = setting_account x
-named_account (New s a i id n) = some a
-named_account (Change id c) = none
-named_account Junk = none
+named_account (New s a i id n) = Some a
+named_account (Change id c) = None
+named_account Junk = None
 
 -- the named item
 abbrev pub named_item : Event → Option Item
 named_item (Set x) = setting_item x
-named_item (New s a i id n) = some (an_instrument i)
-named_item (Change id c) = none
-named_item Junk = none
+named_item (New s a i id n) = Some (item.Instrument i)
+named_item (Change id c) = None
+named_item Junk = None
 
 -- the account whose balance a BALANCE sets
 abbrev balance_owner : {x : Setting} → Option (IsBalance x) → Option ℕ
-balance_owner none = none
-balance_owner (some s) = some s.account
+balance_owner None = None
+balance_owner (Some s) = Some s.account
 
 abbrev pub balance_account : Event → Option ℕ
 balance_account (Set x) = balance_owner (as_balance x)
-balance_account (New s a i id n) = none
-balance_account (Change id c) = none
-balance_account Junk = none
+balance_account (New s a i id n) = None
+balance_account (Change id c) = None
+balance_account Junk = None
 
 -- the order of a NEW
 abbrev pub new_order_of : Event → Option Order
-new_order_of (Set x) = none
-new_order_of (New s a i id n) = some (new_order s a i id n)
-new_order_of (Change id c) = none
-new_order_of Junk = none
+new_order_of (Set x) = None
+new_order_of (New s a i id n) = Some (new_order s a i id n)
+new_order_of (Change id c) = None
+new_order_of Junk = None
 
 -- the id and the change of a REPLACE, a CANCEL or a FILL
 pub record NamedChange : Type 0 where
@@ -46,7 +48,7 @@ pub record NamedChange : Type 0 where
   pub change : OrderChange
 
 abbrev pub change_of : Event → Option NamedChange
-change_of (Set x) = none
-change_of (New s a i id n) = none
-change_of (Change id c) = some (record { id = id; change = c })
-change_of Junk = none
+change_of (Set x) = None
+change_of (New s a i id n) = None
+change_of (Change id c) = Some (record { id = id; change = c })
+change_of Junk = None

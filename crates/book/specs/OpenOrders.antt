@@ -1,13 +1,13 @@
 -- The open orders of the plain book: a list ascending by id.
 use Rattle.std.specs.Prelude.{◌∷◌, ◌++◌}
-use Rattle.integers.specs.Basics.{ℕ, cond, List, [], Option, none, some, ltb, eqb}
+use Rattle.integers.specs.Basics.{ℕ, cond, List, [], Option, None, Some, ltb, eqb}
 use Rattle.ledger.specs.declared.order.Order.{Order}
 use Rattle.ledger.specs.Orders.{closes}
 
 -- the order with that id, the search ending at the first match
 unfoldable pub find : ℕ → List Order → Option Order
-find id [] = none
-find id (o ∷ os) = cond (eqb o.id id) (some o) (find id os)
+find id [] = None
+find id (o ∷ os) = cond (eqb o.id id) (Some o) (find id os)
 
 -- the order joins, before the first larger id
 unfoldable pub insert : Order → List Order → List Order

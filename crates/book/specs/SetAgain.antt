@@ -1,7 +1,7 @@
 -- "A limit that applies is set again by an accepted LIMIT, −1 included, on the group's line or on a line in force before or
 -- after it": lines are known by name, not by figures.
 use Rattle.std.specs.Prelude.{◌≡◌, ◌⊎◌}
-use Rattle.integers.specs.Basics.{ℕ, cond, Option, none, some}
+use Rattle.integers.specs.Basics.{ℕ, cond, Option, None, Some}
 use Rattle.ledger.specs.Roster.{Roster}
 use Rattle.ledger.specs.Positions.{Scope, instrument, group}
 use Rattle.limits.specs.Lines.{is_set}
@@ -27,14 +27,14 @@ name_of a (OfGroup g x y) = group_line a g
 
 -- the line that an event sets: the one that a LIMIT names
 abbrev pub line_named : {x : Setting} → Option (IsLimit x) → Option LineName
-line_named none = none
-line_named (some s) = some (name_of s.account s.line)
+line_named None = None
+line_named (Some s) = Some (name_of s.account s.line)
 
 unfoldable pub line_set : Event → Option LineName
 line_set (Set x) = line_named (as_limit x)
-line_set (New s a i id n) = none
-line_set (Change id c) = none
-line_set Junk = none
+line_set (New s a i id n) = None
+line_set (Change id c) = None
+line_set Junk = None
 
 -- the line that a position of account a is under: the group's line, or the line in force
 unfoldable pub line_over : Roster → Book → ℕ → Scope → LineName
@@ -45,4 +45,4 @@ line_over r b a (group g) = group_line a g
 -- an accepted event sets the limit of account a's position again
 abbrev pub SetsAgain : State → Event → ℕ → Scope → Type 0
 SetsAgain k e a p =
-    (line_set e ≡ some (line_over k.roster k.book a p)) ⊎ (line_set e ≡ some (line_over k.roster (work k e).book a p))
+    (line_set e ≡ Some (line_over k.roster k.book a p)) ⊎ (line_set e ≡ Some (line_over k.roster (work k e).book a p))

@@ -1,12 +1,14 @@
 -- Document 01's "sound", sentence by sentence, of what a desk holds. B and V are what the orders say, so that
 -- they equal the orders' sums is no condition.
 use Rattle.std.specs.Prelude.{◌≤◌, ◌<◌, ◌≡◌, ◌∷◌, ◌≤ℤ◌}
-use Rattle.integers.specs.Basics.{ℕ, true, List, [], ListMemᴰ, some, pos, nat_abs, length}
+use Rattle.integers.specs.Basics.{ℕ, true, List, [], ListMemᴰ, Some, pos, nat_abs, length}
 use Rattle.ledger.specs.declared.order.Order.{Order}
 use Rattle.ledger.specs.Orders.{remaining}
 use Rattle.ledger.specs.Roster.{Roster, Numbered}
 use Rattle.ledger.specs.Positions.{Way, of_instrument}
-use Rattle.limits.specs.Lines.{Line, GroupLine, Lines}
+use Rattle.limits.specs.declared.lines.Line.{Line}
+use Rattle.limits.specs.declared.lines.GroupLine.{GroupLine}
+use Rattle.limits.specs.Lines.{Lines}
 use Rattle.book.specs.States.{State}
 
 -- its roster would be accepted
@@ -31,9 +33,9 @@ pub record GroupLineFits (largest : ℕ) (l : GroupLine) : Type 0 where
   pub lvc : l.lvc ≤ largest
 
 pub record LinesFit (largest : ℕ) (ls : Lines) : Type 0 where
-  pub own : (i : ℕ) (l : Line) → ls.own_of i ≡ some l → LineFits largest l
-  pub default : (c : ℕ) (l : Line) → ls.default_of c ≡ some l → LineFits largest l
-  pub of_group : (g : ℕ) (l : GroupLine) → ls.line_of_group g ≡ some l → GroupLineFits largest l
+  pub own : (i : ℕ) (l : Line) → ls.own_of i ≡ Some l → LineFits largest l
+  pub default : (c : ℕ) (l : Line) → ls.default_of c ≡ Some l → LineFits largest l
+  pub of_group : (g : ℕ) (l : GroupLine) → ls.line_of_group g ≡ Some l → GroupLineFits largest l
 
 -- an order is in range, and what remains of it is at least 1
 pub record OrderFits (r : Roster) (o : Order) : Type 0 where

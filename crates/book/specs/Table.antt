@@ -1,7 +1,7 @@
 -- Document 01, "Questions, in order": each question about an event is one definition, true also of an event that is not
 -- asked it, and the table has them in the document's order. Question 5 is asked of the memory, before these.
 use Rattle.std.specs.Prelude.{◌&&◌, ◌||◌, ◌∷◌, ◌++◌}
-use Rattle.integers.specs.Basics.{ℕ, Bool, true, false, not, cond, List, [], Option, none, some, ℤ, pos, neg_ℤ}
+use Rattle.integers.specs.Basics.{ℕ, Bool, true, false, not, cond, List, [], Option, None, Some, ℤ, pos, neg_ℤ}
 use Rattle.integers.specs.Basics.{nat_abs, le_z, leb, ltb, length}
 use Rattle.ledger.specs.declared.order.Order.{Order}
 use Rattle.ledger.specs.declared.order.Side.TheVariants.{Buy, Sell}
@@ -24,13 +24,14 @@ use Rattle.book.specs.Decoding.{between}
 use Rattle.book.specs.OpenOrders.{find}
 use Rattle.book.specs.Books.{Book, is_minus_one, unsets, new_order}
 use Rattle.book.specs.States.{State, work}
-use Rattle.book.specs.Settings.{Item, an_instrument, a_contract, a_group}
+use Rattle.book.specs.declared.Item.{Item}
+use Rattle.book.specs.declared.Item.TheVariants as item
 use Rattle.book.specs.Names.{named_account, named_item, balance_account, new_order_of, change_of}
 
 -- is it so of what is named, where something is
 abbrev pub where_some : {A : Type 0} → (A → Bool) → Option A → Bool
-where_some test none = true
-where_some test (some x) = test x
+where_some test None = true
+where_some test (Some x) = test x
 
 -- 6: is it an event?
 unfoldable pub is_event : Event → Bool
@@ -45,9 +46,9 @@ account_known r e = where_some (between 1 r.accounts) (named_account e)
 
 -- 8: is a named item on the roster?
 abbrev pub is_listed : Roster → Item → Bool
-is_listed r (an_instrument i) = between 1 r.instruments i
-is_listed r (a_contract c) = between 1 r.contracts c
-is_listed r (a_group g) = between 1 r.groups g
+is_listed r (item.Instrument i) = between 1 r.instruments i
+is_listed r (item.Contract c) = between 1 r.contracts c
+is_listed r (item.Group g) = between 1 r.groups g
 
 unfoldable pub item_known : Roster → Event → Bool
 item_known r e = where_some (is_listed r) (named_item e)
@@ -107,17 +108,17 @@ quantity_fits b e = where_some (λ x. where_some (fits_order x.change) (find x.i
 
 -- the order that a REPLACE whose total rises raises to
 abbrev pub raised : OrderChange → Option Order → Option Order
-raised (Replace n) none = none
-raised (Replace n) (some o) = cond (ltb o.total (nat_abs n)) (some (replaced_total o (nat_abs n))) none
-raised Cancel x = none
-raised (Fill n) x = none
+raised (Replace n) None = None
+raised (Replace n) (Some o) = cond (ltb o.total (nat_abs n)) (Some (replaced_total o (nat_abs n))) None
+raised Cancel x = None
+raised (Fill n) x = None
 
 -- the order entered, by a NEW, or raised: questions 14 to 24 are asked of it
 unfoldable pub entered : Book → Event → Option Order
-entered b (Set x) = none
-entered b (New s a i id n) = some (new_order s a i id n)
+entered b (Set x) = None
+entered b (New s a i id n) = Some (new_order s a i id n)
 entered b (Change id c) = raised c (find id b.orders)
-entered b Junk = none
+entered b Junk = None
 
 -- 13: NEW: is the id not open?
 unfoldable pub id_free : Book → Event → Bool
@@ -161,8 +162,8 @@ questions_before k e =
 
 -- questions 21 to 24, of a state with the event applied
 abbrev pub positions_after : State → Option Order → List Question
-positions_after k none = []
-positions_after k (some o) =
+positions_after k None = []
+positions_after k (Some o) =
     position_questions k.market.unit k.roster (k.book.lines_of o.account) k.book.orders (k.book.balance_of o.account) o
 
 unfoldable pub limit_questions : State → Event → List Question

@@ -7,14 +7,15 @@ pub struct Market {
     pub largest: u64,
 }
 
-// The market by the kind of desk.
+// The market by the kind of desk, a word of a memory that may hold anything: every number has a market.
+#[tactic(auto, unfolding(crate::specs::Market::market_of_kind, crate::specs::Market::largest_of))]
 pub fn market_of_kind(kind: u64) -> Market
     ensures { result.largest ≡ (market_of_kind kind).largest }
 {
-    if kind == 1 {
-        return Market {
-            largest: 1000000000,
-        };
+    Market {
+        largest: match kind {
+            1 => 1_000_000_000,
+            _ => 0,
+        },
     }
-    Market { largest: 0 }
 }

@@ -1,75 +1,157 @@
 // 48 bytes to an event, by value: question 6. Any other bytes are junk.
 #![tactic(auto)]
 
-ghost use Rattle.std.specs.Prelude.{◌≡◌, not, ◌||◌, cond, ◌+◌, ◌≤◌, eqb, length};
-ghost use Rattle.words.specs.Fields.{u16_at, i64_at};
+ghost use Rattle.std.specs.Prelude.{◌≡◌, false, not, ◌||◌, cond, ◌<◌, eqb, MatchResult};
 ghost use Rattle.limits.specs.Asked.{is_zero};
-ghost use Rattle.book.specs.Decoding.{kind_of, figures_of, between, named, fields_fit, is_kind, well_formed, line_field, blocked_field, event_of};
-ghost use Rattle.book.specs.Decoding.{decode};
+ghost use Rattle.book.specs.Decoding.{kind_of, side_field, account_field, item_field, level_field, zero_field, id_field, figure_field};
+ghost use Rattle.book.specs.Decoding.{between, figures_of, is_kind, named, fields_fit, line_field, blocked_field, event_of, decode};
+ghost use Rattle.decoding.specs.Kinds.{kind_number};
 
-use book::{Blocked, Event, Figures, LimitLine, Named, OrderChange, Setting};
-use ledger::records::side_of;
-use words::fields::{i64_at, u8_at, u16_at, u64_at};
+use book::{Blocked, Event, Figures, LimitLine, NamedFields, OrderChange, Setting};
+use ledger::order::Side;
+use words::fields::Field;
 
-fn wide8(n: u8) -> u64
-    ensures { result ≡ n }
-{
-    n as u64
+// The kinds of event.
+#[derive(Clone, Copy)]
+enum Kind {
+    Limit,
+    Balance,
+    Block,
+    New,
+    Replace,
+    Cancel,
+    Fill,
 }
 
-fn wide16(n: u16) -> u64
-    ensures { result ≡ n }
-{
-    n as u64
-}
+// A byte that is no kind.
+#[derive(Clone, Copy)]
+struct NoKind;
 
-// The account or the item.
-fn number_at(e: &[u8], a: usize) -> u64
-    requires { a + 2 ≤ length e.now }
-    ensures { result ≡ u16_at e.now a }
-{
-    wide16(u16_at(e, a))
-}
+impl TryFrom<u8> for Kind {
+    type Error = NoKind;
 
-// A line of the table.
-fn names(side: bool, account: bool, item: bool, level: bool, id: bool, figures: u8) -> Named
-    ensures { result ≡ record { side = side; account = account; item = item; level = level; id = id; figures = figures } }
-{
-    Named {
-        side,
-        account,
-        item,
-        level,
-        id,
-        figures,
+    ghost try_from_gives = { λ n r. MatchResult r (λ kind. kind_number kind ≡ n) (λ _. is_kind n ≡ false) };
+
+    fn try_from(n: u8) -> Result<Kind, NoKind> {
+        match n {
+            1 => Ok(Kind::Limit),
+            2 => Ok(Kind::Balance),
+            3 => Ok(Kind::Block),
+            4 => Ok(Kind::New),
+            5 => Ok(Kind::Replace),
+            6 => Ok(Kind::Cancel),
+            7 => Ok(Kind::Fill),
+            _ => Err(NoKind),
+        }
     }
 }
 
-// The table: does a kind and level name the side, the account, the item, the level and the id, and how many figures?
-fn named(kind: u8, level: u8) -> Named
-    ensures { result ≡ named kind level }
+// The fields of an event, by the names of their definitions: each is one line over `Field`, which is what they share.
+fn side(e: &[u8; 48]) -> u8
+    ensures { result ≡ side_field e.now }
+{
+    u8::at(e, 1)
+}
+
+fn account(e: &[u8; 48]) -> u64
+    ensures { result ≡ account_field e.now }
+{
+    u64::from(u16::at(e, 2))
+}
+
+// An instrument, a contract or a group.
+fn item(e: &[u8; 48]) -> u64
+    ensures { result ≡ item_field e.now }
+{
+    u64::from(u16::at(e, 4))
+}
+
+fn level(e: &[u8; 48]) -> u8
+    ensures { result ≡ level_field e.now }
+{
+    u8::at(e, 6)
+}
+
+fn id(e: &[u8; 48]) -> u64
+    ensures { result ≡ id_field e.now }
+{
+    u64::at(e, 8)
+}
+
+// Figure one is `figure(e, 0)`.
+fn figure(e: &[u8; 48], j: usize) -> i64
+    requires { j < 4 }
+    ensures { result ≡ figure_field e.now j }
+{
+    i64::at(e, 16 + j * 8)
+}
+
+fn figures(e: &[u8; 48]) -> Figures
+    ensures { result ≡ figures_of e.now }
+{
+    Figures {
+        tci: figure(e, 0),
+        tvi: figure(e, 1),
+        lci: figure(e, 2),
+        lvi: figure(e, 3),
+    }
+}
+
+const NOTHING: NamedFields = NamedFields {
+    side: false,
+    account: false,
+    item: false,
+    level: false,
+    id: false,
+    figures: 0,
+};
+
+// The table: what a kind and level names. The level is the byte as it stands: where a kind names none it is 0, which is asked of it after.
+#[tactic(auto, unfolding(book::specs::Decoding::named))]
+fn named(kind: Kind, level: u8) -> NamedFields
+    ensures { result ≡ named (kind_number kind) level }
 {
     match kind {
-        // LIMIT
-        1 => match level {
-            1 => names(false, true, true, true, false, 4),
-            2 => names(false, true, true, true, false, 4),
-            _ => names(false, true, true, true, false, 2),
+        Kind::Limit => NamedFields {
+            account: true,
+            item: true,
+            level: true,
+            figures: match level {
+                1 | 2 => 4,
+                _ => 2,
+            },
+            ..NOTHING
         },
-        // BALANCE
-        2 => names(false, true, true, false, false, 1),
-        // BLOCK
-        3 => match level {
-            1 => names(false, true, false, true, false, 1),
-            2 => names(false, false, true, true, false, 1),
-            _ => names(false, true, true, true, false, 1),
+        Kind::Balance => NamedFields {
+            account: true,
+            item: true,
+            figures: 1,
+            ..NOTHING
         },
-        // NEW
-        4 => names(true, true, true, false, true, 1),
-        // REPLACE, CANCEL and FILL
-        5 => names(false, false, false, false, true, 1),
-        6 => names(false, false, false, false, true, 0),
-        _ => names(false, false, false, false, true, 1),
+        Kind::Block => NamedFields {
+            account: level != 2,
+            item: level != 1,
+            level: true,
+            figures: 1,
+            ..NOTHING
+        },
+        Kind::New => NamedFields {
+            side: true,
+            account: true,
+            item: true,
+            id: true,
+            figures: 1,
+            ..NOTHING
+        },
+        Kind::Replace | Kind::Fill => NamedFields {
+            id: true,
+            figures: 1,
+            ..NOTHING
+        },
+        Kind::Cancel => NamedFields {
+            id: true,
+            ..NOTHING
+        },
     }
 }
 
@@ -78,193 +160,159 @@ fn listed(named: bool, most: u8, n: u8) -> bool
     ensures { result ≡ cond named (between 1 most n) (eqb n 0) }
 {
     if named {
-        return (1 <= n) & (n <= most);
+        (1 <= n) & (n <= most)
+    } else {
+        n == 0
     }
-    n == 0
 }
 
 // A named id is not zero, an unnamed one is.
 fn given(named: bool, id: u64) -> bool
     ensures { result ≡ cond named (not (eqb id 0)) (eqb id 0) }
 {
-    if named {
-        return id != 0;
-    }
-    id == 0
-}
-
-// An unnamed figure is zero.
-fn figure_fits(named: bool, e: &[u8], a: usize) -> bool
-    requires { a + 8 ≤ length e.now }
-    ensures { result ≡ (named || is_zero (i64_at e.now a)) }
-{
-    named | (u64_at(e, a) == 0)
+    named == (id != 0)
 }
 
 // Does each field fit what is named? All are tested and the answers joined, so that no test waits for the one before.
-fn fields_fit(n: Named, e: &[u8]) -> bool
-    requires { length e.now ≡ 48 }
+#[tactic(auto, unfolding(book::specs::Decoding::fields_fit))]
+fn fields_fit(n: NamedFields, e: &[u8; 48]) -> bool
     ensures { result ≡ fields_fit n e.now }
 {
-    listed(n.side, 2, u8_at(e, 1))
-        & (n.account | (u16_at(e, 2) == 0))
-        & (n.item | (u16_at(e, 4) == 0))
-        & listed(n.level, 3, u8_at(e, 6))
-        & (u8_at(e, 7) == 0)
-        & given(n.id, u64_at(e, 8))
-        & figure_fits(0 < n.figures, e, 16)
-        & figure_fits(1 < n.figures, e, 24)
-        & figure_fits(2 < n.figures, e, 32)
-        & figure_fits(3 < n.figures, e, 40)
-}
-
-fn figures(e: &[u8]) -> Figures
-    requires { length e.now ≡ 48 }
-    ensures { result ≡ figures_of e.now }
-{
-    Figures {
-        tci: i64_at(e, 16),
-        tvi: i64_at(e, 24),
-        lci: i64_at(e, 32),
-        lvi: i64_at(e, 40),
-    }
+    listed(n.side, 2, side(e))
+        & (n.account | (account(e) == 0))
+        & (n.item | (item(e) == 0))
+        & listed(n.level, 3, level(e))
+        & (u8::at(e, 7) == 0)
+        & given(n.id, id(e))
+        & ((0 < n.figures) | (figure(e, 0) == 0))
+        & ((1 < n.figures) | (figure(e, 1) == 0))
+        & ((2 < n.figures) | (figure(e, 2) == 0))
+        & ((3 < n.figures) | (figure(e, 3) == 0))
 }
 
 // What a LIMIT sets.
-fn line(e: &[u8]) -> LimitLine
-    requires { length e.now ≡ 48 }
+fn line(e: &[u8; 48]) -> LimitLine
     ensures { result ≡ line_field e.now }
 {
-    match u8_at(e, 6) {
+    match level(e) {
         1 => LimitLine::Own {
-            instrument: number_at(e, 4),
+            instrument: item(e),
             figures: figures(e),
         },
         2 => LimitLine::Default {
-            contract: number_at(e, 4),
+            contract: item(e),
             figures: figures(e),
         },
         _ => LimitLine::OfGroup {
-            group: number_at(e, 4),
-            lcc: i64_at(e, 16),
-            lvc: i64_at(e, 24),
+            group: item(e),
+            lcc: figure(e, 0),
+            lvc: figure(e, 1),
         },
     }
 }
 
 // What a BLOCK blocks.
-fn blocked(e: &[u8]) -> Blocked
-    requires { length e.now ≡ 48 }
+fn blocked(e: &[u8; 48]) -> Blocked
     ensures { result ≡ blocked_field e.now }
 {
-    match u8_at(e, 6) {
+    match level(e) {
         1 => Blocked::Account {
-            account: number_at(e, 2),
+            account: account(e),
         },
         2 => Blocked::Instrument {
-            instrument: number_at(e, 4),
+            instrument: item(e),
         },
         _ => Blocked::GroupFor {
-            account: number_at(e, 2),
-            group: number_at(e, 4),
+            account: account(e),
+            group: item(e),
         },
     }
 }
 
 // The event of bytes whose fields fit.
-fn event_of(kind: u8, e: &[u8]) -> Event
-    requires { (length e.now ≡ 48) × (kind_of e.now ≡ kind) }
+#[tactic(auto, unfolding(book::specs::Decoding::event_of))]
+fn event_of(kind: Kind, e: &[u8; 48]) -> Event
+    requires { kind_of e.now ≡ kind_number kind }
     ensures { result ≡ event_of e.now }
 {
     match kind {
-        1 => Event::Set {
+        Kind::Limit => Event::Set {
             setting: Setting::Limit {
-                account: number_at(e, 2),
+                account: account(e),
                 line: line(e),
             },
         },
-        2 => Event::Set {
+        Kind::Balance => Event::Set {
             setting: Setting::Balance {
-                account: number_at(e, 2),
-                instrument: number_at(e, 4),
-                balance: i64_at(e, 16),
+                account: account(e),
+                instrument: item(e),
+                balance: figure(e, 0),
             },
         },
-        3 => Event::Set {
+        Kind::Block => Event::Set {
             setting: Setting::Block {
                 what: blocked(e),
-                on: i64_at(e, 16),
+                on: figure(e, 0),
             },
         },
-        4 => Event::New {
-            side: side_of(wide8(u8_at(e, 1))),
-            account: number_at(e, 2),
-            instrument: number_at(e, 4),
-            id: u64_at(e, 8),
-            quantity: i64_at(e, 16),
+        Kind::New => Event::New {
+            side: Side::from(side(e)),
+            account: account(e),
+            instrument: item(e),
+            id: id(e),
+            quantity: figure(e, 0),
         },
-        5 => Event::Change {
-            id: u64_at(e, 8),
+        Kind::Replace => Event::Change {
+            id: id(e),
             change: OrderChange::Replace {
-                total: i64_at(e, 16),
+                total: figure(e, 0),
             },
         },
-        6 => Event::Change {
-            id: u64_at(e, 8),
+        Kind::Cancel => Event::Change {
+            id: id(e),
             change: OrderChange::Cancel,
         },
-        _ => Event::Change {
-            id: u64_at(e, 8),
+        Kind::Fill => Event::Change {
+            id: id(e),
             change: OrderChange::Fill {
-                quantity: i64_at(e, 16),
+                quantity: figure(e, 0),
             },
         },
     }
-}
-
-// Is it a kind of event, 1 to 7?
-fn is_kind(kind: u8) -> bool
-    ensures { result ≡ is_kind kind }
-{
-    (1 <= kind) & (kind <= 7)
-}
-
-// Is the kind listed, and do the fields fit its line of the table?
-fn well_formed(kind: u8, e: &[u8]) -> bool
-    requires { (length e.now ≡ 48) × (kind_of e.now ≡ kind) }
-    ensures { result ≡ well_formed e.now }
-{
-    is_kind(kind) & fields_fit(named(kind, u8_at(e, 6)), e)
 }
 
 // The event of bytes of a kind, or junk.
-fn of_kind(kind: u8, e: &[u8]) -> Event
-    requires { (length e.now ≡ 48) × (kind_of e.now ≡ kind) }
+#[tactic(auto, unfolding(book::specs::Decoding::well_formed, book::specs::Decoding::decode))]
+fn of_kind(kind: Kind, e: &[u8; 48]) -> Event
+    requires { kind_of e.now ≡ kind_number kind }
     ensures { result ≡ decode e.now }
 {
-    if well_formed(kind, e) {
-        return event_of(kind, e);
+    if fields_fit(named(kind, level(e)), e) {
+        event_of(kind, e)
+    } else {
+        Event::Junk
     }
-    Event::Junk
 }
 
 // The event that the bytes are, or that they are none. Each kind stands here as a constant, for which its line of the table and its
 // event are compiled by themselves.
+#[tactic(auto, unfolding(book::specs::Decoding::well_formed, book::specs::Decoding::decode))]
 pub fn decode(e: &[u8]) -> Event
     ensures { result ≡ decode e.now }
 {
-    if e.len() != 48 {
+    let Some(e) = e.as_array::<48>() else {
         return Event::Junk;
-    }
-    let kind = u8_at(e, 0);
+    };
+    let Ok(kind) = Kind::try_from(u8::at(e, 0)) else {
+        return Event::Junk;
+    };
     match kind {
-        1 => of_kind(1, e),
-        2 => of_kind(2, e),
-        3 => of_kind(3, e),
-        4 => of_kind(4, e),
-        5 => of_kind(5, e),
-        6 => of_kind(6, e),
-        7 => of_kind(7, e),
-        _ => of_kind(kind, e),
+        Kind::Limit => of_kind(Kind::Limit, e),
+        Kind::Balance => of_kind(Kind::Balance, e),
+        Kind::Block => of_kind(Kind::Block, e),
+        Kind::New => of_kind(Kind::New, e),
+        Kind::Replace => of_kind(Kind::Replace, e),
+        Kind::Cancel => of_kind(Kind::Cancel, e),
+        Kind::Fill => of_kind(Kind::Fill, e),
     }
 }

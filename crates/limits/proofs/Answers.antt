@@ -84,9 +84,9 @@ Without n (q ∷ qs) = (q.number ≢ n) × Without n qs
 
 pub never_answered : (n : ℕ) (qs : List Question) → n ≢ 0 → Without n qs → first_no qs ≢ n
 unfolding first_no
-never_answered n [] Some_number w = λ e. Some_number (sym e)
-never_answered n (q ∷ qs) Some_number w =
-    by_test q.passes (λ t. rw t (never_answered n qs Some_number w.1)) (λ t. rw t w.0)
+never_answered n [] some_number w = λ e. some_number (sym e)
+never_answered n (q ∷ qs) some_number w =
+    by_test q.passes (λ t. rw t (never_answered n qs some_number w.1)) (λ t. rw t w.0)
 
 -- ---- behind a question's number stand those that follow it, where none before it has that number
 pub follow : (before : List Question) (q : Question) (qs : List Question) → Without q.number before

@@ -3,8 +3,8 @@ pub mod LinesRead
 pub mod Agreement
 pub mod Raising
 pub mod InOrder
+pub mod Compared
 mod Room
-mod Signs
 pub mod Examples
 pub mod Answers
 pub mod Refused

@@ -1,19 +1,12 @@
--- An answer that is no acceptance has a number that is not 0: computed over the enum's own variants, so that a new one joins by itself.
-use Rattle.std.specs.Prelude.{◌≡◌, ◌≢◌, ◌&&◌, ◌||◌, ◌∷◌}
-use Rattle.integers.specs.Basics.{ℕ, refl, ◌∙◌, ap, inl, inr, Bool, true, false, not, false≢true, rules}
-use Rattle.integers.specs.Basics.{List, [], eqb, eqb-true, eq-eqb}
+-- A refusal has a number that is not 0: computed over the enum's own variants, so that a new one joins by itself.
+use Rattle.std.specs.Prelude.{Result, Ok, Err, ◌≡◌, ◌≢◌, ◌&&◌, ◌∷◌}
+use Rattle.integers.specs.Basics.{ℕ, refl, ◌∙◌, sym, ap, inl, inr, Bool, true, false, not, false≢true, List, [], eqb, eq-eqb}
 use denote.Struct.Field.{Field}
-use denote.Enum.Enum.{tag}
-use denote.Enum.Bare.{tag_one}
-use denote.Enum.Declared.{Choice, rowss, intoss, tag_of}
-use Rattle.limits.specs.declared.answer.Answer.{Answer}
-use Rattle.limits.specs.declared.answer.Answer.TheVariants.{Accepted}
-use Rattle.limits.specs.Answers.{number_of}
-use Rattle.limits.specs.contracts.answer.Answer.{the_parts as parts, as_values, the_make as make, the_eta as eta, the_type}
-use Rattle.limits.proofs.Answers.{both_true, asked_true}
-
-abbrev pub Refusal : Answer → Type 0
-Refusal a = a ≢ Accepted
+use denote.Enum.Declared.{Choice}
+use Rattle.limits.specs.declared.answer.Refusal.{Refusal}
+use Rattle.limits.specs.Answers.{refusal_number, number_of}
+use Rattle.limits.specs.contracts.answer.Refusal.{the_parts as parts, as_values, the_make as make, the_eta as eta}
+use Rattle.limits.proofs.Answers.{both_true}
 
 -- does a test hold of each variant, none of which holds anything
 abbrev of_each : (vs : List (List Field)) → (Choice vs → Bool) → Bool
@@ -27,15 +20,17 @@ of_each_lem ([] ∷ vs) t e (inl v) = (both_true (t (inl tt)) (of_each vs (λ c.
 of_each_lem ([] ∷ vs) t e (inr c) = of_each_lem vs (λ c. t (inr c)) (both_true (t (inl tt)) (of_each vs (λ c. t (inr c))) e).1 c
 of_each_lem ((x ∷ xs) ∷ vs) t e c = absurd (false≢true e)
 
--- a number of 0 is the acceptance's
-zero_accepts : Choice parts → Bool
-zero_accepts c = not (eqb (number_of (make c)) 0) || eqb (tag (rowss parts) (intoss parts c)) (tag_of the_type Accepted)
+-- the number is not 0
+counts : Choice parts → Bool
+counts c = not (eqb (refusal_number (make c)) 0)
 
-pub not_zero : (a : Answer) → Refusal a → number_of a ≢ 0
-unfolding zero_accepts
-not_zero a h z =
-    let v = as_values a in
-    let e = asked_true (eqb (number_of (make v)) 0) (eqb (tag_of the_type a) (tag_of the_type Accepted))
-    (of_each_lem parts zero_accepts refl v)
-    (eq-eqb (number_of (make v)) 0 (ap number_of (eta a) ∙ z)) in
-    h (tag_one the_type (search rules) a Accepted (eqb-true (tag_of the_type a) (tag_of the_type Accepted) e))
+pub not_zero : (r : Refusal) → refusal_number r ≢ 0
+unfolding counts
+not_zero r z =
+    let v = as_values r in
+    false≢true (sym (ap not (eq-eqb (refusal_number (make v)) 0 (ap refusal_number (eta r) ∙ z))) ∙ of_each_lem parts counts refl v)
+
+-- so the number 0 is the acceptance's alone
+pub accepted : {A : Type 0} (a : Result A Refusal) → number_of a ≡ 0 → (x : A) × (a ≡ Ok x)
+accepted (Ok x) e = (x, refl)
+accepted (Err r) e = absurd (not_zero r e)

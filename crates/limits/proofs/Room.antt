@@ -10,10 +10,9 @@ use Rattle.ledger.specs.Positions.{Way, group, toward, way_of, of_instrument, po
 use Rattle.ledger.specs.Records.{balances_in, roster_in}
 use Rattle.ledger.specs.Derivatives.{one}
 use Rattle.positions.specs.Gathered.{cell, Gathered, by_cells, sum_by_cells}
-use Rattle.positions.specs.Bounds.{CellBounds, WeighBounds}
+use Rattle.positions.specs.Bounds.{WeighBounds}
 use Rattle.ledger.proofs.Ways.{side_back}
 use Rattle.positions.proofs.Weighing.{by_cells_potential, sum_small, sum_potential}
-use Rattle.limits.specs.Bounds.{EventBounds}
 
 -- PCI or PVI by what is open on the order's side and n more
 pub with_more : (cells : List ℕ) (S : ℕ → ℤ) (i : ℕ) (s : Side) (n : ℤ)
@@ -21,45 +20,29 @@ pub with_more : (cells : List ℕ) (S : ℕ → ℤ) (i : ℕ) (s : Side) (n : �
 unfolding by_cells
 with_more cells S i s n = rw (side_back s) (sym (+ℤ_assoc (toward (way_of s) (S i)) (pos (get_or cells (cell s i) 0)) n))
 
-module _ (cells balances roster : List ℕ) where
-  pub instrument_bounds : (o : Order) (n : ℤ) → EventBounds cells balances roster o n → CellBounds cells balances o.instrument
-  instrument_bounds o n bounds =
-      let all = bounds.positions in
-      let numbered : Numbered 32 o.instrument =
-      (bounds.instrument.0, omega (arith, bounds.instrument.1, all.roster_small.instruments)) in
-      record {
-        size = all.size;
-        long = all.balances_small.long;
-        instrument = numbered;
-        balance =
-            all.balances_small.balance o.instrument bounds.instrument;
-        unfilled = λ s. all.unfilled s o.instrument numbered;
-      }
+pub rise_room : (k : ℕ) (n : ℤ) → k ≤ 1000000 → nat_abs n ≤ 1000000000 → nat_abs (pos k *ℤ n) ≤ 1000000000000000
+rise_room k n h l = magnitude_product_≤ (pos k) n 1000000 1000000000 h l
 
-  pub group_room : (g : ℕ) → WeighBounds cells balances roster → (w : Way)
+module _ (cells balances roster : List ℕ) (bounds : WeighBounds cells balances roster) where
+  pub group_room : (g : ℕ) (w : Way)
       → nat_abs (sum_by_cells cells (balances_in balances) (roster_in roster) g (roster_in roster).instruments w) ≤ 8000000000000000000
-  group_room g bounds w =
+  group_room g w =
       sum_small cells (balances_in balances) (roster_in roster) g w (roster_in roster).instruments bounds.roster_small.instruments
       bounds.roster_small.weight bounds.balances_small.balance bounds.unfilled
 
   -- where the cells hold B and V, the positions are those that the orders give
-  module _ (before : List Order) (o : Order) (n : ℤ) (bounds : EventBounds cells balances roster o n)
-      (gathered : Gathered cells 0 before o.account) (w : Way) (x : ℤ) where
-    pub of_orders : (y : ℤ) → y ≡ by_cells cells (balances_in balances) o.instrument w +ℤ x
-        → y ≡ of_instrument one before o.account (balances_in balances) o.instrument w +ℤ x
-    of_orders y e =
-        e
-        ∙ ap (λ (z : ℤ). z +ℤ x) (by_cells_potential cells (balances_in balances) before o.account gathered w o.instrument
-        (instrument_bounds o n bounds).instrument)
+  module _ (before : List Order) (a : ℕ) (gathered : Gathered cells 0 before a) (w : Way) (x : ℤ) where
+    pub of_orders : (i : ℕ) → Numbered (roster_in roster).instruments i → (y : ℤ) → y ≡ by_cells cells (balances_in balances) i w +ℤ x
+        → y ≡ of_instrument one before a (balances_in balances) i w +ℤ x
+    of_orders i numbered y e =
+        let n : Numbered 32 i = (numbered.0, omega (arith, numbered.1, bounds.roster_small.instruments)) in
+        e ∙ ap (λ (z : ℤ). z +ℤ x) (by_cells_potential cells (balances_in balances) before a gathered w i n)
 
     pub of_group_lem : (g : ℕ) (y : ℤ) → y ≡ sum_by_cells cells (balances_in balances) (roster_in roster) g
         (roster_in roster).instruments w +ℤ x
-        → y ≡ potential one (roster_in roster) before o.account (balances_in balances) (group g) w +ℤ x
+        → y ≡ potential one (roster_in roster) before a (balances_in balances) (group g) w +ℤ x
     of_group_lem g y e =
         e
-        ∙ ap (λ (z : ℤ). z +ℤ x) (sum_potential cells (balances_in balances) (roster_in roster) g w before o.account gathered
-        bounds.positions.roster_small.instruments
+        ∙ ap (λ (z : ℤ). z +ℤ x) (sum_potential cells (balances_in balances) (roster_in roster) g w before a gathered
+        bounds.roster_small.instruments
         (sum_by_cells cells (balances_in balances) (roster_in roster) g (roster_in roster).instruments w) refl)
-
-pub rise_room : (k : ℕ) (n : ℤ) → k ≤ 1000000 → nat_abs n ≤ 1000000000 → nat_abs (pos k *ℤ n) ≤ 1000000000000000
-rise_room k n h l = magnitude_product_≤ (pos k) n 1000000 1000000000 h l

@@ -1,21 +1,12 @@
 -- Document 01, "Limit lines", of one account.
 use Rattle.std.specs.Prelude.{◌*ℤ◌}
-use Rattle.integers.specs.Basics.{ℕ, Bool, true, false, Option, none, some, ℤ, pos, negsuc}
+use Rattle.integers.specs.Basics.{ℕ, Bool, true, false, Option, None, Some, ℤ, pos, negsuc}
 use Rattle.ledger.specs.declared.order.Side.{Side}
 use Rattle.ledger.specs.declared.order.Side.TheVariants.{Buy, Sell}
 use Rattle.ledger.specs.Roster.{Roster}
 use Rattle.ledger.specs.Positions.{Way, long, short, Scope, instrument, group}
-
--- an instrument's line, or a contract's default line
-pub record Line : Type 0 where
-  pub tci : ℕ
-  pub tvi : ℕ
-  pub lci : ℕ
-  pub lvi : ℕ
-
-pub record GroupLine : Type 0 where
-  pub lcc : ℕ
-  pub lvc : ℕ
+use Rattle.limits.specs.declared.lines.Line.{Line}
+use Rattle.limits.specs.declared.lines.GroupLine.{GroupLine}
 
 -- the lines of an account, set or not: each instrument's own, each contract's default, each group's
 pub record Lines : Type 0 where
@@ -39,8 +30,8 @@ largest_of_group long l = l.lcc
 largest_of_group short l = l.lvc
 
 abbrev pub or_else : Option Line → Option Line → Option Line
-or_else (some l) d = some l
-or_else none d = d
+or_else (Some l) d = Some l
+or_else None d = d
 
 -- the line in force: the instrument's own where set, else the default of its contract, taken whole
 unfoldable pub line_in_force : Roster → Lines → ℕ → Option Line
@@ -48,12 +39,12 @@ line_in_force r ls i = or_else (ls.own_of i) (ls.default_of (r.contract_of i))
 
 -- a figure of a line; −1 where the line is not set
 abbrev pub figure : {A : Type 0} → (A → ℕ) → Option A → ℤ
-figure f (some l) = pos (f l)
-figure f none = negsuc 0
+figure f (Some l) = pos (f l)
+figure f None = negsuc 0
 
 abbrev pub is_set : {A : Type 0} → Option A → Bool
-is_set (some l) = true
-is_set none = false
+is_set (Some l) = true
+is_set None = false
 
 -- the limit of a scope on a side, in the scope's unit: a group limit is multiplied by 10,000
 unfoldable pub limit : Roster → Lines → Scope → Way → ℤ

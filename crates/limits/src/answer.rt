@@ -1,10 +1,9 @@
 // What is answered: an acceptance, or the refusal by the question that is answered no. The numbers are those of documents 01 and 02.
 ghost use Rattle.std.specs.Prelude.{◌≡◌};
-ghost use Rattle.limits.specs.Answers.{number_of};
+ghost use Rattle.limits.specs.Answers.{number_of, refusal_number};
 
-#[derive(Clone, Copy)]
-pub enum Answer {
-    Accepted,
+#[derive(Clone, Copy, PartialEq, Eq, Debug)]
+pub enum Refusal {
     MemoryTooShort,
     WrongSizes,
     UnknownName,
@@ -33,48 +32,50 @@ pub enum Answer {
     WrongCountOrPlace,
 }
 
-// An answer and its number.
-#[derive(Clone, Copy)]
-struct AnswerNumber(Answer, u8);
+pub type Answer = Result<(), Refusal>;
 
-// The table of answers and numbers. The answer is named again beside its number, so that the prover finds each line by itself.
-fn with_number(a: Answer) -> AnswerNumber
-    ensures { (a ≡ result.0) × (result.1 ≡ number_of result.0) }
-{
-    match a {
-        Answer::Accepted => AnswerNumber(Answer::Accepted, 0),
-        Answer::MemoryTooShort => AnswerNumber(Answer::MemoryTooShort, 1),
-        Answer::WrongSizes => AnswerNumber(Answer::WrongSizes, 2),
-        Answer::UnknownName => AnswerNumber(Answer::UnknownName, 3),
-        Answer::WeightOutOfRange => AnswerNumber(Answer::WeightOutOfRange, 4),
-        Answer::NoSoundDesk => AnswerNumber(Answer::NoSoundDesk, 5),
-        Answer::NoEvent => AnswerNumber(Answer::NoEvent, 6),
-        Answer::UnknownAccount => AnswerNumber(Answer::UnknownAccount, 7),
-        Answer::UnknownItem => AnswerNumber(Answer::UnknownItem, 8),
-        Answer::FigureOutOfRange => AnswerNumber(Answer::FigureOutOfRange, 9),
-        Answer::AlreadyTrading => AnswerNumber(Answer::AlreadyTrading, 10),
-        Answer::OrderNotFound => AnswerNumber(Answer::OrderNotFound, 11),
-        Answer::QuantityOutOfRange => AnswerNumber(Answer::QuantityOutOfRange, 12),
-        Answer::DuplicateOrder => AnswerNumber(Answer::DuplicateOrder, 13),
-        Answer::AccountBlocked => AnswerNumber(Answer::AccountBlocked, 14),
-        Answer::InstrumentBlocked => AnswerNumber(Answer::InstrumentBlocked, 15),
-        Answer::GroupBlocked => AnswerNumber(Answer::GroupBlocked, 16),
-        Answer::NoLimitsConfigured => AnswerNumber(Answer::NoLimitsConfigured, 17),
-        Answer::NoPlaceFree => AnswerNumber(Answer::NoPlaceFree, 18),
-        Answer::BuyTooLarge => AnswerNumber(Answer::BuyTooLarge, 19),
-        Answer::SellTooLarge => AnswerNumber(Answer::SellTooLarge, 20),
-        Answer::InstrumentTooLong => AnswerNumber(Answer::InstrumentTooLong, 21),
-        Answer::InstrumentTooShort => AnswerNumber(Answer::InstrumentTooShort, 22),
-        Answer::GroupTooLong => AnswerNumber(Answer::GroupTooLong, 23),
-        Answer::GroupTooShort => AnswerNumber(Answer::GroupTooShort, 24),
-        Answer::NoFileOfLimits => AnswerNumber(Answer::NoFileOfLimits, 25),
-        Answer::WrongCountOrPlace => AnswerNumber(Answer::WrongCountOrPlace, 26),
+// The number of the question that is answered no.
+impl From<Refusal> for u8 {
+    ghost from_gives = { λ refusal n. n ≡ refusal_number refusal };
+
+    fn from(refusal: Refusal) -> u8 {
+        match refusal {
+            Refusal::MemoryTooShort => 1,
+            Refusal::WrongSizes => 2,
+            Refusal::UnknownName => 3,
+            Refusal::WeightOutOfRange => 4,
+            Refusal::NoSoundDesk => 5,
+            Refusal::NoEvent => 6,
+            Refusal::UnknownAccount => 7,
+            Refusal::UnknownItem => 8,
+            Refusal::FigureOutOfRange => 9,
+            Refusal::AlreadyTrading => 10,
+            Refusal::OrderNotFound => 11,
+            Refusal::QuantityOutOfRange => 12,
+            Refusal::DuplicateOrder => 13,
+            Refusal::AccountBlocked => 14,
+            Refusal::InstrumentBlocked => 15,
+            Refusal::GroupBlocked => 16,
+            Refusal::NoLimitsConfigured => 17,
+            Refusal::NoPlaceFree => 18,
+            Refusal::BuyTooLarge => 19,
+            Refusal::SellTooLarge => 20,
+            Refusal::InstrumentTooLong => 21,
+            Refusal::InstrumentTooShort => 22,
+            Refusal::GroupTooLong => 23,
+            Refusal::GroupTooShort => 24,
+            Refusal::NoFileOfLimits => 25,
+            Refusal::WrongCountOrPlace => 26,
+        }
     }
 }
 
-pub fn number_of(a: Answer) -> u8
-    ensures { result ≡ number_of a }
+// 0 for an acceptance, else the refusal's number. No `From`: neither type is of this crate.
+pub fn number_of(answer: Answer) -> u8
+    ensures { result ≡ number_of answer }
 {
-    let n = with_number(a);
-    n.1
+    match answer {
+        Ok(()) => 0,
+        Err(refusal) => u8::from(refusal),
+    }
 }

@@ -1,2 +1,0 @@
--- Figures as they are read and tested for zero.
-pub mod Signed
