@@ -1,7 +1,7 @@
 -- Attributes that are written are found.
 use Prim.Native.String.{String}
 use Rattle.std.specs.Prelude.{◌+◌, ◌≤◌, ◌≡◌, ◌&&◌, ◌∷◌, ◌++◌}
-use Rattle.integers.specs.Basics.{ℕ, refl, ◌∙◌, Bool, true, false, List, [], none, some, length, take, drop}
+use Rattle.integers.specs.Basics.{ℕ, refl, ◌∙◌, Bool, true, false, List, [], None, Some, length, take, drop}
 use Rattle.integers.specs.Basics.{arith, le-leb, lt-ltb, le-ltb, false≢true}
 use mathlib.Core.Bool.{and-eq-true_iff}
 use mathlib.Core.List.{append_assoc}
@@ -161,14 +161,14 @@ module _ (s : List ℕ) where
       let both = (and-eq-true_iff (begins_solid (opened n)) (attributes_readable l)).0 ok in
       leaves_next _ (text_complete n p x₁ (x₂ ++ y) both.0 h (cut x₁ x₂ y e f))
       (λ q g. attributes_complete l q v x₂ y both.1 i g stops)
-  attributes_complete (together ns ∷ l) p (none, v) x y ok w e stops =
+  attributes_complete (together ns ∷ l) p (None, v) x y ok w e stops =
       let All_three = (and-eq-true_iff (names_solid ns) (told ns l && attributes_readable l)).0 ok in
       let both = (and-eq-true_iff (told ns l) (attributes_readable l)).0 All_three.1 in
       rw (missing ns l p v x y both.0 both.1 w e stops)
-      (leaves_with (λ u. (none, u)) (attributes_complete l p v x y both.1 w e stops))
-  attributes_complete (together ns ∷ l) p (some a, v) x y ok (x₁, x₂, f, h, i) e stops =
+      (leaves_with (λ u. (None, u)) (attributes_complete l p v x y both.1 w e stops))
+  attributes_complete (together ns ∷ l) p (Some a, v) x y ok (x₁, x₂, f, h, i) e stops =
       let All_three = (and-eq-true_iff (names_solid ns) (told ns l && attributes_readable l)).0 ok in
       let both = (and-eq-true_iff (told ns l) (attributes_readable l)).0 All_three.1 in
       let t = numbers_complete ns p a x₁ (x₂ ++ y) All_three.0 h (cut x₁ x₂ y e f) in
       rw t.reads
-      (leaves_with (λ u. (some a, u)) (attributes_complete l t.place v x₂ y both.1 i t.left stops))
+      (leaves_with (λ u. (Some a, u)) (attributes_complete l t.place v x₂ y both.1 i t.left stops))

@@ -1,7 +1,7 @@
 -- A file is read as what it is, and is one thing at most.
 use Rattle.std.specs.Prelude.{◌≤◌, ◌≡◌, ◌⊎◌, ◌↔◌, ◌&&◌, ◌∷◌, ◌++◌}
 use Rattle.integers.specs.Basics.{ℕ, refl, ◌∙◌, sym, ap, subst, inl, inr, true, false, true≢false, false≢true}
-use Rattle.integers.specs.Basics.{List, [], some, eqb, length, drop, arith, not-true, eqb-true, eq-eqb, ne_eqb}
+use Rattle.integers.specs.Basics.{List, [], Some, eqb, length, drop, arith, not-true, eqb-true, eq-eqb, ne_eqb}
 use mathlib.Core.Bool.{and-eq-true_iff}
 use mathlib.Core.List.{append-nil}
 use lib.ListN.{length-drop}
@@ -82,11 +82,11 @@ module _ (d : Document) where
         found.reads ∙ ap (up_to v) whole
 
     -- it is read where all of it is
-    pub file_all : (v : Value d.element) → (file_of d s ≡ some v) ↔ (document_at d s ≡ up_to v (length s))
+    pub file_all : (v : Value d.element) → (file_of d s ≡ Some v) ↔ (document_at d s ≡ up_to v (length s))
     unfolding file_of
     file_all v = (go (document_at d s) refl, λ e. rw (e, eq-eqb (length s) (length s) refl))
       where
-        go : (r : Reading (Value d.element)) → document_at d s ≡ r → file_of d s ≡ some v → document_at d s ≡ up_to v (length s)
+        go : (r : Reading (Value d.element)) → document_at d s ≡ r → file_of d s ≡ Some v → document_at d s ≡ up_to v (length s)
         go nothing e h = let i = rw e at h in absurd (let z : ◌≡◌ {A = ℕ} 0 1 = cc in omega arith)
         go (up_to w n) e h =
             by_test (eqb n (length s)) (λ t.
@@ -96,13 +96,13 @@ module _ (d : Document) where
             (λ t. let i = rw (e, t) at h in absurd (let z : ◌≡◌ {A = ℕ} 0 1 = cc in omega arith))
 
 -- ---- what is read of a file is what it is, and it is one thing at most
-pub file_sound : (d : Document) (s : List ℕ) (v : Value d.element) → file_of d s ≡ some v → File d v s
+pub file_sound : (d : Document) (s : List ℕ) (v : Value d.element) → file_of d s ≡ Some v → File d v s
 file_sound d s v e =
     let a = document_sound d s ((file_all d s v).0 e) in
     let whole : s ≡ a.piece = a.there ∙ rw (drop-length s) (append-nil a.piece) in
     subst (File d v) (sym whole) a.is
 
-pub file_iff : (d : Document) (s : List ℕ) (v : Value d.element) → document_readable d ≡ true → (file_of d s ≡ some v) ↔ File d v s
+pub file_iff : (d : Document) (s : List ℕ) (v : Value d.element) → document_readable d ≡ true → (file_of d s ≡ Some v) ↔ File d v s
 file_iff d s v ok = (file_sound d s v, λ w. (file_all d s v).1 (document_complete d s v ok w))
 
 pub file_one : (d : Document) (s : List ℕ) (v w : Value d.element) → document_readable d ≡ true → File d v s → File d w s → v ≡ w

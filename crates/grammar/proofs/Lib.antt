@@ -15,11 +15,9 @@ pub mod Unique
 pub mod Roots
 pub mod Files
 pub mod Wholes
-pub mod Counting
 pub mod Values
 pub mod UpToQuote
-pub mod Comparing
 pub mod Openings
 pub mod Ends
 pub mod Straight
-pub mod SmallNumbers
+pub mod Handed

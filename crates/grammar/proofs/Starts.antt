@@ -1,29 +1,36 @@
--- Laws of bytes that begin with others: turn by turn, for a loop that compares; where they do; and where they cannot, since they differ.
-use Rattle.std.specs.Prelude.{◌+◌, ◌≤◌, ◌<◌, ◌≡◌, ◌∷◌, ◌++◌}
-use Rattle.integers.specs.Basics.{ℕ, refl, sym, ap, true, false, false≢true, List, [], eqb, length, get_or}
+-- Laws of bytes that begin with others: by the library's word for it; where they do; and where they cannot, since they differ.
+use Rattle.std.specs.Prelude.{◌+◌, ◌-◌, ◌≤◌, ◌<◌, ◌≡◌, ◌&&◌, ◌∷◌, ◌++◌}
+use Rattle.integers.specs.Basics.{ℕ, refl, sym, ap, true, false, false≢true, List, [], None, Some, eqb, length, take}
 use Rattle.integers.specs.Basics.{drop, arith, eqb-true, eqb-false, eq-eqb, ne_eqb}
 use mathlib.Core.Bool.{and-eq-true_iff}
-use lib.ListN.{drop_of_length-le, length-append}
-use lib.Seq.{drop-cons}
-use native.Mathlib.Numerals.{add-one}
-use Rattle.grammar.specs.Reader.{starts}
+use lib.ListN.{length-append}
+use Rattle.std.proofs.lemmas.List.{take_rest}
+use Rattle.std.specs.List.{starts_with}
+use Rattle.grammar.specs.Reader.{starts, literal_at}
+use Rattle.grammar.specs.Place.{Place, place}
+use Rattle.grammar.specs.Found.{past_literal}
 use Rattle.grammar.specs.Readable.{apart}
 use Rattle.grammar.proofs.Tests.{by_test}
 
--- ---- turn by turn: byte i of a literal l beside byte p of s
-module _ (l s : List ℕ) (i p : ℕ) where
-  pub starts_done : length l ≤ i → starts (drop i l) (drop p s) ≡ true
-  unfolding starts
-  starts_done h = rw (drop_of_length-le l h)
+-- ---- by the library's word for it
+starts_with_is : (l s : List ℕ) → starts_with eqb s l ≡ starts l s
+unfolding starts
+starts_with_is [] s = refl
+starts_with_is (b ∷ l) [] = refl
+starts_with_is (b ∷ l) (c ∷ s) = ap (λ t. eqb b c && t) (starts_with_is l s)
 
-  pub starts_on : i < length l → p < length s → get_or l i 0 ≡ get_or s p 0
-      → starts (drop i l) (drop p s) ≡ starts (drop (i + 1) l) (drop (p + 1) s)
-  unfolding starts
-  starts_on h g e = rw (drop-cons l i 0, drop-cons s p 0, eq-eqb (get_or l i 0) (get_or s p 0) e, add-one i, add-one p)
+pub literal_from_starts_with : (s l : List ℕ) (p : ℕ) → starts_with eqb (take (length s - p) (drop p s)) l ≡ literal_at s l p
+literal_from_starts_with s l p = rw (take_rest s p) (starts_with_is l (drop p s))
 
-  pub starts_off : i < length l → p < length s → (get_or l i 0 ≡ get_or s p 0 → ⊥) → starts (drop i l) (drop p s) ≡ false
-  unfolding starts
-  starts_off h g ne = rw (drop-cons l i 0, drop-cons s p 0, ne_eqb (get_or l i 0) (get_or s p 0) ne)
+-- what code finds of a literal: the place behind it, or none
+module _ (s l : List ℕ) (p : ℕ) where
+  pub literal_stands : {q : Place} → past_literal s l p ≡ Some q → (literal_at s l p ≡ true) × (place s (p + length l) ≡ q)
+  literal_stands {q} e =
+      by_test (literal_at s l p) (λ t. let same : Some (place s (p + length l)) ≡ Some q = rw t at e in (t, cc))
+      (λ t. absurd (let same : None ≡ Some q = rw t at e in cc))
+
+  pub literal_missing : past_literal s l p ≡ None → literal_at s l p ≡ false
+  literal_missing e = by_test (literal_at s l p) (λ t. absurd (let same : Some (place s (p + length l)) ≡ None = rw t at e in cc)) (λ t. t)
 
 -- ---- where they begin with them
 pub starts_append : (l y : List ℕ) → starts l (l ++ y) ≡ true

@@ -1,7 +1,7 @@
--- Code that reads attribute after attribute with no branch, and asks what stands behind the last alone, finds what the reader finds.
+-- One who reads attribute after attribute with no branch, and asks what stands behind the last alone, finds what the reader finds.
 use Prim.Native.String.{String}
 use Rattle.std.specs.Prelude.{◌+◌, ◌≡◌, ◌∷◌, ◌&&◌}
-use Rattle.integers.specs.Basics.{ℕ, refl, ◌∙◌, sym, true, false, false≢true, cond, List, [], Option, none, some}
+use Rattle.integers.specs.Basics.{ℕ, refl, ◌∙◌, sym, true, false, false≢true, cond, List, [], Option, None, Some}
 use Rattle.integers.specs.Basics.{length, drop, eqb, arith, eqb-true, ltb, ltb-true}
 use mathlib.Core.Bool.{and-eq-true_iff}
 use Rattle.grammar.specs.Bytes.{bytes, is_blank}
@@ -11,7 +11,6 @@ use Rattle.grammar.specs.Reader.{numbers_at, or_none, attributes_at, opening, ta
 use Rattle.grammar.specs.Readable.{apart, begins_solid, names_solid, told, attributes_readable}
 use Rattle.grammar.specs.Ends.{end_of, number_of}
 use Rattle.grammar.specs.Inside.{inside_at}
-use Rattle.grammar.specs.declared.tags.Inside.TheVariants.{Nothing}
 use Rattle.grammar.proofs.Tests.{by_test}
 use Rattle.grammar.proofs.Starts.{starts_split, apart_sym, apart_append, apart_starts}
 use Rattle.grammar.proofs.Spans.{all_nil, solid_stops, past_append}
@@ -31,8 +30,8 @@ module _ {X : Type 0} (z : X) where
 
 -- numbers of which all are there or none, and the place behind them, in a file that ends at e: none where the file ends with them
 abbrev pub numbers_or : {A : Type 0} → ℕ → Reading A → Option A
-numbers_or e nothing = none
-numbers_or e (up_to v n) = cond (eqb n e) none (some v)
+numbers_or e nothing = None
+numbers_or e (up_to v n) = cond (eqb n e) None (Some v)
 
 abbrev pub place_or : {A : Type 0} → ℕ → ℕ → Reading A → ℕ
 place_or e p nothing = p
@@ -80,7 +79,7 @@ module _ (s : List ℕ) where
     unfolding text_at
     other_text m other = rw (other_opening (opened n) p (numbers_open n ns p there).1 (opened m) other)
 
-    pub no_end : inside_at s p ≡ Nothing
+    pub no_end : inside_at s p ≡ None
     unfolding inside_at begins_solid is_blank
     no_end =
         let opens = (numbers_open n ns p there).1 in
@@ -130,7 +129,7 @@ module _ (s : List ℕ) where
     -- ---- attributes
     -- nothing is made where no start tag ends
     abbrev pub Ends : {A : Type 0} → (A → ℕ → X) → Type 0
-    Ends {A} k = (v : A) (p : ℕ) → inside_at s p ≡ Nothing → k v p ≡ z
+    Ends {A} k = (v : A) (p : ℕ) → inside_at s p ≡ None → k v p ≡ z
 
     straight_end : (l : List Attribute) (k : Values l → ℕ → X) → Ends k → straight l k (length s) ≡ z
     straight_end [] k ends = ends tt (length s) (inside_at_end s)
@@ -164,13 +163,13 @@ module _ (s : List ℕ) where
           → straight l (λ v. k (numbers_or (length s) r, v)) (place_or (length s) p r)
           ≡ found_or z k (next (or_none p r) (λ x q. with (λ v. (x, v)) (attributes_at s l q)))
       behind_numbers k ends p nothing over =
-          rest _ (λ v. ends (none, v)) p ∙ found_with z (λ v. (none, v)) k (attributes_at s l p)
+          rest _ (λ v. ends (None, v)) p ∙ found_with z (λ v. (None, v)) k (attributes_at s l p)
       behind_numbers k ends p (up_to x n) over =
-          let more = rest (λ v. k (some x, v)) (λ v. ends (some x, v)) n ∙ found_with z (λ v. (some x, v)) k (attributes_at s l n) in
+          let more = rest (λ v. k (Some x, v)) (λ v. ends (Some x, v)) n ∙ found_with z (λ v. (Some x, v)) k (attributes_at s l n) in
           by_test (eqb n (length s))
           (λ e.
           let last = eqb-true n (length s) e in
-          rw e (over x n refl _ (λ v. ends (none, v)) ∙ sym (straight_end l (λ v. k (some x, v)) (λ v. ends (some x, v)))
+          rw e (over x n refl _ (λ v. ends (None, v)) ∙ sym (straight_end l (λ v. k (Some x, v)) (λ v. ends (Some x, v)))
           ∙ rw (← last) more))
           (λ e. rw e more)
 

@@ -1,7 +1,7 @@
 -- A file: an element in its root, with a declaration before it or none, and blanks around tags.
 use Prim.Native.String.{String}
 use Rattle.std.specs.Prelude.{◌+◌, ◌≡◌, ◌⊎◌, ◌&&◌, ◌++◌}
-use Rattle.integers.specs.Basics.{ℕ, Bool, cond, List, [], Option, none, some, eqb, length}
+use Rattle.integers.specs.Basics.{ℕ, Bool, cond, List, [], Option, None, Some, eqb, length}
 use Rattle.grammar.specs.Bytes.{bytes, is_blank, Then, Literal, Each}
 use Rattle.grammar.specs.Grammar.{Element, Value, Written}
 use Rattle.grammar.specs.Reader.{Reading, nothing, up_to, next, literal_at, past_blanks, element_at}
@@ -43,8 +43,8 @@ document_at d s =
 
 -- all of the file is read
 abbrev pub wholly : {A : Type 0} → List ℕ → Reading A → Option A
-wholly s nothing = none
-wholly s (up_to v n) = cond (eqb n (length s)) (some v) none
+wholly s nothing = None
+wholly s (up_to v n) = cond (eqb n (length s)) (Some v) None
 
 unfoldable pub file_of : (d : Document) → List ℕ → Option (Value d.element)
 file_of d s = wholly s (document_at d s)

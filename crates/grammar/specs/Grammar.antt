@@ -1,7 +1,7 @@
 -- A layout of nested elements as data, and its meaning: which bytes are which element. Nothing here says how a file is read.
 use Prim.Native.String.{String}
 use Rattle.std.specs.Prelude.{◌≤◌, ◌≡◌, ◌⊎◌, ◌∷◌}
-use Rattle.integers.specs.Basics.{ℕ, List, [], Option, none, some, length}
+use Rattle.integers.specs.Basics.{ℕ, List, [], Option, None, Some, length}
 use Rattle.grammar.specs.Bytes.{bytes, is_blank, is_digit, is_plain, value_of, Then, Literal, Each}
 
 -- an attribute, by its name: a number, a text, or numbers of which all are there or none
@@ -58,8 +58,8 @@ abbrev pub Attributes : (l : List Attribute) → Values l → List ℕ → Type 
 Attributes [] v s = s ≡ []
 Attributes (number n ∷ l) (x, v) s = Then (Quoted n (Digits x)) (Attributes l v) s
 Attributes (text n ∷ l) v s = Then (Quoted n Plain) (Attributes l v) s
-Attributes (together ns ∷ l) (none, v) s = Attributes l v s
-Attributes (together ns ∷ l) (some x, v) s = Then (NumbersOf ns x) (Attributes l v) s
+Attributes (together ns ∷ l) (None, v) s = Attributes l v s
+Attributes (together ns ∷ l) (Some x, v) s = Then (NumbersOf ns x) (Attributes l v) s
 
 -- ---- an element: its start tag, its children with blanks around them, its end tag; one that holds nothing may close with "/>"
 abbrev pub Enclosed : String → (List ℕ → Type 0) → List ℕ → Type 0

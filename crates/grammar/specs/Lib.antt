@@ -2,6 +2,8 @@ pub mod Bytes
 pub mod Grammar
 pub mod Reader
 pub mod Readable
+pub mod Place
 pub mod Document
 pub mod Ends
+pub mod Found
 pub mod Inside

@@ -2,7 +2,7 @@
 -- exactly what the grammar has.
 use Prim.Native.String.{String}
 use Rattle.std.specs.Prelude.{◌+◌, ◌&&◌, ◌∷◌, ◌++◌}
-use Rattle.integers.specs.Basics.{ℕ, zero, suc, Bool, true, false, cond, List, [], Option, none, some}
+use Rattle.integers.specs.Basics.{ℕ, zero, suc, Bool, true, false, cond, List, [], Option, None, Some}
 use Rattle.integers.specs.Basics.{leb, ltb, eqb, length, take, drop}
 use Rattle.grammar.specs.Bytes.{bytes, is_blank, is_digit, is_plain, value_of}
 use Rattle.grammar.specs.Grammar.{Attribute, number, text, together, Element, leaf, holding, Numbers, Values, Value}
@@ -75,8 +75,8 @@ numbers_at s (n ∷ ns) p = next (number_at s (opened n) p) (λ x q. with (λ v.
 
 -- numbers of which all are there or none
 abbrev pub or_none : {A : Type 0} → ℕ → Reading A → Reading (Option A)
-or_none p nothing = up_to none p
-or_none p (up_to v n) = up_to (some v) n
+or_none p nothing = up_to None p
+or_none p (up_to v n) = up_to (Some v) n
 
 unfoldable pub attributes_at : List ℕ → (l : List Attribute) → ℕ → Reading (Values l)
 attributes_at s [] p = up_to tt p

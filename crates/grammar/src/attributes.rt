@@ -1,100 +1,95 @@
-// An attribute: a blank or more, its name, and its value in quotes. What is not there ends with the file: at that place nothing more can be
-// read, so that a caller reads one attribute after the other and asks once.
-ghost use Rattle.std.specs.Prelude.{◌≡◌, ◌+◌, ◌-◌, ◌≤◌, min, length};
-ghost use Rattle.grammar.specs.Reader.{Reading, nothing, opening_at, digits_at, plain_at};
-ghost use Rattle.grammar.specs.Ends.{end_of, number_of};
+// An attribute: a blank or more, its name, and its value in quotes.
+ghost use Rattle.std.specs.Prelude.{◌≡◌, ◌≤◌, length, IfSome};
+ghost use Rattle.grammar.specs.Bytes.{is_digit, value_of, Each};
+ghost use Rattle.grammar.specs.Reader.{opening_at, digits_at, plain_at, number_at, text_at};
+ghost use Rattle.grammar.specs.Found.{place_of, found, found_or_none};
 
-use crate::bytes::{is_blank, is_digit, is_plain, literal_at, past_blanks};
+use crate::bytes::{Cursor, Digit, Plain, prefix};
 
-// A number, and the place behind it.
-#[derive(Clone, Copy)]
-pub struct Number {
-    pub value: u64,
-    pub next: usize,
+// The number that up to 10 digits say.
+#[tactic(auto, using(crate::proofs::Values::digit_by_digit), unfolding(crate::specs::Bytes::value_from))]
+fn value_of(digits: &[u8]) -> u64
+    requires digits { Each is_digit digits.now }
+    requires few { length digits.now ≤ 10 }
+    ensures value { result ≡ value_of digits.now }
+    ensures small { result ≤ 9999999999 }
+{
+    let mut value: u64 = 0;
+    for b in digits {
+        value = value * 10 + (*b - b'0') as u64;
+    }
+    value
 }
 
-// The place behind a blank or more and then the bytes `l`: a name with what stands between it and its value.
-pub fn opening_at(s: &[u8], at: usize, l: &[u8]) -> usize
-    requires { at ≤ length s.now }
-    ensures { result ≡ end_of (length s.now) (opening_at s.now l.now at) }
+// What may be missing at `at`, and the place behind it.
+pub fn or_none<'a, T>(read: Option<(T, Cursor<'a>)>, at: &Cursor<'a>) -> (Option<T>, Cursor<'a>)
+    ensures { result ≡ found_or_none at.now read.entry }
 {
-    if at == s.len() {
-        return s.len();
-    }
-    if !is_blank(s[at]) {
-        return s.len();
-    }
-    let p = past_blanks(s, at + 1);
-    if !literal_at(s, p, l) {
-        return s.len();
-    }
-    p + l.len()
-}
-
-// The place `most` bytes on, or the end where that is nearer.
-fn at_most(s: &[u8], at: usize, most: usize) -> usize
-    requires { at ≤ length s.now }
-    ensures { result ≡ at + min most (length s.now - at) }
-{
-    if s.len() - at < most {
-        return s.len();
-    }
-    at + most
-}
-
-fn no_number(s: &[u8]) -> Number
-    ensures { result ≡ number_of (length s.now) nothing }
-{
-    Number {
-        value: 0,
-        next: s.len(),
+    match read {
+        Some((value, next)) => (Some(value), next),
+        None => (None, at.here()),
     }
 }
 
-// The number of 1 to 10 digits that stand at `at`, with a quote behind them.
-pub fn digits_at(s: &[u8], at: usize) -> Number
-    requires { at ≤ length s.now }
-    ensures { result ≡ number_of (length s.now) (digits_at s.now at) }
-{
-    let end = at_most(s, at, 11);
-    let mut n: u64 = 0;
-    let mut p = at;
-    while p < end {
-        let b = s[p];
-        if !is_digit(b) {
-            if b != 34 {
-                return no_number(s);
-            }
-            if p == at {
-                return no_number(s);
-            }
-            return Number {
-                value: n,
-                next: p + 1,
-            };
+impl<'a> Cursor<'a> {
+    // The place behind a blank or more and then the bytes `l`: a name with what stands between it and its value.
+    #[tactic(auto, using(crate::proofs::Openings::opening_named), unfolding(crate::specs::Reader::opening_at))]
+    pub fn opening(&self, l: &[u8]) -> Option<Cursor<'a>>
+        ensures { result ≡ place_of self.now.bytes (opening_at self.now.bytes l.now self.now.at) }
+    {
+        let name = self.past_blanks();
+        if name.at == self.at {
+            return None;
         }
-        n = n * 10 + (b - 48) as u64;
-        p += 1;
+        name.literal(l)
     }
-    no_number(s)
-}
 
-// The place behind a text of 0 to 100 bytes and a quote.
-pub fn plain_at(s: &[u8], at: usize) -> usize
-    requires { at ≤ length s.now }
-    ensures { result ≡ end_of (length s.now) (plain_at s.now at) }
-{
-    let end = at_most(s, at, 101);
-    let mut p = at;
-    while p < end {
-        let b = s[p];
-        if !is_plain(b) {
-            if b != 34 {
-                return s.len();
-            }
-            return p + 1;
+    // The number of 1 to 10 digits that stand here, with a quote behind them.
+    #[tactic(auto, using(crate::proofs::UpToQuote::number_read))]
+    pub fn digits(&self) -> Option<(u64, Cursor<'a>)>
+        ensures read { result ≡ found self.now.bytes (digits_at self.now.bytes self.now.at) }
+        ensures small { IfSome result (λ n. n.0 ≤ 9999999999) }
+    {
+        let window = &self.bytes[self.at..self.bytes.len().min(self.at + 10)];
+        let count = prefix::<Digit>(window);
+        if count == 0 {
+            return None;
         }
-        p += 1;
+        let quote = Cursor {
+            bytes: self.bytes,
+            at: self.at + count,
+        };
+        let next = quote.literal(b"\"")?;
+        Some((value_of(&window[..count]), next))
     }
-    s.len()
+
+    // The place behind a text of 0 to 100 bytes and a quote.
+    #[tactic(auto, using(crate::proofs::UpToQuote::text_read))]
+    pub fn plain(&self) -> Option<Cursor<'a>>
+        ensures { result ≡ place_of self.now.bytes (plain_at self.now.bytes self.now.at) }
+    {
+        let window = &self.bytes[self.at..self.bytes.len().min(self.at + 100)];
+        let quote = Cursor {
+            bytes: self.bytes,
+            at: self.at + prefix::<Plain>(window),
+        };
+        quote.literal(b"\"")
+    }
+
+    // A number behind its name; a text has no value to hand on, so that it has a line of its own.
+    #[tactic(auto, unfolding(crate::specs::Reader::number_at))]
+    pub fn number(&self, l: &[u8]) -> Option<(u64, Cursor<'a>)>
+        ensures read { result ≡ found self.now.bytes (number_at self.now.bytes l.now self.now.at) }
+        ensures small { IfSome result (λ n. n.0 ≤ 9999999999) }
+    {
+        self.opening(l)?.digits()
+    }
+
+    // A text behind its name.
+    #[tactic(auto, unfolding(crate::specs::Reader::text_at))]
+    pub fn text(&self, l: &[u8]) -> Option<Cursor<'a>>
+        ensures { result ≡ place_of self.now.bytes (text_at self.now.bytes l.now self.now.at) }
+    {
+        self.opening(l)?.plain()
+    }
 }

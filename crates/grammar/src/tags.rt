@@ -1,28 +1,24 @@
 // How an element goes on behind its attributes.
-ghost use Rattle.std.specs.Prelude.{◌≡◌, ◌≤◌, length};
+ghost use Rattle.std.specs.Prelude.{◌≡◌};
 ghost use Rattle.grammar.specs.Inside.{inside_at};
 
-use crate::bytes::{literal_at, past_blanks};
+use crate::bytes::Cursor;
 
-// It closes with "/>", or holds what stands from the place behind ">" and blanks on, or is none.
-#[derive(Clone, Copy)]
-pub enum Inside {
-    Closed { next: usize },
-    Holds { at: usize },
-    Nothing,
+// It closes with "/>", or holds what stands from the place behind ">" and blanks on.
+#[derive(Drop)]
+pub enum Inside<'a> {
+    Closed(Cursor<'a>),
+    Holds(Cursor<'a>),
 }
 
-pub fn inside_at(s: &[u8], at: usize) -> Inside
-    requires { at ≤ length s.now }
-    ensures { result ≡ inside_at s.now at }
-{
-    if literal_at(s, at, b"/>") {
-        return Inside::Closed { next: at + 2 };
-    }
-    if !literal_at(s, at, b">") {
-        return Inside::Nothing;
-    }
-    Inside::Holds {
-        at: past_blanks(s, at + 1),
+impl<'a> Cursor<'a> {
+    #[tactic(auto, unfolding(crate::specs::Inside::inside_at))]
+    pub fn inside(&self) -> Option<Inside<'a>>
+        ensures { result ≡ inside_at self.now.bytes self.now.at }
+    {
+        if let Some(next) = self.literal(b"/>") {
+            return Some(Inside::Closed(next));
+        }
+        Some(Inside::Holds(self.literal(b">")?.past_blanks()))
     }
 }

@@ -1,6 +1,6 @@
 -- The sample is a file of the layout, and says one group's line and one instrument's.
 use Rattle.std.specs.Prelude.{◌≡◌, ◌∷◌}
-use Rattle.integers.specs.Basics.{refl, [], none, some}
+use Rattle.integers.specs.Basics.{refl, [], None, Some}
 use Rattle.grammar.specs.Bytes.{is_blank, is_digit, is_plain, value_from}
 use Rattle.grammar.specs.Grammar.{Value}
 use Rattle.grammar.specs.Reader.{starts, span, past_blanks, opening_at, digits_at, plain_at, number_at, text_at, numbers_at, attributes_at, tag_at}
@@ -16,10 +16,10 @@ said = (
   (
     (2, (1, tt)),
     (
-      (1, (some (1000, (900, tt)), (1, tt))),
+      (1, (Some (1000, (900, tt)), (1, tt))),
       (
-        (3, (none, (1, tt))),
-        (4, (some (800, (700, (50, (60, tt)))), tt))
+        (3, (None, (1, tt))),
+        (4, (Some (800, (700, (50, (60, tt)))), tt))
             ∷ [],
       )
           ∷ [],
@@ -29,7 +29,7 @@ said = (
       ∷ [],
 )
 
-pub sample_read : file_of limit_file sample ≡ some said
+pub sample_read : file_of limit_file sample ≡ Some said
 unfolding said file_of document_at element_at children_at many_at childless_at tag_at attributes_at numbers_at text_at number_at plain_at
     digits_at opening_at past_blanks span starts is_blank is_digit is_plain value_from
 sample_read = refl

@@ -1,3 +1,3 @@
 pub mod Layout
-pub mod Starts
+pub mod Tags
 pub mod Sample

@@ -1,88 +1,82 @@
 // The limits of an element: all of them are there, or none.
-ghost use Rattle.std.specs.Prelude.{◌≡◌, ◌≤◌, length};
+ghost use Rattle.std.specs.Prelude.{◌≡◌};
 ghost use Rattle.grammar.specs.Reader.{numbers_at};
+ghost use Rattle.grammar.specs.Found.{found};
 ghost use Rattle.limit_file.specs.Layout.{two, four};
-ghost use Rattle.limit_file.specs.Starts.{no_limits, of_two, of_four, limits_or};
 
-use grammar::attributes::{digits_at, opening_at};
+use grammar::bytes::Cursor;
+use std::marker::Model;
 
-// Limits in the file's order, 0 where there are none. A group has no bid and no offer.
+// The limits of a group, in the file's order. No figure has more than ten digits.
+#[derive(Clone, Copy)]
+pub struct GroupLimits {
+    pub long: u64,
+    pub short: u64,
+}
+
+// The limits of a contract or an instrument, likewise.
 #[derive(Clone, Copy)]
 pub struct Limits {
-    pub there: bool,
     pub long: u64,
     pub short: u64,
     pub bid: u64,
     pub offer: u64,
 }
 
-// Limits, and the place behind them.
-#[derive(Clone, Copy)]
-pub struct LimitsAt {
-    pub limits: Limits,
-    pub next: usize,
+// A clause sees the numbers as the file has them.
+impl Model for GroupLimits {
+    ghost use Rattle.std.specs.Prelude.{ℕ, ◌≤◌};
+
+    ghost Value = { ℕ × (ℕ × Unit {0}) };
+
+    ghost view = { λ l. (l.long, (l.short, tt)) };
+
+    ghost inverse = { λ n. record { long = n.0; short = n.1.0 } };
+
+    ghost invariant = { λ l. (l.long ≤ 9999999999) × (l.short ≤ 9999999999) };
 }
 
-pub fn no_limits() -> Limits
-    ensures { result ≡ no_limits }
-{
-    Limits {
-        there: false,
-        long: 0,
-        short: 0,
-        bid: 0,
-        offer: 0,
-    }
+impl Model for Limits {
+    ghost use Rattle.std.specs.Prelude.{ℕ, ◌≤◌};
+
+    ghost Value = { ℕ × (ℕ × (ℕ × (ℕ × Unit {0}))) };
+
+    ghost view = { λ l. (l.long, (l.short, (l.bid, (l.offer, tt)))) };
+
+    ghost inverse = { λ n. record { long = n.0; short = n.1.0; bid = n.1.1.0; offer = n.1.1.1.0 } };
+
+    ghost invariant = { λ l. (l.long ≤ 9999999999) × (l.short ≤ 9999999999) × (l.bid ≤ 9999999999) × (l.offer ≤ 9999999999) };
 }
 
-// The limits of a group at `at`.
-pub fn two_at(s: &[u8], at: usize) -> LimitsAt
-    requires { at ≤ length s.now }
-    ensures { result ≡ limits_or of_two (length s.now) at (numbers_at s.now two at) }
-{
-    let long = digits_at(s, opening_at(s, at, b"LongLmt=\""));
-    let short = digits_at(s, opening_at(s, long.next, b"ShortLmt=\""));
-    if short.next == s.len() {
-        return LimitsAt {
-            limits: no_limits(),
-            next: at,
-        };
-    }
-    LimitsAt {
-        limits: Limits {
-            there: true,
-            long: long.value,
-            short: short.value,
-            bid: 0,
-            offer: 0,
-        },
-        next: short.next,
+impl GroupLimits {
+    // The limits of a group at `at`.
+    #[tactic(auto, unfolding(grammar::specs::Reader::numbers_at))]
+    pub fn read<'a>(at: &Cursor<'a>) -> Option<(GroupLimits, Cursor<'a>)>
+        ensures { result ≡ found at.now.bytes (numbers_at at.now.bytes two at.now.at) }
+    {
+        let (long, at) = at.number(b"LongLmt=\"")?;
+        let (short, at) = at.number(b"ShortLmt=\"")?;
+        Some((GroupLimits { long, short }, at))
     }
 }
 
-// The limits of a contract or an instrument at `at`.
-pub fn four_at(s: &[u8], at: usize) -> LimitsAt
-    requires { at ≤ length s.now }
-    ensures { result ≡ limits_or of_four (length s.now) at (numbers_at s.now four at) }
-{
-    let long = digits_at(s, opening_at(s, at, b"LongLmt=\""));
-    let short = digits_at(s, opening_at(s, long.next, b"ShortLmt=\""));
-    let bid = digits_at(s, opening_at(s, short.next, b"MaxBidQty=\""));
-    let offer = digits_at(s, opening_at(s, bid.next, b"MaxOfrQty=\""));
-    if offer.next == s.len() {
-        return LimitsAt {
-            limits: no_limits(),
-            next: at,
-        };
-    }
-    LimitsAt {
-        limits: Limits {
-            there: true,
-            long: long.value,
-            short: short.value,
-            bid: bid.value,
-            offer: offer.value,
-        },
-        next: offer.next,
+impl Limits {
+    // The limits of a contract or an instrument at `at`: those that a group has, and two more.
+    #[tactic(auto, unfolding(grammar::specs::Reader::numbers_at))]
+    pub fn read<'a>(at: &Cursor<'a>) -> Option<(Limits, Cursor<'a>)>
+        ensures { result ≡ found at.now.bytes (numbers_at at.now.bytes four at.now.at) }
+    {
+        let (GroupLimits { long, short }, at) = GroupLimits::read(at)?;
+        let (bid, at) = at.number(b"MaxBidQty=\"")?;
+        let (offer, at) = at.number(b"MaxOfrQty=\"")?;
+        Some((
+            Limits {
+                long,
+                short,
+                bid,
+                offer,
+            },
+            at,
+        ))
     }
 }

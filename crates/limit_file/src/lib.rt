@@ -3,156 +3,121 @@
 
 pub mod figures;
 
-ghost use Rattle.std.specs.Prelude.{◌≡◌, cond, ◌+◌, ◌≤◌, length};
-ghost use Rattle.grammar.specs.Reader.{literal_at, element_at};
-ghost use Rattle.grammar.specs.Inside.{inside_at};
-ghost use Rattle.limit_file.specs.Layout.{instrument};
-ghost use Rattle.limit_file.specs.Starts.{request_start, account_start, group_start, contract_start, going, leaf_of};
+ghost use Rattle.std.specs.Prelude.{◌≡◌};
+ghost use Rattle.grammar.specs.Reader.{with, tag_at, childless_at, element_at};
+ghost use Rattle.grammar.specs.Found.{place_of, found};
+ghost use Rattle.limit_file.specs.Layout.{of_request, of_account, of_group, of_contract, instrument};
+ghost use Rattle.limit_file.specs.Tags.{request_tag, account_tag, group_tag, contract_tag, instrument_tag};
 
-use crate::figures::{Limits, four_at, no_limits, two_at};
-use grammar::attributes::{digits_at, opening_at, plain_at};
-use grammar::bytes::literal_at;
-use grammar::tags::{Inside, inside_at};
+use crate::figures::{GroupLimits, Limits};
+use grammar::attributes::or_none;
+use grammar::bytes::Cursor;
+use grammar::tags::Inside;
 
-// An element's number, its limits and its count of children.
+// What an element says of itself: its number, its limits where it has any, and how many others it holds.
 #[derive(Clone, Copy)]
-pub struct Tag {
-    pub number: u64,
-    pub limits: Limits,
-    pub children: u64,
+pub struct AccountTag {
+    pub account: u64,
+    pub groups: u64,
 }
 
-// An element that closes with its start tag, or that holds what stands from a place on; or no such element.
 #[derive(Clone, Copy)]
-pub enum Start {
-    Closed { tag: Tag, next: usize },
-    Holds { tag: Tag, at: usize },
-    Nothing,
+pub struct GroupTag {
+    pub group: u64,
+    pub limits: Option<GroupLimits>,
+    pub contracts: u64,
 }
 
-// An element without children, up to a place; or no such element.
 #[derive(Clone, Copy)]
-pub enum Leaf {
-    Read { tag: Tag, next: usize },
-    Nothing,
+pub struct ContractTag {
+    pub contract: u64,
+    pub limits: Option<Limits>,
+    pub instruments: u64,
 }
 
-// The place behind "<" and a name, or the end where they do not stand at `at`.
-fn name_at(s: &[u8], at: usize, l: &[u8]) -> usize
-    requires { at ≤ length s.now }
-    ensures { result ≡ cond (literal_at s.now l.now at) (at + length l.now) (length s.now) }
-{
-    if !literal_at(s, at, l) {
-        return s.len();
-    }
-    at + l.len()
+#[derive(Clone, Copy)]
+pub struct InstrumentTag {
+    pub instrument: u64,
+    pub limits: Option<Limits>,
 }
 
-// An element with this tag, whose attributes end at `at`.
-fn going_on(s: &[u8], tag: Tag, at: usize) -> Start
-    requires { at ≤ length s.now }
-    ensures { result ≡ going tag (inside_at s.now at) }
+// SetLimRqt: how many accounts it holds.
+#[tactic(auto, unfolding(grammar::specs::Reader::tag_at, grammar::specs::Reader::attributes_at))]
+pub fn request_tag<'a>(at: &Cursor<'a>) -> Option<(u64, Cursor<'a>)>
+    ensures { result ≡ found at.now.bytes (with request_tag (tag_at at.now.bytes "SetLimRqt" of_request at.now.at)) }
 {
-    match inside_at(s, at) {
-        Inside::Closed { next } => Start::Closed { tag, next },
-        Inside::Holds { at } => Start::Holds { tag, at },
-        Inside::Nothing => Start::Nothing,
-    }
-}
-
-// SetLimRqt.
-pub fn request_start(s: &[u8], at: usize) -> Start
-    requires { at ≤ length s.now }
-    ensures { result ≡ request_start s.now at }
-{
-    let name = name_at(s, at, b"<SetLimRqt");
-    let firm = plain_at(s, opening_at(s, name, b"BrkFrmId=\""));
-    let accounts = digits_at(s, opening_at(s, firm, b"NAccts=\""));
-    let tag = Tag {
-        number: 0,
-        limits: no_limits(),
-        children: accounts.value,
-    };
-    going_on(s, tag, accounts.next)
+    let name = at.literal(b"<SetLimRqt")?;
+    let firm = name.text(b"BrkFrmId=\"")?;
+    firm.number(b"NAccts=\"")
 }
 
 // AcctLmt.
-pub fn account_start(s: &[u8], at: usize) -> Start
-    requires { at ≤ length s.now }
-    ensures { result ≡ account_start s.now at }
+#[tactic(auto, unfolding(grammar::specs::Reader::tag_at, grammar::specs::Reader::attributes_at))]
+pub fn account_tag<'a>(at: &Cursor<'a>) -> Option<(AccountTag, Cursor<'a>)>
+    ensures { result ≡ found at.now.bytes (with account_tag (tag_at at.now.bytes "AcctLmt" of_account at.now.at)) }
 {
-    let name = name_at(s, at, b"<AcctLmt");
-    let account = digits_at(s, opening_at(s, name, b"Acct=\""));
-    let sort = plain_at(s, opening_at(s, account.next, b"AcctType=\""));
-    let groups = digits_at(s, opening_at(s, sort, b"NEqvIxmLmtCfg=\""));
-    let tag = Tag {
-        number: account.value,
-        limits: no_limits(),
-        children: groups.value,
-    };
-    going_on(s, tag, groups.next)
+    let name = at.literal(b"<AcctLmt")?;
+    let (account, at) = name.number(b"Acct=\"")?;
+    let sort = at.text(b"AcctType=\"")?;
+    let (groups, at) = sort.number(b"NEqvIxmLmtCfg=\"")?;
+    Some((AccountTag { account, groups }, at))
 }
 
 // EqvIxmLmt.
-pub fn group_start(s: &[u8], at: usize) -> Start
-    requires { at ≤ length s.now }
-    ensures { result ≡ group_start s.now at }
+#[tactic(auto, unfolding(grammar::specs::Reader::tag_at, grammar::specs::Reader::attributes_at))]
+pub fn group_tag<'a>(at: &Cursor<'a>) -> Option<(GroupTag, Cursor<'a>)>
+    ensures { result ≡ found at.now.bytes (with group_tag (tag_at at.now.bytes "EqvIxmLmt" of_group at.now.at)) }
 {
-    let name = name_at(s, at, b"<EqvIxmLmt");
-    let group = digits_at(s, opening_at(s, name, b"EqvIxm=\""));
-    let two = two_at(s, group.next);
-    let contracts = digits_at(s, opening_at(s, two.next, b"NContrtLmtCfg=\""));
-    let limits = two.limits;
-    let tag = Tag {
-        number: group.value,
-        limits: limits,
-        children: contracts.value,
+    let name = at.literal(b"<EqvIxmLmt")?;
+    let (group, at) = name.number(b"EqvIxm=\"")?;
+    let (limits, at) = or_none(GroupLimits::read(&at), &at);
+    let (contracts, at) = at.number(b"NContrtLmtCfg=\"")?;
+    let tag = GroupTag {
+        group,
+        limits,
+        contracts,
     };
-    going_on(s, tag, contracts.next)
+    Some((tag, at))
 }
 
-// ContrtLmt.
-pub fn contract_start(s: &[u8], at: usize) -> Start
-    requires { at ≤ length s.now }
-    ensures { result ≡ contract_start s.now at }
+// ContrtLmt. Its attributes and limits are others than a group's, so that its tag is read by a function of its own.
+#[tactic(auto, unfolding(grammar::specs::Reader::tag_at, grammar::specs::Reader::attributes_at))]
+pub fn contract_tag<'a>(at: &Cursor<'a>) -> Option<(ContractTag, Cursor<'a>)>
+    ensures { result ≡ found at.now.bytes (with contract_tag (tag_at at.now.bytes "ContrtLmt" of_contract at.now.at)) }
 {
-    let name = name_at(s, at, b"<ContrtLmt");
-    let contract = digits_at(s, opening_at(s, name, b"Contrt=\""));
-    let four = four_at(s, contract.next);
-    let instruments = digits_at(s, opening_at(s, four.next, b"NIxmLmtCfg=\""));
-    let limits = four.limits;
-    let tag = Tag {
-        number: contract.value,
-        limits: limits,
-        children: instruments.value,
+    let name = at.literal(b"<ContrtLmt")?;
+    let (contract, at) = name.number(b"Contrt=\"")?;
+    let (limits, at) = or_none(Limits::read(&at), &at);
+    let (instruments, at) = at.number(b"NIxmLmtCfg=\"")?;
+    let tag = ContractTag {
+        contract,
+        limits,
+        instruments,
     };
-    going_on(s, tag, instruments.next)
+    Some((tag, at))
 }
 
-// IxmLmt, whole: it has no children.
-pub fn instrument_at(s: &[u8], at: usize) -> Leaf
-    requires { at ≤ length s.now }
-    ensures { result ≡ leaf_of (element_at s.now instrument at) }
+// The place behind an IxmLmt, which holds no others, from behind its attributes on.
+#[tactic(auto, unfolding(grammar::specs::Reader::childless_at, grammar::specs::Inside::inside_at))]
+fn instrument_end<'a>(at: &Cursor<'a>) -> Option<Cursor<'a>>
+    ensures { result ≡ place_of at.now.bytes (childless_at at.now.bytes "IxmLmt" at.now.at) }
 {
-    let name = name_at(s, at, b"<IxmLmt");
-    let asset = plain_at(s, opening_at(s, name, b"Asset=\""));
-    let sort = plain_at(s, opening_at(s, asset, b"SecTyp=\""));
-    let instrument = digits_at(s, opening_at(s, sort, b"Sym=\""));
-    let four = four_at(s, instrument.next);
-    let limits = four.limits;
-    let tag = Tag {
-        number: instrument.value,
-        limits: limits,
-        children: 0,
-    };
-    match inside_at(s, four.next) {
-        Inside::Closed { next } => Leaf::Read { tag, next },
-        Inside::Holds { at } => {
-            if !literal_at(s, at, b"</IxmLmt>") {
-                return Leaf::Nothing;
-            }
-            Leaf::Read { tag, next: at + 9 }
-        }
-        Inside::Nothing => Leaf::Nothing,
+    match at.inside()? {
+        Inside::Closed(next) => Some(next),
+        Inside::Holds(at) => at.literal(b"</IxmLmt>"),
     }
+}
+
+// IxmLmt, whole.
+#[tactic(auto, unfolding(grammar::specs::Reader::element_at, grammar::specs::Reader::tag_at, grammar::specs::Reader::attributes_at))]
+pub fn instrument_at<'a>(at: &Cursor<'a>) -> Option<(InstrumentTag, Cursor<'a>)>
+    ensures { result ≡ found at.now.bytes (with instrument_tag (element_at at.now.bytes instrument at.now.at)) }
+{
+    let name = at.literal(b"<IxmLmt")?;
+    let asset = name.text(b"Asset=\"")?;
+    let sort = asset.text(b"SecTyp=\"")?;
+    let (instrument, at) = sort.number(b"Sym=\"")?;
+    let (limits, at) = or_none(Limits::read(&at), &at);
+    let next = instrument_end(&at)?;
+    Some((InstrumentTag { instrument, limits }, next))
 }
