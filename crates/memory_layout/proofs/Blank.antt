@@ -1,7 +1,7 @@
 -- A memory whose words behind the roster are 0 is a desk that has just begun.
 use Rattle.std.specs.Prelude.{◌+◌, ◌*◌, ◌≤◌, ◌<◌, ◌≡◌, ◌&&◌}
-use Rattle.integers.specs.Basics.{ℕ, refl, ◌∙◌, ap, fun_ext, Bool, true, false, not, cond, List, [], none}
-use Rattle.integers.specs.Basics.{some, pos, arith, eq-eqb}
+use Rattle.integers.specs.Basics.{ℕ, refl, ◌∙◌, ap, fun_ext, Bool, true, false, not, cond, List, [], None}
+use Rattle.integers.specs.Basics.{Some, pos, arith, eq-eqb}
 use Rattle.integers.specs.TwosComplement.{signed_of, signed_small}
 use Rattle.words.specs.Words.{word_at, signed_at}
 use Rattle.ledger.specs.Roster.{Numbered}
@@ -28,10 +28,10 @@ module _ (m : List ℕ) (sized : Sized (roster_of m)) (zero : (k : ℕ) → 112 
 
   -- no line where its word is 0
   unset : {A : Type 0} (numbers a n k : ℕ) (x : A) → (Numbered (roster_of m).accounts a → Numbered numbers n → (112 ≤ k) × (k < 4224))
-      → on_roster (roster_of m).accounts numbers a n (cond (flag m k) (some x) none) none ≡ none
+      → on_roster (roster_of m).accounts numbers a n (cond (flag m k) (Some x) None) None ≡ None
   unset numbers a n k x inside =
-      on_each (roster_of m).accounts numbers a n (cond (flag m k) (some x) none) none (λ l. l ≡ none)
-      (λ on_a on_n. ap (λ t. cond t (some x) none) (flag_off k (inside on_a on_n).0 (inside on_a on_n).1)) refl
+      on_each (roster_of m).accounts numbers a n (cond (flag m k) (Some x) None) None (λ l. l ≡ None)
+      (λ on_a on_n. ap (λ t. cond t (Some x) None) (flag_off k (inside on_a on_n).0 (inside on_a on_n).1)) refl
 
   balances_blank : balances_of m ≡ (λ a i. pos 0)
   unfolding balances_of signed_at

@@ -10,6 +10,7 @@ use Rattle.memory_layout.specs.View.{roster_of, flag, balances_part, balances_of
 use Rattle.memory_layout.specs.Readable.{Readable}
 use Rattle.memory_layout.proofs.RosterLaws.{numbered_between}
 use Rattle.memory_layout.proofs.GuardedTables.{on_here}
+use Rattle.memory_layout.proofs.LinesInRows.{own_set_lem, default_set_lem, group_set_lem}
 
 pub long_out : (m : List ℕ) → long_enough m ≡ true → 65536 ≤ length m
 unfolding long_enough
@@ -49,3 +50,6 @@ pub instrument_flag : (m : List ℕ) (i : ℕ) → Numbered (roster_of m).instru
     → (blocks_of m).instrument i ≡ flag m (instrument_block_word i)
 unfolding blocks_of
 instrument_flag m i on = rw (numbered_between (roster_of m).instruments i on)
+
+-- what the readers of single fields read
+pub ruleset fields_read = (trading_flag, account_flag, group_flag, instrument_flag, own_set_lem, default_set_lem, group_set_lem)

@@ -4,7 +4,9 @@ use Rattle.integers.specs.Basics.{ℕ, refl, ◌∙◌, ap, fun_ext, Bool, true,
 use Rattle.ledger.specs.declared.order.Order.{Order}
 use Rattle.ledger.specs.Roster.{Roster, Numbered}
 use Rattle.ledger.proofs.Ways.{by_number}
-use Rattle.limits.specs.Lines.{Line, GroupLine, Lines}
+use Rattle.limits.specs.declared.lines.Line.{Line}
+use Rattle.limits.specs.declared.lines.GroupLine.{GroupLine}
+use Rattle.limits.specs.Lines.{Lines}
 use Rattle.limits.proofs.Answers.{both_true, and_true}
 use Rattle.book.specs.Decoding.{between}
 use Rattle.book.specs.Books.{Blocks, at}

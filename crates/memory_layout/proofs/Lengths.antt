@@ -8,6 +8,7 @@ use Rattle.book.specs.OpenOrders.{insert}
 use Rattle.memory_layout.specs.Layout.{count_word}
 use Rattle.memory_layout.specs.View.{records_of, open_orders}
 use Rattle.memory_layout.specs.Stores.{rank, without}
+use Rattle.memory_layout.proofs.OrderRecords.{records_long}
 use Rattle.memory_layout.proofs.Stored.{length_orders_from}
 
 pub length_insert : (o : Order) (os : List Order) → length (insert o os) ≡ length os + 1
@@ -33,3 +34,6 @@ length_open m = length_orders_from (records_of m) (word_at m count_word) 0
 
 pub rank_open : (m : List ℕ) (id : ℕ) → rank id (open_orders m) ≤ word_at m count_word
 rank_open m id = omega (arith, rank_within id (open_orders m), length_open m)
+
+-- what the readers of the records read
+pub ruleset records_read = (length_open, records_long, rank_open)

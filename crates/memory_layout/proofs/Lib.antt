@@ -1,6 +1,7 @@
 -- Laws of the memory: which words a field of the view is made of, what each store changes, and records that move. One module a subject.
 pub mod RosterLaws
 pub mod Every
+pub mod All
 pub mod RosterRead
 pub mod MarketRead
 pub mod GuardedTables
@@ -10,6 +11,7 @@ pub mod Written
 pub mod RosterWritten
 pub mod Begun
 pub mod OrderRecords
+pub mod OpenRecords
 pub mod Stored
 pub mod Apart
 pub mod Pieces

@@ -1,6 +1,6 @@
 -- The order that an event names, as it is handed on: a NEW's joins where its id stands, and a change's is the one that the book finds.
 use Rattle.std.specs.Prelude.{◌≡◌}
-use Rattle.integers.specs.Basics.{ℕ, ◌∙◌, sym, ap, List, some, ℤ}
+use Rattle.integers.specs.Basics.{ℕ, ◌∙◌, sym, ap, List, Some, ℤ}
 use Rattle.ledger.specs.declared.order.Order.{Order}
 use Rattle.ledger.specs.declared.order.Side.{Side}
 use Rattle.ledger.specs.Records.{order_of}
@@ -21,5 +21,5 @@ module _ (m : List ℕ) (id p w : ℕ) where
       ap (λ q. store_from m (joined_first m q) (insert (order_of id w) (open_orders m))) named.0
       ∙ ap (λ (y : Order). store_from m (joined_first m (rank id (open_orders m))) (insert y (open_orders m))) named.1
 
-  pub named_found : (c : OrderChange) → NamedAt m (Change id c) p w → find id (open_orders m) ≡ some (order_of id w)
-  named_found c named = found_order m id p named.0 ∙ ap some (sym named.1)
+  pub named_found : (c : OrderChange) → NamedAt m (Change id c) p w → find id (open_orders m) ≡ Some (order_of id w)
+  named_found c named = found_order m id p named.0 ∙ ap Some (sym named.1)

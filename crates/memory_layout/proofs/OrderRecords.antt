@@ -3,7 +3,7 @@
 use Rattle.std.specs.Prelude.{◌+◌, ◌*◌, ◌≤◌, ◌<◌, ◌≡◌}
 use Rattle.integers.specs.Basics.{ℕ, zero, suc, refl, ◌∙◌, sym, ap, List, length, get_or, arith}
 use Rattle.words.specs.Bytes.{Bytes}
-use Rattle.words.specs.Words.{AreWords, word_at, words_at, put_words, part_of}
+use Rattle.words.specs.Words.{AreWords, word_at, words_at, put_word, put_words, part_of}
 use Rattle.words.proofs.Memory.{word_below}
 use Rattle.words.proofs.Runs.{length_puts, bytes_puts, word_puts_other, word_puts_same, puts_back}
 use Rattle.words.proofs.Parts.{length_part, word_part}
@@ -46,6 +46,12 @@ same_records l m (suc n) p h same =
     )
 
 -- ---- a stored record
+-- its two words, one after the other
+pub record_stored : (m after : List ℕ) (r id w : ℕ) → after ≡ put_word (put_word m (record_word r) id) (record_word r + 1) w
+    → after ≡ put_order m r (order_of id w)
+unfolding put_order fields put_words
+record_stored m after r id w is = is ∙ rw (detail_again id w, id_of id w)
+
 module _ (m : List ℕ) (p : ℕ) (o : Order) where
   pub length_order : length (put_order m p o) ≡ length m
   unfolding put_order

@@ -1,10 +1,9 @@
 -- The part with the roster says what the roster of the view says, of every number on it: so what is read there is the view's.
-use Rattle.std.specs.Prelude.{◌≤◌, ◌<◌, ◌≡◌}
-use Rattle.integers.specs.Basics.{ℕ, refl, false, List, leb, length, arith, le-leb, lt-leb}
+use Rattle.std.specs.Prelude.{◌≤◌, ◌≡◌}
+use Rattle.integers.specs.Basics.{ℕ, refl, List, length, arith}
 use Rattle.words.proofs.Parts.{length_part}
 use Rattle.ledger.specs.Roster.{Numbered}
 use Rattle.ledger.specs.Records.{roster_in}
-use Rattle.book.specs.Decoding.{between}
 use Rattle.memory_layout.specs.Layout.{roster_word}
 use Rattle.memory_layout.specs.Rosters.{listed}
 use Rattle.memory_layout.specs.View.{roster_part, roster_of}
@@ -31,9 +30,5 @@ module _ (m : List ℕ) where
   unfolding roster_of listed
   weight_same i h = rw (numbered_between (roster_in (roster_part m)).instruments i h)
 
--- ---- the test of a range, as the code asks it
-pub below_range : (low high n : ℕ) → n < low → false ≡ between low high n
-below_range low high n h = rw (lt-leb low n h)
-
-pub above_low : (low high n : ℕ) → low ≤ n → leb n high ≡ between low high n
-above_low low high n h = rw (le-leb low n h)
+-- what the readers of the roster read
+pub ruleset roster_read = (roster_long, group_same, contract_same)

@@ -1,6 +1,6 @@
 -- The words of a written roster, and what a written roster leaves alone.
 use Rattle.std.specs.Prelude.{◌+◌, ◌^◌, ◌≤◌, ◌<◌, ◌≡◌, ◌≢◌, ◌∷◌}
-use Rattle.integers.specs.Basics.{ℕ, zero, suc, ◌∙◌, ap, cond, List, [], ℤ, pos, length, get_or}
+use Rattle.integers.specs.Basics.{ℕ, zero, suc, ◌∙◌, List, [], ℤ, length, get_or}
 use Rattle.integers.specs.Basics.{w64, SFits, arith}
 use Rattle.integers.specs.TwosComplement.{bits_of}
 use Rattle.words.specs.Words.{word_at, signed_at, put_word, put_signed, put_words}
@@ -8,29 +8,13 @@ use Rattle.words.proofs.Memory.{length_put, word_put_same, word_put_other}
 use Rattle.words.proofs.Runs.{word_puts_same}
 use Rattle.words.proofs.TwosComplement.{signed_put_same, signed_put_other}
 use Rattle.ledger.specs.Roster.{Roster}
-use Rattle.book.specs.Decoding.{between}
-use Rattle.memory_layout.specs.Rosters.{listed}
 use Rattle.memory_layout.specs.Opening.{groups_written, contracts_written, weights_written, with_sizes, with_roster}
-use Rattle.memory_layout.proofs.RosterLaws.{Sized, numbered_between}
-use Rattle.memory_layout.proofs.Written.{written_keeps, written_there, written_same}
+use Rattle.memory_layout.proofs.RosterLaws.{Sized}
+use Rattle.memory_layout.proofs.Written.{written_keeps, written_there}
 
 word_signed_other : (m : List ℕ) (k : ℕ) (z : ℤ) (j : ℕ) → j ≢ k → word_at (put_signed m k z) j ≡ word_at m j
 unfolding put_signed
 word_signed_other m k z j other = word_put_other m k (bits_of 64 z) j other
-
--- ---- a roster by its sizes and tables, as it is written
-pub roster_listed : (m : List ℕ) (a g c i : ℕ) (f h : ℕ → ℕ) (w : ℕ → ℤ)
-    → with_roster m (listed a g c i f h w) ≡ weights_written w (contracts_written h (groups_written f (with_sizes m a g c i) c) i) i
-unfolding with_roster listed
-roster_listed m a g c i f h w =
-    written_same (λ l k. put_signed l (44 + k) (cond (between 1 i k) (w k) (pos 0))) (λ l k. put_signed l (44 + k) (w k)) _ i
-    (λ l k low high. rw (numbered_between i k (low, high)))
-    ∙ ap (λ l. weights_written w l i)
-    (written_same (λ l k. put_word l (12 + k) (cond (between 1 i k) (h k) 0)) (λ l k. put_word l (12 + k) (h k)) _ i
-    (λ l k low high. rw (numbered_between i k (low, high)))
-    ∙ ap (λ l. contracts_written h l i)
-    (written_same (λ l k. put_word l (4 + k) (cond (between 1 c k) (f k) 0)) (λ l k. put_word l (4 + k) (f k)) (with_sizes m a g c i) c
-    (λ l k low high. rw (numbered_between c k (low, high)))))
 
 -- ---- what a store outside the roster's words would show is as it was
 module _ {A : Type 0} (of : List ℕ → A) (keeps : (l : List ℕ) (k v : ℕ) → 1 ≤ k → k ≤ 76 → of (put_word l k v) ≡ of l) where

@@ -1,11 +1,13 @@
 -- Which words a field of the view is made of: memories with those words in common have the field in common.
 use Rattle.std.specs.Prelude.{◌+◌, ◌*◌, ◌≤◌, ◌<◌, ◌≡◌}
-use Rattle.integers.specs.Basics.{ℕ, refl, ◌∙◌, sym, ap, Bool, false, not, cond, List, Option, none, some, ℤ, pos}
+use Rattle.integers.specs.Basics.{ℕ, refl, ◌∙◌, sym, ap, Bool, false, not, cond, List, Option, None, Some, ℤ, pos}
 use Rattle.integers.specs.Basics.{eqb, length, arith}
 use Rattle.integers.specs.TwosComplement.{signed_of}
 use Rattle.words.specs.Words.{word_at, signed_at}
 use Rattle.ledger.specs.Roster.{Numbered}
-use Rattle.limits.specs.Lines.{Line, GroupLine, Lines}
+use Rattle.limits.specs.declared.lines.Line.{Line}
+use Rattle.limits.specs.declared.lines.GroupLine.{GroupLine}
+use Rattle.limits.specs.Lines.{Lines}
 use Rattle.limits.specs.InBytes.{line_at, group_line_at}
 use Rattle.book.specs.Books.{Blocks}
 use Rattle.memory_layout.specs.Layout.{count_word, first_word, mark_word, account_block_word, instrument_block_word, group_block_row}
@@ -36,13 +38,13 @@ abbrev pub group_block_at : List ℕ → ℕ → ℕ → Bool
 group_block_at m a g = flag m (group_block_row a + g)
 
 abbrev pub field_own : List ℕ → ℕ → ℕ → Option Line
-field_own m a i = cond (flag m (own_set_row a + i)) (some (line_at m (own_row a + i * 2))) none
+field_own m a i = cond (flag m (own_set_row a + i)) (Some (line_at m (own_row a + i * 2))) None
 
 abbrev pub default_at : List ℕ → ℕ → ℕ → Option Line
-default_at m a c = cond (flag m (default_set_row a + c)) (some (line_at m (default_row a + c * 2))) none
+default_at m a c = cond (flag m (default_set_row a + c)) (Some (line_at m (default_row a + c * 2))) None
 
 abbrev pub of_group_at : List ℕ → ℕ → ℕ → Option GroupLine
-of_group_at m a g = cond (flag m (group_set_row a + g)) (some (group_line_at m (group_row a + g))) none
+of_group_at m a g = cond (flag m (group_set_row a + g)) (Some (group_line_at m (group_row a + g))) None
 
 abbrev pub lines_by : (ℕ → ℕ → Option Line) → (ℕ → ℕ → Option Line) → (ℕ → ℕ → Option GroupLine) → ℕ → Lines
 lines_by own default of_group a = record { own_of = own a; default_of = default a; line_of_group = of_group a }
@@ -56,13 +58,13 @@ same_flag l m k e = ap (λ n. not (eqb n 0)) e
 
 -- a line, set or not
 pub same_own : (l m : List ℕ) (s k : ℕ) → word_at l s ≡ word_at m s → Same k (k + 2) l m
-    → ◌≡◌ {A = Option Line} (cond (flag l s) (some (line_at l k)) none) (cond (flag m s) (some (line_at m k)) none)
+    → ◌≡◌ {A = Option Line} (cond (flag l s) (Some (line_at l k)) None) (cond (flag m s) (Some (line_at m k)) None)
 unfolding line_at
 same_own l m s k e same =
     rw (same_flag l m s e, same k (omega arith) (omega arith), same (k + 1) (omega arith) (omega arith))
 
 pub same_of_group : (l m : List ℕ) (s k : ℕ) → word_at l s ≡ word_at m s → word_at l k ≡ word_at m k
-    → ◌≡◌ {A = Option GroupLine} (cond (flag l s) (some (group_line_at l k)) none) (cond (flag m s) (some (group_line_at m k)) none)
+    → ◌≡◌ {A = Option GroupLine} (cond (flag l s) (Some (group_line_at l k)) None) (cond (flag m s) (Some (group_line_at m k)) None)
 unfolding group_line_at
 same_of_group l m s k e same = rw (same_flag l m s e, same)
 
@@ -78,44 +80,44 @@ module _ (l m : List ℕ) (held : InBounds m) (roster : roster_of l ≡ roster_o
 
   pub own_same : Same 768 1280 l m → ((a i : ℕ) → Numbered (roster_of m).accounts a → Numbered (roster_of m).instruments i
       → Same (own_row a + i * 2) (own_row a + i * 2 + 2) l m)
-      → table_of (roster_of m).accounts (roster_of m).instruments none (field_own l) ≡ table_of (roster_of m).accounts
-      (roster_of m).instruments none (field_own m)
+      → table_of (roster_of m).accounts (roster_of m).instruments None (field_own l) ≡ table_of (roster_of m).accounts
+      (roster_of m).instruments None (field_own m)
   own_same sets figures =
       let sized = held.sized in
-      table_same (roster_of m).accounts (roster_of m).instruments none (field_own m) (field_own l)
+      table_same (roster_of m).accounts (roster_of m).instruments None (field_own m) (field_own l)
       (λ a i on_a on_i. same_own l m (own_set_row a + i) (own_row a + i * 2) (sets (own_set_row a + i) (omega arith) (omega arith))
       (figures a i on_a on_i))
 
   pub default_same : Same 1280 1408 l m → ((a c : ℕ) → Numbered (roster_of m).accounts a → Numbered (roster_of m).contracts c
       → Same (default_row a + c * 2) (default_row a + c * 2 + 2) l m)
-      → table_of (roster_of m).accounts (roster_of m).contracts none (default_at l) ≡ table_of (roster_of m).accounts
-      (roster_of m).contracts none (default_at m)
+      → table_of (roster_of m).accounts (roster_of m).contracts None (default_at l) ≡ table_of (roster_of m).accounts
+      (roster_of m).contracts None (default_at m)
   default_same sets figures =
       let sized = held.sized in
-      table_same (roster_of m).accounts (roster_of m).contracts none (default_at m) (default_at l)
+      table_same (roster_of m).accounts (roster_of m).contracts None (default_at m) (default_at l)
       (λ a c on_a on_c. same_own l m (default_set_row a + c) (default_row a + c * 2)
       (sets (default_set_row a + c) (omega arith) (omega arith))
       (figures a c on_a on_c))
 
   pub of_group_same : Same 1408 1472 l m → ((a g : ℕ) → Numbered (roster_of m).accounts a → Numbered (roster_of m).groups g
       → word_at l (group_row a + g) ≡ word_at m (group_row a + g))
-      → table_of (roster_of m).accounts (roster_of m).groups none (of_group_at l)
-      ≡ table_of (roster_of m).accounts (roster_of m).groups none
+      → table_of (roster_of m).accounts (roster_of m).groups None (of_group_at l)
+      ≡ table_of (roster_of m).accounts (roster_of m).groups None
       (of_group_at m)
   of_group_same sets figures =
       let sized = held.sized in
-      table_same (roster_of m).accounts (roster_of m).groups none (of_group_at m) (of_group_at l)
+      table_same (roster_of m).accounts (roster_of m).groups None (of_group_at m) (of_group_at l)
       (λ a g on_a on_g. same_of_group l m (group_set_row a + g) (group_row a + g) (sets (group_set_row a + g) (omega arith) (omega arith))
       (figures a g on_a on_g))
 
   -- the lines, from their three tables
-  pub lines_are : lines_of l ≡ (λ a. lines_by (table_of (roster_of m).accounts (roster_of m).instruments none (field_own l))
-      (table_of (roster_of m).accounts (roster_of m).contracts none (default_at l))
-      (table_of (roster_of m).accounts (roster_of m).groups none (of_group_at l)) a)
+  pub lines_are : lines_of l ≡ (λ a. lines_by (table_of (roster_of m).accounts (roster_of m).instruments None (field_own l))
+      (table_of (roster_of m).accounts (roster_of m).contracts None (default_at l))
+      (table_of (roster_of m).accounts (roster_of m).groups None (of_group_at l)) a)
   unfolding lines_of
   lines_are =
-      ap (λ r a. lines_by (table_of r.accounts r.instruments none (field_own l)) (table_of r.accounts r.contracts none (default_at l))
-      (table_of r.accounts r.groups none (of_group_at l)) a) roster
+      ap (λ r a. lines_by (table_of r.accounts r.instruments None (field_own l)) (table_of r.accounts r.contracts None (default_at l))
+      (table_of r.accounts r.groups None (of_group_at l)) a) roster
 
   pub account_blocks_same : Same 144 160 l m
       → row_of (roster_of m).accounts (λ a. flag l (account_block_word a))

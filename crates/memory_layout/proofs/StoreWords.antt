@@ -1,13 +1,14 @@
 -- What the stores of single fields change: one word, or a line's figures and the word that says that it is set.
 use Rattle.std.specs.Prelude.{◌+◌, ◌*◌, ◌^◌, ◌≤◌, ◌<◌, ◌≡◌, ◌≢◌, ◌∷◌}
 use Rattle.integers.specs.Basics.{ℕ, zero, suc, ◌∙◌, ap, Bool, true, false, cond, List, [], Option}
-use Rattle.integers.specs.Basics.{none, some, ℤ, length, get_or, arith}
+use Rattle.integers.specs.Basics.{None, Some, ℤ, length, get_or, arith}
 use Rattle.integers.specs.TwosComplement.{bits_of}
 use Rattle.words.specs.Words.{AreWords, word_at, put_word, put_signed, put_words}
 use Rattle.words.proofs.Memory.{word_put_same, word_put_other}
 use Rattle.words.proofs.HalfWords.{lower_halves, upper_halves, halves_below}
 use Rattle.words.proofs.Runs.{length_puts, word_puts_same, word_puts_other}
-use Rattle.limits.specs.Lines.{Line, GroupLine}
+use Rattle.limits.specs.declared.lines.Line.{Line}
+use Rattle.limits.specs.declared.lines.GroupLine.{GroupLine}
 use Rattle.limits.specs.InBytes.{line_at, group_line_at}
 use Rattle.memory_layout.specs.View.{flag}
 use Rattle.memory_layout.specs.FieldStores.{bit, line_words, group_line_words, store_line, store_group_line}
@@ -35,12 +36,12 @@ flag_bit m j false fits = rw (word_put_same m j 0 fits (omega arith))
 -- ---- a line
 -- its figures fit halves of words
 unfoldable pub SmallLine : Option Line → Type 0
-SmallLine none = Unit
-SmallLine (some l) = (l.tci < 2 ^ 32) × (l.tvi < 2 ^ 32) × (l.lci < 2 ^ 32) × (l.lvi < 2 ^ 32)
+SmallLine None = Unit
+SmallLine (Some l) = (l.tci < 2 ^ 32) × (l.tvi < 2 ^ 32) × (l.lci < 2 ^ 32) × (l.lvi < 2 ^ 32)
 
 unfoldable pub SmallGroupLine : Option GroupLine → Type 0
-SmallGroupLine none = Unit
-SmallGroupLine (some l) = (l.lcc < 2 ^ 32) × (l.lvc < 2 ^ 32)
+SmallGroupLine None = Unit
+SmallGroupLine (Some l) = (l.lcc < 2 ^ 32) × (l.lvc < 2 ^ 32)
 
 two_words : (a b : ℕ) → a < 2 ^ 64 → b < 2 ^ 64 → AreWords (a ∷ b ∷ [])
 two_words a b ha hb zero = ha
@@ -59,13 +60,13 @@ module _ (m : List ℕ) (s k : ℕ) where
       ∙ word_puts_other m k vs j (λ i h e. outside (omega arith) (omega arith))
 
   pub line_elsewhere : (x : Option Line) (j : ℕ) → j ≢ s → (k ≤ j → j < k + 2 → ⊥) → word_at (store_line m s k x) j ≡ word_at m j
-  line_elsewhere none j other outside = word_put_other m s 0 j other
-  line_elsewhere (some l) j other outside = elsewhere (line_words l) j other outside
+  line_elsewhere None j other outside = word_put_other m s 0 j other
+  line_elsewhere (Some l) j other outside = elsewhere (line_words l) j other outside
 
   pub group_line_elsewhere : (x : Option GroupLine) (j : ℕ) → j ≢ s → (k ≤ j → j < k + 1 → ⊥)
       → word_at (store_group_line m s k x) j ≡ word_at m j
-  group_line_elsewhere none j other outside = word_put_other m s 0 j other
-  group_line_elsewhere (some l) j other outside = elsewhere (group_line_words l) j other outside
+  group_line_elsewhere None j other outside = word_put_other m s 0 j other
+  group_line_elsewhere (Some l) j other outside = elsewhere (group_line_words l) j other outside
 
   -- what was stored is read back
   module _ (vs : List ℕ) (words : AreWords vs) (fits : s * 8 + 8 ≤ length m) (room : (k + length vs) * 8 ≤ length m)
@@ -83,11 +84,11 @@ module _ (m : List ℕ) (s k : ℕ) where
 
   -- the line is read back
   pub line_back : (x : Option Line) → SmallLine x → s * 8 + 8 ≤ length m → (k + 2) * 8 ≤ length m → (k ≤ s → s < k + 2 → ⊥)
-      → ◌≡◌ {A = Option Line} (cond (flag (store_line m s k x) s) (some (line_at (store_line m s k x) k)) none) x
+      → ◌≡◌ {A = Option Line} (cond (flag (store_line m s k x) s) (Some (line_at (store_line m s k x) k)) None) x
   unfolding SmallLine line_at
-  line_back none small fits room apart =
-      ap (λ t. cond t (some (line_at (put_word m s 0) k)) none) (flag_bit m s false fits)
-  line_back (some l) small fits room apart =
+  line_back None small fits room apart =
+      ap (λ t. cond t (Some (line_at (put_word m s 0) k)) None) (flag_bit m s false fits)
+  line_back (Some l) small fits room apart =
       let words : AreWords (line_words l) = two_words _ _ (halves_below l.tci l.tvi small.0 small.1)
       (halves_below l.lci l.lvi small.2 small.3) in
       rw (
@@ -101,11 +102,11 @@ module _ (m : List ℕ) (s k : ℕ) where
       )
 
   pub group_line_back : (x : Option GroupLine) → SmallGroupLine x → s * 8 + 8 ≤ length m → (k + 1) * 8 ≤ length m → (k ≤ s → s < k + 1 → ⊥)
-      → ◌≡◌ {A = Option GroupLine} (cond (flag (store_group_line m s k x) s) (some (group_line_at (store_group_line m s k x) k)) none) x
+      → ◌≡◌ {A = Option GroupLine} (cond (flag (store_group_line m s k x) s) (Some (group_line_at (store_group_line m s k x) k)) None) x
   unfolding SmallGroupLine group_line_at
-  group_line_back none small fits room apart =
-      ap (λ t. cond t (some (group_line_at (put_word m s 0) k)) none) (flag_bit m s false fits)
-  group_line_back (some l) small fits room apart =
+  group_line_back None small fits room apart =
+      ap (λ t. cond t (Some (group_line_at (put_word m s 0) k)) None) (flag_bit m s false fits)
+  group_line_back (Some l) small fits room apart =
       let words : AreWords (group_line_words l) = one_word _ (halves_below l.lcc l.lvc small.0 small.1) in
       rw (
         set_back (group_line_words l) words fits room apart,

@@ -1,6 +1,6 @@
 -- The stores of lines: each changes that line of the view as the book has it, and nothing else.
 use Rattle.std.specs.Prelude.{◌+◌, ◌*◌, ◌≤◌, ◌<◌, ◌≡◌, ◌≢◌}
-use Rattle.integers.specs.Basics.{ℕ, List, none, ℤ, arith}
+use Rattle.integers.specs.Basics.{ℕ, List, None, ℤ, arith}
 use Rattle.words.specs.Words.{word_at}
 use Rattle.ledger.specs.Roster.{Numbered}
 use Rattle.book.specs.declared.Figures.{Figures}
@@ -84,7 +84,7 @@ module _ (m : List ℕ) (held : InBounds m) (a i : ℕ) (f : Figures) (small : S
       let word = own_line.elsewhere in
       lines_view own m held (before own m held own_line) (after own m held own_line) a (Own i f)
       (lines_at m held a own (roster own m held own_line) _ _ _
-      (table_at (roster_of m).accounts (roster_of m).instruments none (field_own m) (field_own own) a i (line_of f) on_a on_i
+      (table_at (roster_of m).accounts (roster_of m).instruments None (field_own m) (field_own own) a i (line_of f) on_a on_i
       (line_back m (own_set_row a + i) (own_row a + i * 2) (line_of f) small (omega (arith, held.long)) (omega (arith, held.long))
       (λ b c. omega arith))
       (λ b k on_b on_k apart. same_own own m (own_set_row b + k) (own_row b + k * 2)
@@ -117,7 +117,7 @@ module _ (m : List ℕ) (held : InBounds m) (a c : ℕ) (f : Figures) (small : S
       lines_view default m held (before default m held default_line_lem) (after default m held default_line_lem) a (Default c f)
       (lines_at m held a default (roster default m held default_line_lem) _ _ _
       (own_kept default m held default_line_lem (omega arith) (omega arith))
-      (table_at (roster_of m).accounts (roster_of m).contracts none (default_at m) (default_at default) a c (line_of f) on_a on_c
+      (table_at (roster_of m).accounts (roster_of m).contracts None (default_at m) (default_at default) a c (line_of f) on_a on_c
       (line_back m (default_set_row a + c) (default_row a + c * 2) (line_of f) small (omega (arith, held.long)) (omega (arith, held.long))
       (λ b c. omega arith))
       (λ b k on_b on_k apart. same_own default m (default_set_row b + k) (default_row b + k * 2)
@@ -151,7 +151,7 @@ module _ (m : List ℕ) (held : InBounds m) (a g : ℕ) (x y : ℤ) (small : Sma
       (lines_at m held a of_group_lem (roster of_group_lem m held group_line_lem) _ _ _
       (own_kept of_group_lem m held group_line_lem (omega arith) (omega arith))
       (default_kept of_group_lem m held group_line_lem (λ b c. omega arith) (λ b c. omega arith))
-      (table_at (roster_of m).accounts (roster_of m).groups none (of_group_at m) (of_group_at of_group_lem) a g
+      (table_at (roster_of m).accounts (roster_of m).groups None (of_group_at m) (of_group_at of_group_lem) a g
       (group_line_of x y) on_a on_g
       (group_line_back m (group_set_row a + g) (group_row a + g) (group_line_of x y) small (omega (arith, held.long))
       (omega (arith, held.long)) (λ b c. omega arith))

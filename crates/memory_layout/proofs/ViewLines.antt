@@ -1,8 +1,9 @@
 -- Memories that differ in words of the lines only, and the view's lines where those of one account are changed.
 use Rattle.std.specs.Prelude.{◌≡◌}
-use Rattle.integers.specs.Basics.{ℕ, ◌∙◌, ap, fun_ext, cond, List, Option, none, arith}
+use Rattle.integers.specs.Basics.{ℕ, ◌∙◌, ap, fun_ext, cond, List, Option, None, arith}
 use Rattle.ledger.proofs.Ways.{by_number}
-use Rattle.limits.specs.Lines.{Line, GroupLine}
+use Rattle.limits.specs.declared.lines.Line.{Line}
+use Rattle.limits.specs.declared.lines.GroupLine.{GroupLine}
 use Rattle.book.specs.declared.LimitLine.{LimitLine}
 use Rattle.book.specs.declared.Setting.TheVariants.{Limit}
 use Rattle.book.specs.declared.Event.TheVariants.{Set}
@@ -43,13 +44,13 @@ unchanged a old new same =
 
 module _ (m : List ℕ) (held : InBounds m) (a : ℕ) where
   abbrev pub owns : List ℕ → ℕ → ℕ → Option Line
-  owns l = table_of (roster_of m).accounts (roster_of m).instruments none (field_own l)
+  owns l = table_of (roster_of m).accounts (roster_of m).instruments None (field_own l)
 
   abbrev pub defaults : List ℕ → ℕ → ℕ → Option Line
-  defaults l = table_of (roster_of m).accounts (roster_of m).contracts none (default_at l)
+  defaults l = table_of (roster_of m).accounts (roster_of m).contracts None (default_at l)
 
   abbrev pub of_groups : List ℕ → ℕ → ℕ → Option GroupLine
-  of_groups l = table_of (roster_of m).accounts (roster_of m).groups none (of_group_at l)
+  of_groups l = table_of (roster_of m).accounts (roster_of m).groups None (of_group_at l)
 
   pub lines_at : (l : List ℕ) → roster_of l ≡ roster_of m → (o d : ℕ → Option Line) (g : ℕ → Option GroupLine)
       → owns l ≡ at a o (owns m) → defaults l ≡ at a d (defaults m) → of_groups l ≡ at a g (of_groups m)

@@ -1,10 +1,9 @@
 -- Stored orders: the view's list is the book's, nothing else of the view changes, and the records can be worked on again. And an order
 -- found by its id, where the book finds it.
 use Rattle.std.specs.Prelude.{◌+◌, ◌≤◌, ◌<◌, ◌≡◌, ◌∷◌}
-use Rattle.integers.specs.Basics.{ℕ, zero, suc, ◌∙◌, sym, ap, List, [], some, eqb, length, set, arith}
+use Rattle.integers.specs.Basics.{ℕ, zero, suc, ◌∙◌, sym, ap, List, [], Some, eqb, length, set, arith}
 use Rattle.words.specs.Words.{word_at}
 use Rattle.ledger.specs.declared.order.Order.{Order}
-use Rattle.ledger.specs.declared.find.Found.TheVariants.{At}
 use Rattle.ledger.specs.Orders.{place_from}
 use Rattle.ledger.specs.Records.{order_at, orders_from}
 use Rattle.ledger.proofs.Search.{found_place}
@@ -54,17 +53,17 @@ module _ (m : List ℕ) (f : ℕ) (os : List Order) (held : InBounds m) (low : f
       (marks_same l m held roster_orders (elsewhere 128 144 (λ a b. omega arith) (omega arith)))
 
 -- ---- an order found by its id
-found_there : (s : List ℕ) (id n q p : ℕ) → place_from q id (orders_from s q n) ≡ At p → find id (orders_from s q n) ≡ some (order_at s p)
+found_there : (s : List ℕ) (id n q p : ℕ) → place_from q id (orders_from s q n) ≡ Some p → find id (orders_from s q n) ≡ Some (order_at s p)
 unfolding place_from orders_from find
 found_there s id zero q p e = let z : ◌≡◌ {A = ℕ} 0 1 = cc in absurd (omega arith)
 found_there s id (suc n) q p e =
     by_test (eqb (order_at s q).id id)
-    (λ t. let here : At q ≡ At p = rw t at e in let same : q ≡ p = cc in rw t (ap (λ r. some (order_at s r)) same))
+    (λ t. let here : Some q ≡ Some p = rw t at e in let same : q ≡ p = cc in rw t (ap (λ r. Some (order_at s r)) same))
     (λ t. rw t (found_there s id n (q + 1) p (rw t at e)))
 
 -- it is one of the open orders, the one that the book's search finds
-module _ (m : List ℕ) (id p : ℕ) (found : place_from 0 id (open_orders m) ≡ At p) where
-  pub found_order : find id (open_orders m) ≡ some (order_in m p)
+module _ (m : List ℕ) (id p : ℕ) (found : place_from 0 id (open_orders m) ≡ Some p) where
+  pub found_order : find id (open_orders m) ≡ Some (order_in m p)
   unfolding open_orders
   found_order = found_there (records_of m) id (word_at m count_word) 0 p found
 
@@ -77,7 +76,7 @@ module _ (m : List ℕ) (id p : ℕ) (found : place_from 0 id (open_orders m) �
   found_id = (found_place (records_of m) id (word_at m count_word) p found).1
 
 -- ---- the list is the book's: the order found
-module _ (m : List ℕ) (id p : ℕ) (found : place_from 0 id (open_orders m) ≡ At p) (f : Order → List Order) where
+module _ (m : List ℕ) (id p : ℕ) (found : place_from 0 id (open_orders m) ≡ Some p) (f : Order → List Order) where
   from_zero : 0 + p ≡ p
   from_zero = omega arith
 
@@ -85,10 +84,10 @@ module _ (m : List ℕ) (id p : ℕ) (found : place_from 0 id (open_orders m) �
   pub change_leaves : f (order_in m p) ≡ [] → change id f (open_orders m) ≡ without p (open_orders m)
   unfolding open_orders
   change_leaves gone =
-      leaving m id f (word_at m count_word) 0 p (found ∙ ap At (sym from_zero)) (ap (λ q. f (order_in m q)) from_zero ∙ gone)
+      leaving m id f (word_at m count_word) 0 p (found ∙ ap Some (sym from_zero)) (ap (λ q. f (order_in m q)) from_zero ∙ gone)
 
   -- REPLACE, and any other FILL
   pub change_becomes : (y : Order) → f (order_in m p) ≡ y ∷ [] → change id f (open_orders m) ≡ set (open_orders m) p y
   unfolding open_orders
   change_becomes y new =
-      becoming m id f y (word_at m count_word) 0 p (found ∙ ap At (sym from_zero)) (ap (λ q. f (order_in m q)) from_zero ∙ new)
+      becoming m id f y (word_at m count_word) 0 p (found ∙ ap Some (sym from_zero)) (ap (λ q. f (order_in m q)) from_zero ∙ new)

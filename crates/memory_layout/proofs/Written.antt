@@ -1,23 +1,27 @@
 -- Runs of stores: what is cleared, and what is written number by number.
-use Rattle.std.specs.Prelude.{◌+◌, ◌*◌, ◌≤◌, ◌<◌, ◌≡◌, ◌≢◌}
-use Rattle.integers.specs.Basics.{ℕ, zero, suc, refl, ◌∙◌, sym, ap, by_cases, List, length, get_or, ℕ_discrete}
-use Rattle.integers.specs.Basics.{arith}
-use native.Mathlib.Numerals.{add-one}
-use Rattle.words.specs.Bytes.{Bytes}
-use Rattle.words.specs.Words.{word_at, put_word}
+use Rattle.std.specs.Prelude.{◌+◌, ◌-◌, ◌*◌, ◌/◌, ◌%◌, ◌≤◌, ◌<◌, ◌≡◌, ◌≢◌, ◌++◌}
+use Rattle.std.proofs.Math.ListN.{replicate, get_or-append}
+use Rattle.std.proofs.lemmas.List.{length-append, length-replicate, length-take-le, length-drop, get_or-append_right, get_or-drop}
+use Rattle.std.proofs.lemmas.List.{get_or-replicate}
+use Rattle.std.proofs.lemmas.Grind.{same_number_lists}
+use Rattle.integers.specs.Basics.{ℕ, zero, suc, refl, ◌∙◌, sym, ap, by_cases, List, length, get_or, take, drop, ℕ_discrete, arith}
+use native.Mathlib.Decide.{dec_lt}
+use Rattle.words.specs.Bytes.{Bytes, number}
+use Rattle.words.specs.Words.{word_at}
 use Rattle.words.proofs.Memory.{length_put, bytes_put, byte_put_other, word_put_same, word_put_other}
 use Rattle.memory_layout.specs.Opening.{cleared, written}
 
 -- ---- cleared words
+-- the bytes of the number 0
+bytes_of_zero : (m : List ℕ) (n a j : ℕ) → number n m a ≡ 0 → j < n → get_or m (a + j) 0 ≡ 0
+unfolding number
+bytes_of_zero m zero a j e h = absurd (omega arith)
+bytes_of_zero m (suc n) a zero e h = let here : a + 0 ≡ a = omega arith in rw here (omega arith)
+bytes_of_zero m (suc n) a (suc j) e h =
+    let here : a + suc j ≡ a + 1 + j = omega arith in
+    rw here (bytes_of_zero m n (a + 1) j (omega arith) (omega arith))
+
 module _ (m : List ℕ) where
-  pub cleared_none : cleared m 0 ≡ m
-  unfolding cleared
-  cleared_none = refl
-
-  pub cleared_more : (k : ℕ) → put_word (cleared m k) k 0 ≡ cleared m (k + 1)
-  unfolding cleared
-  cleared_more k = rw add-one
-
   pub cleared_length : (n : ℕ) → length (cleared m n) ≡ length m
   unfolding cleared
   cleared_length zero = refl
@@ -42,15 +46,31 @@ module _ (m : List ℕ) where
       by_cases (ℕ_discrete k n) (λ same. rw same (word_put_same (cleared m n) n 0 (omega (arith, cleared_length n)) (omega arith)))
       (λ other. word_put_other (cleared m n) n 0 k other ∙ cleared_word n k (omega arith) (omega (arith, other)))
 
+  -- the n words cleared at once
+  cleared_zero : (n i : ℕ) → n * 8 ≤ length m → i < n * 8 → get_or (cleared m n) i 0 ≡ 0
+  unfolding word_at
+  cleared_zero n i fits h =
+      let e : i / 8 * 8 + i % 8 ≡ i = omega arith in
+      rw e at (bytes_of_zero (cleared m n) 8 (i / 8 * 8) (i % 8) (cleared_word n (i / 8) fits (omega arith)) (omega arith))
+
+  pub cleared_fill : (n : ℕ) (zeros : List ℕ) → n * 8 ≤ length m → zeros ≡ replicate (length (take (n * 8) m)) 0
+      → zeros ++ drop (n * 8) m ≡ cleared m n
+  cleared_fill n zeros fits e =
+      let size : length zeros ≡ n * 8 = ap length e ∙ length-replicate _ 0 ∙ length-take-le (n * 8) m fits in
+      same_number_lists _ _ (omega (arith, length-append zeros (drop (n * 8) m), length-drop (n * 8) m, size, cleared_length n))
+      (λ k _. by_cases (dec_lt k (n * 8))
+      (λ h. get_or-append zeros _ 0 k (omega (arith, size)) ∙ ap (λ l. get_or l k 0) e ∙ get_or-replicate _ k 0 0
+      (omega (arith, length-take-le (n * 8) m fits)) ∙ sym (cleared_zero n k fits h))
+      (λ h. let past : n * 8 ≤ k = omega (arith, h) in
+      let there : n * 8 + (k - n * 8) ≡ k = omega arith in
+      get_or-append_right zeros _ (n * 8) k 0 size past ∙ get_or-drop (n * 8) m (k - n * 8) 0 ∙ ap (λ i. get_or m i 0) there
+      ∙ sym (cleared_byte n k past)))
+
 -- ---- numbers 1 to n written, each by `put`
 module _ (put : List ℕ → ℕ → List ℕ) where
   pub written_none : (m : List ℕ) → written put m 0 ≡ m
   unfolding written
   written_none m = refl
-
-  pub written_more : (m : List ℕ) (k : ℕ) → put (written put m k) (k + 1) ≡ written put m (k + 1)
-  unfolding written
-  written_more m k = rw add-one
 
   pub written_length : ((l : List ℕ) (k : ℕ) → length (put l k) ≡ length l) → (m : List ℕ) (n : ℕ) → length (written put m n) ≡ length m
   unfolding written
@@ -90,26 +110,10 @@ written_same f g m (suc n) same =
     same (written f m n) (suc n) (omega arith) (omega arith)
     ∙ ap (λ l. g l (suc n)) (written_same f g m n (λ l k low high. same l k low (omega arith)))
 
--- ---- a loop that writes them, by what holds before turn i
-module _ (put : List ℕ → ℕ → List ℕ) where
-  pub record WrittenTo (first m : List ℕ) (n i : ℕ) : Type 0 where
-    pub within : i ≤ n
-    pub size : length m ≡ length first
-    pub so_far : m ≡ written put first i
-
-  pub written_start : (m : List ℕ) (n : ℕ) → WrittenTo m m n 0
-  written_start m n = record { within = omega arith; size = refl; so_far = sym (written_none put m) }
-
-  pub written_turn : {first m after : List ℕ} {n i : ℕ} → WrittenTo first m n i → i < n → after ≡ put m (i + 1) → length after ≡ length m
-      → WrittenTo first after n (i + 1)
-  written_turn {first} {i = i} was h stored kept =
-      record {
-        within = omega arith;
-        size = kept ∙ was.size;
-        so_far = stored ∙ ap (λ l. put l (i + 1)) was.so_far ∙ written_more put first i;
-      }
-
-  pub written_end : {first m : List ℕ} {n i : ℕ} → WrittenTo first m n i → n ≤ i → m ≡ written put first n
-  written_end {n = n} {i = i} was end =
-      let same : i ≡ n = omega arith in
-      rw same at was.so_far
+-- ---- a loop that writes them: before turn i those below i are written
+pub written_turn : (put : List ℕ → ℕ → List ℕ) (first : List ℕ) {m after : List ℕ} {i j : ℕ} → m ≡ written put first (i - 1) → 1 ≤ i
+    → after ≡ put m i → j ≡ i → after ≡ written put first j
+unfolding written
+written_turn put first {i = i} was low stored end =
+    let turn : i ≡ suc (i - 1) = omega arith in
+    rw (end, turn) (stored ∙ ap (λ l. put l i) was ∙ ap (put (written put first (i - 1))) turn)

@@ -1,8 +1,9 @@
 -- Single fields of a desk as they are stored: a balance, a mark, a block, a line.
 use Rattle.std.specs.Prelude.{◌+◌, ◌*◌, ◌∷◌}
-use Rattle.integers.specs.Basics.{ℕ, Bool, cond, List, [], Option, none, some, ℤ}
+use Rattle.integers.specs.Basics.{ℕ, Bool, cond, List, [], Option, None, Some, ℤ}
 use Rattle.words.specs.Words.{put_word, put_signed, halves, put_words}
-use Rattle.limits.specs.Lines.{Line, GroupLine}
+use Rattle.limits.specs.declared.lines.Line.{Line}
+use Rattle.limits.specs.declared.lines.GroupLine.{GroupLine}
 use Rattle.memory_layout.specs.Layout.{mark_word, account_block_word, instrument_block_word, group_block_row, balance_row, own_set_row}
 use Rattle.memory_layout.specs.Layout.{default_set_row, group_set_row, own_row, default_row, group_row}
 
@@ -40,12 +41,12 @@ group_line_words l = halves l.lcc l.lvc ∷ []
 
 -- the words from k on, and that the line is set in word s; a line that is not set keeps its words
 abbrev pub store_line : List ℕ → ℕ → ℕ → Option Line → List ℕ
-store_line m s k none = put_word m s 0
-store_line m s k (some l) = put_word (put_words m k (line_words l)) s 1
+store_line m s k None = put_word m s 0
+store_line m s k (Some l) = put_word (put_words m k (line_words l)) s 1
 
 abbrev pub store_group_line : List ℕ → ℕ → ℕ → Option GroupLine → List ℕ
-store_group_line m s k none = put_word m s 0
-store_group_line m s k (some l) = put_word (put_words m k (group_line_words l)) s 1
+store_group_line m s k None = put_word m s 0
+store_group_line m s k (Some l) = put_word (put_words m k (group_line_words l)) s 1
 
 -- the three kinds of line
 abbrev pub store_own : List ℕ → ℕ → ℕ → Option Line → List ℕ

@@ -1,7 +1,6 @@
 -- The table of questions asked of what a memory shows, and the order that an event names, as the judge hands it on.
 use Rattle.std.specs.Prelude.{◌≡◌}
-use Rattle.integers.specs.Basics.{ℕ, List}
-use Rattle.ledger.specs.declared.find.Found.TheVariants.{At}
+use Rattle.integers.specs.Basics.{ℕ, List, Some}
 use Rattle.ledger.specs.Orders.{place_from}
 use Rattle.ledger.specs.Records.{order_of}
 use Rattle.book.specs.declared.Event.{Event}
@@ -20,5 +19,5 @@ judged m e = answer (view m) e
 abbrev pub NamedAt : List ℕ → Event → ℕ → ℕ → Type 0
 NamedAt m (Set x) p w = Unit
 NamedAt m (New s a i id n) p w = (p ≡ rank id (open_orders m)) × (order_of id w ≡ new_order s a i id n)
-NamedAt m (Change id c) p w = (place_from 0 id (open_orders m) ≡ At p) × (order_of id w ≡ order_in m p)
+NamedAt m (Change id c) p w = (place_from 0 id (open_orders m) ≡ Some p) × (order_of id w ≡ order_in m p)
 NamedAt m Junk p w = Unit

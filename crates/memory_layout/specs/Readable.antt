@@ -1,7 +1,9 @@
 -- What the readers of a desk's fields need of the memory, and what the bytes of a line say.
 use Rattle.std.specs.Prelude.{◌≤◌, ◌≡◌}
-use Rattle.integers.specs.Basics.{ℕ, true, List, Option, some, length}
-use Rattle.limits.specs.Lines.{Line, GroupLine, is_set}
+use Rattle.integers.specs.Basics.{ℕ, true, List, Option, Some, length}
+use Rattle.limits.specs.declared.lines.Line.{Line}
+use Rattle.limits.specs.declared.lines.GroupLine.{GroupLine}
+use Rattle.limits.specs.Lines.{is_set}
 use Rattle.limits.specs.InBytes.{line_at, group_line_at}
 use Rattle.book.specs.declared.market.Market.{Market}
 use Rattle.memory_layout.specs.View.{market_of, roster_of}
@@ -20,10 +22,8 @@ MarketOf m market = market.largest ≡ (market_of m).largest
 
 -- the bytes hold the line, where it is set
 pub record HoldsLine (bytes : List ℕ) (l : Option Line) : Type 0 where
-  pub long : 16 ≤ length bytes
-  pub line : is_set l ≡ true → l ≡ some (line_at bytes 0)
+  pub line : is_set l ≡ true → l ≡ Some (line_at bytes 0)
 
 -- and a group's line
 pub record HoldsGroupLine (bytes : List ℕ) (l : Option GroupLine) : Type 0 where
-  pub long : 8 ≤ length bytes
-  pub line : is_set l ≡ true → l ≡ some (group_line_at bytes 0)
+  pub line : is_set l ≡ true → l ≡ Some (group_line_at bytes 0)

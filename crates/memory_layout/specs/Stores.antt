@@ -5,7 +5,6 @@ use Rattle.words.specs.Words.{word_at, put_word, put_words, part_of}
 use Rattle.ledger.specs.declared.order.Order.{Order}
 use Rattle.ledger.specs.Records.{detail, Storable, order_at, orders_from}
 use Rattle.book.specs.OpenOrders.{insert}
-use Rattle.book.specs.Sound.{Ascending}
 use Rattle.memory_layout.specs.Layout.{count_word, first_word, orders_word}
 use Rattle.memory_layout.specs.View.{first_of, records_of, open_orders}
 
@@ -68,10 +67,6 @@ pub record Records (m : List ℕ) : Type 0 where
   pub long : 65536 ≤ length m
   pub count : word_at m count_word ≤ 256
   pub first : first_of m ≤ 256
-
--- with ids that ascend too, so that an id has a place among them
-abbrev pub Ranked : List ℕ → Type 0
-Ranked m = Records m × Ascending 0 (open_orders m)
 
 -- the place of the first order with a larger id, else behind the last
 unfoldable pub rank : ℕ → List Order → ℕ

@@ -1,11 +1,13 @@
 -- What a memory means: the state that it holds, its market by the kind of desk.
 use Rattle.std.specs.Prelude.{◌+◌, ◌*◌, ◌&&◌}
-use Rattle.integers.specs.Basics.{ℕ, Bool, false, not, cond, List, none, some, ℤ, pos, eqb}
+use Rattle.integers.specs.Basics.{ℕ, Bool, false, not, cond, List, None, Some, ℤ, pos, eqb}
 use Rattle.words.specs.Words.{word_at, signed_at, part_of}
 use Rattle.ledger.specs.Roster.{Roster}
 use Rattle.ledger.specs.declared.order.Order.{Order}
 use Rattle.ledger.specs.Records.{roster_in, orders_from}
-use Rattle.limits.specs.Lines.{Line, GroupLine, Lines}
+use Rattle.limits.specs.declared.lines.Line.{Line}
+use Rattle.limits.specs.declared.lines.GroupLine.{GroupLine}
+use Rattle.limits.specs.Lines.{Lines}
 use Rattle.limits.specs.InBytes.{line_at, group_line_at}
 use Rattle.book.specs.Decoding.{between}
 use Rattle.book.specs.Books.{Blocks, Book}
@@ -66,12 +68,12 @@ lines_of m a =
     let r = roster_of m in
     record {
       own_of =
-          λ i. on_roster r.accounts r.instruments a i (cond (flag m (own_set_row a + i)) (some (own_figures m a i)) none) none;
+          λ i. on_roster r.accounts r.instruments a i (cond (flag m (own_set_row a + i)) (Some (own_figures m a i)) None) None;
       default_of =
-          λ c. on_roster r.accounts r.contracts a c (cond (flag m (default_set_row a + c)) (some (default_figures m a c)) none)
-          none;
+          λ c. on_roster r.accounts r.contracts a c (cond (flag m (default_set_row a + c)) (Some (default_figures m a c)) None)
+          None;
       line_of_group =
-          λ g. on_roster r.accounts r.groups a g (cond (flag m (group_set_row a + g)) (some (group_figures m a g)) none) none;
+          λ g. on_roster r.accounts r.groups a g (cond (flag m (group_set_row a + g)) (Some (group_figures m a g)) None) None;
     }
 
 -- the part with an account's balances

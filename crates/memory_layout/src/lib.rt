@@ -2,8 +2,11 @@
 // just begun. No crate above knows a place.
 #![tactic(auto)]
 
+pub mod account;
+pub mod memory;
 pub mod opening;
 pub mod orders;
+pub mod readable;
 pub mod readers;
 pub mod roster;
 pub mod search;

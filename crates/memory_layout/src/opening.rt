@@ -1,14 +1,13 @@
 // What an accepted opening writes: every word 0, then the kind of desk and the roster.
-ghost use Rattle.std.specs.Prelude.{◌≡◌, ◌+◌, ◌*◌, ◌≤◌, ◌<◌, length};
-ghost use Rattle.words.specs.Fields.{u8_at, i32_at};
+#![tactic(auto, unfolding(words::specs::Words::put_words, crate::specs::Opening::with_sizes))]
+
+ghost use Rattle.std.specs.Prelude.{◌≡◌, ◌≤◌, length};
 ghost use Rattle.memory_layout.specs.Layout.{memory_bytes, memory_words};
-ghost use Rattle.memory_layout.specs.Opening.{cleared, store_kind, bytes_written, with_sizes, groups_written, contracts_written};
-ghost use Rattle.memory_layout.specs.Opening.{weights_written};
+ghost use Rattle.memory_layout.specs.Opening.{cleared, store_kind, with_sizes, store_group_of, store_contract_of, store_weight_of};
 
 use crate::table::{
-    ACCOUNTS, CONTRACTS, CONTRACTS_OF, GROUPS, GROUPS_OF, INSTRUMENTS, KIND, MEMORY_WORDS, WEIGHTS,
+    ACCOUNTS, CONTRACTS, CONTRACTS_OF, GROUPS, GROUPS_OF, INSTRUMENTS, KIND, MEMORY_BYTES, WEIGHTS,
 };
-use words::fields::{i32_at, u8_at};
 use words::{set_signed_word, set_word};
 
 // Makes every word of a desk 0.
@@ -16,9 +15,7 @@ pub fn clear(m: &mut [u8])
     requires { memory_bytes ≤ length m.old }
     ensures { m.new ≡ cleared m.old memory_words }
 {
-    for k in 0..MEMORY_WORDS {
-        set_word(m, k, 0);
-    }
+    m[..MEMORY_BYTES].fill(0);
 }
 
 // The kind of desk becomes 1: derivatives.
@@ -40,42 +37,24 @@ pub fn put_sizes(m: &mut [u8], accounts: u64, groups: u64, contracts: u64, instr
     set_word(m, INSTRUMENTS, instruments);
 }
 
-// Writes the `n` bytes of `s` behind byte `a` to the words of `m` behind word `k`.
-fn put_bytes(m: &mut [u8], k: usize, s: &[u8], a: usize, n: usize)
-    requires { ((k + n) * 8 + 8 ≤ length m.old) × (a + n < length s.now) }
-    ensures { m.new ≡ bytes_written s.now k a m.old n }
+// Writes the group of a contract, the contract of an instrument, the weight of an instrument: a line each, by the table that it writes to.
+pub fn set_group_of(m: &mut [u8], contract: usize, group: u64)
+    requires { (memory_bytes ≤ length m.old) × (contract ≤ 8) }
+    ensures { m.new ≡ store_group_of m.old contract group }
 {
-    let mut i = 0;
-    while i < n {
-        i += 1;
-        set_word(m, k + i, u8_at(s, a + i) as u64);
-    }
+    set_word(m, GROUPS_OF + contract, group);
 }
 
-// Writes the groups of the first `n` contracts, that of contract `c` from byte `a + c` of `s`.
-pub fn put_groups(m: &mut [u8], s: &[u8], a: usize, n: usize)
-    requires { (memory_bytes ≤ length m.old) × (n ≤ 8) × (a + n < length s.now) }
-    ensures { m.new ≡ groups_written (λ c. u8_at s.now (a + c)) m.old n }
+pub fn set_contract_of(m: &mut [u8], instrument: usize, contract: u64)
+    requires { (memory_bytes ≤ length m.old) × (instrument ≤ 32) }
+    ensures { m.new ≡ store_contract_of m.old instrument contract }
 {
-    put_bytes(m, GROUPS_OF, s, a, n);
+    set_word(m, CONTRACTS_OF + instrument, contract);
 }
 
-// Writes the contracts of the first `n` instruments, that of instrument `i` from byte `a + i` of `s`.
-pub fn put_contracts(m: &mut [u8], s: &[u8], a: usize, n: usize)
-    requires { (memory_bytes ≤ length m.old) × (n ≤ 32) × (a + n < length s.now) }
-    ensures { m.new ≡ contracts_written (λ i. u8_at s.now (a + i)) m.old n }
+pub fn set_weight_of(m: &mut [u8], instrument: usize, weight: i64)
+    requires { (memory_bytes ≤ length m.old) × (instrument ≤ 32) }
+    ensures { m.new ≡ store_weight_of m.old instrument weight }
 {
-    put_bytes(m, CONTRACTS_OF, s, a, n);
-}
-
-// Writes the weights of the first `n` instruments, that of instrument `i` from byte `a + 4 * i` of `s`.
-pub fn put_weights(m: &mut [u8], s: &[u8], a: usize, n: usize)
-    requires { (memory_bytes ≤ length m.old) × (n ≤ 32) × (a + 4 * n + 4 ≤ length s.now) }
-    ensures { m.new ≡ weights_written (λ i. i32_at s.now (a + 4 * i)) m.old n }
-{
-    let mut i = 0;
-    while i < n {
-        i += 1;
-        set_signed_word(m, WEIGHTS + i, i32_at(s, a + 4 * i) as i64);
-    }
+    set_signed_word(m, WEIGHTS + instrument, weight);
 }

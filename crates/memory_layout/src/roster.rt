@@ -1,106 +1,94 @@
 // The roster in a desk's memory: the part that holds it, its sizes, who is on it, and what hangs on what.
-ghost use Rattle.std.specs.Prelude.{◌≡◌, ◌≤◌, length};
+#![tactic(auto, using(crate::proofs::RosterRead::roster_read), unfolding(crate::specs::View::roster_of, crate::specs::Rosters::listed))]
+
+ghost use Rattle.std.specs.Prelude.{◌≡◌};
 ghost use Rattle.ledger.specs.Roster.{Numbered};
 ghost use Rattle.book.specs.Decoding.{between};
-ghost use Rattle.memory_layout.specs.Layout.{memory_bytes};
+ghost use Rattle.book.specs.Table.{is_listed};
 ghost use Rattle.memory_layout.specs.View.{roster_part, roster_of};
-ghost use Rattle.memory_layout.specs.Readable.{Readable};
 
+use crate::memory::Memory;
+use crate::readable::ReadableDesk;
 use crate::table::ROSTER;
-use ledger::roster::{accounts_in, contract_in, contracts_in, group_in, groups_in, instruments_in};
+use book::Item;
+use ledger::roster::RosterBytes;
 use words::part;
-
-// The part with the roster, as `ledger` reads it.
-pub fn roster(m: &[u8]) -> &[u8]
-    requires { memory_bytes ≤ length m.now }
-    ensures { result.now ≡ roster_part m.now }
-{
-    part(m, ROSTER, 76)
-}
-
-// How many accounts the roster has.
-pub fn accounts(m: &[u8]) -> u64
-    requires { memory_bytes ≤ length m.now }
-    ensures { result ≡ (roster_of m.now).accounts }
-{
-    accounts_in(roster(m))
-}
-
-// How many groups.
-pub fn groups(m: &[u8]) -> u64
-    requires { memory_bytes ≤ length m.now }
-    ensures { result ≡ (roster_of m.now).groups }
-{
-    groups_in(roster(m))
-}
-
-// How many contracts.
-pub fn contracts(m: &[u8]) -> u64
-    requires { memory_bytes ≤ length m.now }
-    ensures { result ≡ (roster_of m.now).contracts }
-{
-    contracts_in(roster(m))
-}
-
-// How many instruments.
-pub fn instruments(m: &[u8]) -> u64
-    requires { memory_bytes ≤ length m.now }
-    ensures { result ≡ (roster_of m.now).instruments }
-{
-    instruments_in(roster(m))
-}
 
 // Is the number from `low` to `high`?
 pub fn between(low: u64, high: u64, n: u64) -> bool
     ensures { result ≡ between low high n }
 {
-    if n < low {
-        return false;
+    low <= n && n <= high
+}
+
+impl<'a> Memory<'a> {
+    // The part with the roster, as `ledger` reads it.
+    pub fn roster(&self) -> RosterBytes<'a>
+        ensures { result ≡ roster_part self.now }
+    {
+        RosterBytes {
+            bytes: part(self.bytes, ROSTER, 76),
+        }
     }
-    n <= high
+
+    // How many accounts, groups, contracts and instruments the roster has: `ledger`'s readers, of which each has a name.
+    pub fn accounts(&self) -> u64
+        ensures { result ≡ (roster_of self.now).accounts }
+    {
+        self.roster().accounts()
+    }
+
+    pub fn groups(&self) -> u64
+        ensures { result ≡ (roster_of self.now).groups }
+    {
+        self.roster().groups()
+    }
+
+    pub fn contracts(&self) -> u64
+        ensures { result ≡ (roster_of self.now).contracts }
+    {
+        self.roster().contracts()
+    }
+
+    pub fn instruments(&self) -> u64
+        ensures { result ≡ (roster_of self.now).instruments }
+    {
+        self.roster().instruments()
+    }
+
+    // Is the account on the roster?
+    pub fn account_known(&self, account: u64) -> bool
+        ensures { result ≡ between 1 (roster_of self.now).accounts account }
+    {
+        between(1, self.accounts(), account)
+    }
+
+    // Is the item?
+    pub fn item_known(&self, item: Item) -> bool
+        ensures { result ≡ is_listed (roster_of self.now) item }
+    {
+        match item {
+            Item::Instrument(instrument) => between(1, self.instruments(), instrument),
+            Item::Contract(contract) => between(1, self.contracts(), contract),
+            Item::Group(group) => between(1, self.groups(), group),
+        }
+    }
 }
 
-// Is the account on the roster?
-pub fn account_known(m: &[u8], account: u64) -> bool
-    requires { memory_bytes ≤ length m.now }
-    ensures { result ≡ between 1 (roster_of m.now).accounts account }
-{
-    between(1, accounts(m), account)
-}
+impl<'a> ReadableDesk<'a> {
+    // The contract of an instrument.
+    pub fn contract_of(&self, instrument: usize) -> usize
+        requires { Numbered (roster_of self.now).instruments instrument }
+        ensures { result ≡ (roster_of self.now).contract_of instrument }
+    {
+        self.memory.roster().contract_of(instrument) as usize
+    }
 
-pub fn group_known(m: &[u8], group: u64) -> bool
-    requires { memory_bytes ≤ length m.now }
-    ensures { result ≡ between 1 (roster_of m.now).groups group }
-{
-    between(1, groups(m), group)
-}
-
-pub fn contract_known(m: &[u8], contract: u64) -> bool
-    requires { memory_bytes ≤ length m.now }
-    ensures { result ≡ between 1 (roster_of m.now).contracts contract }
-{
-    between(1, contracts(m), contract)
-}
-
-pub fn instrument_known(m: &[u8], instrument: u64) -> bool
-    requires { memory_bytes ≤ length m.now }
-    ensures { result ≡ between 1 (roster_of m.now).instruments instrument }
-{
-    between(1, instruments(m), instrument)
-}
-
-// The contract of an instrument.
-pub fn contract_of(m: &[u8], instrument: usize) -> usize
-    requires { Readable m.now × Numbered (roster_of m.now).instruments instrument }
-    ensures { result ≡ (roster_of m.now).contract_of instrument }
-{
-    contract_in(roster(m), instrument) as usize
-}
-
-// The group of a contract.
-pub fn group_of(m: &[u8], contract: usize) -> usize
-    requires { Readable m.now × Numbered (roster_of m.now).contracts contract }
-    ensures { result ≡ (roster_of m.now).group_of contract }
-{
-    group_in(roster(m), contract) as usize
+    // The group of a contract.
+    pub fn group_of(&self, contract: usize) -> usize
+        requires { Numbered (roster_of self.now).contracts contract }
+        ensures { result ≡ (roster_of self.now).group_of contract }
+    {
+        self.memory.roster().group_of(contract) as usize
+    }
 }

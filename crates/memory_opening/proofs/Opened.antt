@@ -19,7 +19,7 @@ use Rattle.memory_layout.proofs.RosterLaws.{Sized, by_test}
 use Rattle.memory_layout.proofs.Every.{every_out}
 use Rattle.memory_layout.proofs.Begun.{bytes_begun, kind_begun, blank_begun, roster_begun, market_begun, view_begun, length_begun}
 use Rattle.memory_layout.proofs.Begun.{later_begun}
-use Rattle.memory_opening.specs.Questions.{roster_from, bytes_within, weights_within, opening_questions, opening_answer}
+use Rattle.memory_opening.specs.Questions.{roster_from, opening_questions, opening_answer}
 use Rattle.memory_opening.specs.Opening.{opened, after_opening}
 use Rattle.memory_opening.proofs.Tests.{Lengths, lengths_out, names_by, weights_by}
 
@@ -32,7 +32,7 @@ pub record Accepted (m s : List ℕ) : Type 0 where
   pub weights : (k : ℕ) → 1 ≤ k → k ≤ u16_at s 6 → nat_abs (i32_at s (4 + u16_at s 4 + u16_at s 6 + 4 * k)) ≤ 1000000
 
 pub accepted_out : (m s : List ℕ) → opening_answer m s ≡ 0 → Accepted m s
-unfolding opening_answer opening_questions long_enough bytes_within weights_within
+unfolding opening_answer opening_questions long_enough
 accepted_out m s e =
     let yes = passed (opening_questions m s) (zero_pass (opening_questions m s) (omega arith) e) in
     let names = both_true (every (u16_at s 4) (λ k. between 1 (u16_at s 2) (u8_at s (7 + k))))

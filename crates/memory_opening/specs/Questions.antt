@@ -1,12 +1,11 @@
 -- Document 01, "Roster": what its bytes say, and the questions of an opening, 1 to 4.
 use Rattle.std.specs.Prelude.{◌+◌, ◌*◌, ◌&&◌, ◌∷◌}
-use Rattle.integers.specs.Basics.{ℕ, Bool, List, [], nat_abs, leb, eqb, length}
+use Rattle.integers.specs.Basics.{ℕ, Bool, List, [], eqb, length}
 use Rattle.words.specs.Fields.{u8_at, u16_at, i32_at}
 use Rattle.ledger.specs.Roster.{Roster}
 use Rattle.limits.specs.Questions.{Question, first_no}
 use Rattle.book.specs.Table.{q}
-use Rattle.book.specs.Decoding.{between}
-use Rattle.memory_layout.specs.Rosters.{listed, every, sizes_fit, names_fit, weights_fit, long_enough}
+use Rattle.memory_layout.specs.Rosters.{listed, sizes_fit, names_fit, weights_fit, long_enough}
 
 -- sizes first, then one byte per contract, its group, then per instrument one byte, its contract, and a weight
 unfoldable pub roster_from : List ℕ → Roster
@@ -25,14 +24,6 @@ roster_length r = 8 + r.contracts + 5 * r.instruments
 -- 2: are the sizes within their limits and the length exact?
 unfoldable pub lengths_fit : List ℕ → Bool
 lengths_fit s = sizes_fit (roster_from s) && eqb (length s) (roster_length (roster_from s))
-
--- is each of the n bytes behind byte a from 1 to the most?
-unfoldable pub bytes_within : List ℕ → ℕ → ℕ → ℕ → Bool
-bytes_within s a n most = every n (λ k. between 1 most (u8_at s (a + k)))
-
--- is each of the n weights in range, of which number k stands at byte a + 4 k?
-unfoldable pub weights_within : List ℕ → ℕ → ℕ → Bool
-weights_within s a n = every n (λ k. leb (nat_abs (i32_at s (a + 4 * k))) 1000000)
 
 -- the questions of an opening, over any memory and any bytes
 unfoldable pub opening_questions : List ℕ → List ℕ → List Question

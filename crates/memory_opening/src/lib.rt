@@ -2,6 +2,7 @@
 #![tactic(auto)]
 
 pub mod questions;
+pub mod roster;
 pub mod writing;
 
 ghost use Rattle.std.specs.Prelude.{◌≡◌};
@@ -9,31 +10,31 @@ ghost use Rattle.limits.specs.Answers.{number_of};
 ghost use Rattle.memory_opening.specs.Questions.{opening_answer};
 ghost use Rattle.memory_opening.specs.Opening.{after_opening};
 
-use crate::questions::{lengths_fit, names_fit, weights_fit};
+use crate::questions::{names_fit, weights_fit};
+use crate::roster::SizedRoster;
 use crate::writing::put_roster;
-use limits::answer::Answer;
+use limits::answer::{Answer, Refusal};
+use memory_layout::memory::is_long_enough;
 use memory_layout::opening::{clear, set_kind};
-use memory_layout::readers::is_long_enough;
 
 // Opens a desk in `m` from the roster's bytes. A refusal leaves `m` as it was.
+#[tactic(auto, unfolding(crate::proofs::Answers::opening_parts))]
 pub fn open_desk(m: &mut [u8], roster: &[u8]) -> Answer
     ensures answer { number_of result ≡ opening_answer m.old roster.now }
     ensures memory { m.new ≡ after_opening m.old roster.now }
 {
     if !is_long_enough(m) {
-        return Answer::MemoryTooShort;
+        return Err(Refusal::MemoryTooShort);
     }
-    if !lengths_fit(roster) {
-        return Answer::WrongSizes;
+    let roster = SizedRoster::of(roster).ok_or(Refusal::WrongSizes)?;
+    if !names_fit(&roster) {
+        return Err(Refusal::UnknownName);
     }
-    if !names_fit(roster) {
-        return Answer::UnknownName;
-    }
-    if !weights_fit(roster) {
-        return Answer::WeightOutOfRange;
+    if !weights_fit(&roster) {
+        return Err(Refusal::WeightOutOfRange);
     }
     clear(m);
     set_kind(m);
-    put_roster(m, roster);
-    Answer::Accepted
+    put_roster(m, &roster);
+    Ok(())
 }

@@ -1,100 +1,55 @@
 // Questions 2 to 4 of an opening.
-ghost use Rattle.std.specs.Prelude.{◌≡◌, true, ◌+◌, ◌*◌, ◌≤◌, ◌<◌, leb, nat_abs, length};
+ghost use Rattle.std.specs.Prelude.{◌≡◌, leb, nat_abs};
 ghost use Rattle.book.specs.Decoding.{between};
 ghost use Rattle.memory_layout.specs.Rosters.{names_fit, weights_fit};
-ghost use Rattle.memory_opening.specs.Questions.{roster_from, lengths_fit, bytes_within, weights_within};
+ghost use Rattle.memory_opening.specs.Questions.{roster_from, lengths_fit};
 
-use words::fields::{i32_at, u8_at, u16_at};
+use crate::roster::SizedRoster;
+use words::fields::Field;
 
-// Is `n` from 1 to `most`?
+// Is `n` from 1 to `most`? This and the next are asked of a word in `memory_soundness`: of another width, by another definition.
 fn numbered(n: usize, most: usize) -> bool
     ensures { result ≡ between 1 most n }
 {
-    if n < 1 {
-        return false;
-    }
-    n <= most
+    (1..=most).contains(&n)
 }
 
 // Is a weight in range?
 fn weighs(w: i32) -> bool
     ensures { result ≡ leb (nat_abs w) 1000000 }
 {
-    if w < -1000000 {
-        return false;
-    }
-    w <= 1000000
+    (-1000000..=1000000).contains(&w)
 }
 
 // 2: are the sizes within their limits and the length exact?
+#[tactic(auto, unfolding(crate::proofs::Answers::lengths_parts))]
 pub fn lengths_fit(s: &[u8]) -> bool
     ensures { result ≡ lengths_fit s.now }
 {
-    if s.len() < 8 {
-        return false;
-    }
-    if !numbered(u16_at(s, 0) as usize, 16) {
-        return false;
-    }
-    if !numbered(u16_at(s, 2) as usize, 4) {
-        return false;
-    }
-    if !numbered(u16_at(s, 4) as usize, 8) {
-        return false;
-    }
-    if !numbered(u16_at(s, 6) as usize, 32) {
-        return false;
-    }
-    s.len() == 8 + u16_at(s, 4) as usize + 5 * (u16_at(s, 6) as usize)
-}
-
-// Is each of the `n` bytes of `s` behind byte `a` from 1 to `most`?
-fn bytes_within(s: &[u8], a: usize, n: usize, most: usize) -> bool
-    requires { a + n < length s.now }
-    ensures { result ≡ bytes_within s.now a n most }
-{
-    let mut k = 0;
-    while k < n {
-        k += 1;
-        if !numbered(u8_at(s, a + k) as usize, most) {
-            return false;
-        }
-    }
-    true
-}
-
-// Is each of the `n` weights in range, of which number `k` stands at byte `a + 4 * k`?
-fn weights_within(s: &[u8], a: usize, n: usize) -> bool
-    requires { a + 4 * n + 4 ≤ length s.now }
-    ensures { result ≡ weights_within s.now a n }
-{
-    let mut k = 0;
-    while k < n {
-        k += 1;
-        if !weighs(i32_at(s, a + 4 * k)) {
-            return false;
-        }
-    }
-    true
+    8 <= s.len()
+        && numbered(usize::from(u16::at(s, 0)), 16)
+        && numbered(usize::from(u16::at(s, 2)), 4)
+        && numbered(usize::from(u16::at(s, 4)), 8)
+        && numbered(usize::from(u16::at(s, 6)), 32)
+        && s.len() == 8 + usize::from(u16::at(s, 4)) + 5 * usize::from(u16::at(s, 6))
 }
 
 // 3: does every contract name a group of the roster, and every instrument a contract?
-pub fn names_fit(s: &[u8]) -> bool
-    requires { lengths_fit s.now ≡ true }
-    ensures { result ≡ names_fit (roster_from s.now) }
+pub fn names_fit(roster: &SizedRoster) -> bool
+    ensures { result ≡ names_fit (roster_from roster.now) }
 {
-    let contracts = u16_at(s, 4) as usize;
-    if !bytes_within(s, 7, contracts, u16_at(s, 2) as usize) {
-        return false;
-    }
-    bytes_within(s, 7 + contracts, u16_at(s, 6) as usize, contracts)
+    let groups = usize::from(roster.groups());
+    let contracts = usize::from(roster.contracts());
+    (1..=contracts).all(|c| numbered(usize::from(roster.group_of(c)), groups))
+        && (1..=usize::from(roster.instruments())).all(|i| numbered(
+            usize::from(roster.contract_of(i)),
+            contracts,
+        ))
 }
 
 // 4: is every weight in range?
-pub fn weights_fit(s: &[u8]) -> bool
-    requires { lengths_fit s.now ≡ true }
-    ensures { result ≡ weights_fit (roster_from s.now) }
+pub fn weights_fit(roster: &SizedRoster) -> bool
+    ensures { result ≡ weights_fit (roster_from roster.now) }
 {
-    let instruments = u16_at(s, 6) as usize;
-    weights_within(s, 4 + u16_at(s, 4) as usize + instruments, instruments)
+    (1..=usize::from(roster.instruments())).all(|i| weighs(roster.weight_of(i)))
 }

@@ -1,6 +1,6 @@
 -- What a memory that holds a sound desk gives to the functions over its parts: the records are there, and no number is too large.
-use Rattle.std.specs.Prelude.{◌*◌, ◌≤◌, ◌<◌}
-use Rattle.integers.specs.Basics.{ℕ, ap, List, neg_ℤ, nat_abs, length, arith, signed, magnitude_parts, negation_parts}
+use Rattle.std.specs.Prelude.{◌≤◌, ◌<◌}
+use Rattle.integers.specs.Basics.{ℕ, ap, List, neg_ℤ, nat_abs, arith, signed, magnitude_parts, negation_parts}
 use Rattle.integers.specs.Basics.{sum_parts}
 use Rattle.words.specs.Words.{word_at}
 use Rattle.ledger.specs.declared.order.Order.{Order}
@@ -18,12 +18,11 @@ use Rattle.memory_layout.proofs.MarketRead.{market_most}
 use Rattle.memory_layout.specs.Layout.{count_word}
 use Rattle.memory_layout.specs.View.{market_of, roster_part, roster_of, balances_part, balances_of, records_of, open_orders, book_of, trading_of}
 use Rattle.memory_layout.specs.Readable.{Readable}
-use Rattle.memory_layout.proofs.OrderRecords.{records_long}
 use Rattle.memory_layout.proofs.RosterRead.{roster_long, instruments_same, contract_same, weight_same}
 use Rattle.memory_layout.proofs.FieldsRead.{balances_long, balance_in}
 use Rattle.memory_soundness.specs.SoundMemory.{SoundMemory}
 use Rattle.memory_soundness.proofs.Records.{remaining_small}
-use Rattle.memory_soundness.proofs.SoundDesk.{all_fit, sound_count, sound_records}
+use Rattle.memory_soundness.proofs.SoundDesk.{all_fit, sound_count}
 
 module _ (m : List ℕ) (h : SoundMemory m) where
   pub sound_readable : Readable m
@@ -52,9 +51,6 @@ module _ (m : List ℕ) (h : SoundMemory m) where
       }
 
   -- ---- the open orders
-  pub records_there : word_at m count_word * 16 ≤ length (records_of m)
-  records_there = omega (arith, sound_count m h, records_long m (sound_records m h))
-
   pub order_small : (p : ℕ) → p < word_at m count_word → remaining (order_at (records_of m) p) ≤ 1000000
   order_small p l =
       remaining_small (roster_of m) (trading_of m) (order_at (records_of m) p) (all_fit m h p l)
@@ -104,20 +100,18 @@ module _ (m : List ℕ) (h : SoundMemory m) where
 
   module _ (a : ℕ) (on : Numbered (roster_of m).accounts a) where
     pub instrument_bounds : (i : ℕ) → Numbered (roster_of m).instruments i
-        → InstrumentBounds (records_of m) (word_at m count_word) (balances_part m a) a i
+        → InstrumentBounds (open_orders m) (balances_part m a) a i
     instrument_bounds i l =
         record {
-          orders_long = records_there;
           balances_long = omega (arith, balances_long m a on sound_readable, sound_readable.instruments);
-          small = λ s. omega (arith, open_small s a i, ap nat_abs (balance_in m a on sound_readable i l), balance_small a i);
+          small = λ s. omega (arith, unfilled_small s a i, ap nat_abs (balance_in m a on sound_readable i l), balance_small a i);
         }
 
-    pub gather_bounds : GatherBounds (records_of m) (word_at m count_word) a
+    pub gather_bounds : GatherBounds (open_orders m) a
     gather_bounds =
         record {
-          long = records_there;
           account = (on.0, omega (arith, on.1, sound_readable.accounts));
-          unfilled = λ s i. omega (arith, open_small s a i);
+          unfilled = λ s i. omega (arith, unfilled_small s a i);
         }
 
     balance_bounds : BalanceBounds (balances_part m a) (roster_in (roster_part m)).instruments
@@ -127,5 +121,5 @@ module _ (m : List ℕ) (h : SoundMemory m) where
           balance = λ i l. omega (arith, ap nat_abs (balance_in m a on sound_readable i (rw (instruments_same m) at l)), balance_small a i);
         }
 
-    pub group_bounds : GroupBounds (records_of m) (word_at m count_word) (balances_part m a) (roster_part m) a
+    pub group_bounds : GroupBounds (open_orders m) (balances_part m a) (roster_part m) a
     group_bounds = record { orders_small = gather_bounds; balances_small = balance_bounds; roster_small = roster_bounds }

@@ -1,14 +1,14 @@
 -- The cells in which B and V of all accounts are gathered, order by order.
 use Rattle.std.specs.Prelude.{◌+◌, ◌*◌, ◌^◌, ◌≤◌, ◌<◌, ◌≡◌, ◌≢◌}
-use Rattle.integers.specs.Basics.{ℕ, ◌∙◌, sym, List, length, get_or, replicate, inl, inr, arith}
+use Rattle.integers.specs.Basics.{ℕ, ◌∙◌, List, length, get_or, replicate, inl, inr, arith}
 use lib.ListN.{length-replicate}
 use Rattle.ledger.specs.declared.order.Order.{Order}
 use Rattle.ledger.specs.declared.order.Side.{Side}
 use Rattle.ledger.specs.Orders.{remaining}
 use Rattle.ledger.specs.Roster.{Numbered}
-use Rattle.ledger.specs.Records.{detail_packed, detail_remaining, order_of, id_at, detail_at, order_at, orders_from}
+use Rattle.ledger.specs.Records.{detail_packed, detail_remaining, order_of}
 use Rattle.ledger.proofs.Packing.{word_storable}
-use Rattle.ledger.proofs.Details.{remaining_of, order_of_lem}
+use Rattle.ledger.proofs.Details.{remaining_of, remaining_below}
 use Rattle.positions.specs.Gathered.{cell, added}
 use Rattle.positions.proofs.Gathering.{Rows, own_cell, adds_own, cell_inside, empty_at, added_length, added_small, Passed as PassedRows}
 use Rattle.positions.proofs.Gathering.{passed_none as rows_none, passed_all as rows_all, passed_more as rows_more}
@@ -31,34 +31,30 @@ pub kept_sums : {cells : List ℕ} {orders : List Order} → Sums cells orders �
 kept_sums (inl none) kept = absurd (kept none)
 kept_sums (inr sums) kept = sums
 
--- ---- the records below p: what is gathered and what is left make the whole
-pub record Summed (s : List ℕ) (n : ℕ) (cells : List ℕ) (p : ℕ) : Type 0 where
-  pub upto : p ≤ n
+-- ---- the orders below p: what is gathered and what is left make the whole
+pub record Summed (os : List Order) (cells : List ℕ) (p : ℕ) : Type 0 where
   pub size : length cells ≡ 1089
   pub small : (j : ℕ) → get_or cells j 0 ≤ p * 134217728
-  pub gathered : PassedRows (Numbered 16) row s n cells p
+  pub gathered : PassedRows (Numbered 16) row os cells p
 
-module _ (s : List ℕ) (n : ℕ) (cells : List ℕ) where
-  pub summed_none : Empty cells → Summed s n cells 0
+module _ (os : List Order) (cells : List ℕ) where
+  pub summed_none : Empty cells → Summed os cells 0
   summed_none e =
       record {
-        upto = omega arith;
         size = e.size;
         small = λ j. omega (arith, e.zero j);
-        gathered = rows_none (Numbered 16) row s n cells e.zero;
+        gathered = rows_none (Numbered 16) row os cells e.zero;
       }
 
-  module _ (p : ℕ) (past : Summed s n cells p) where
-    pub summed_all : n ≤ p → AllSums cells (orders_from s 0 n)
-    summed_all h = record { size = past.size; accounts = rows_all (Numbered 16) row s n cells p past.gathered h }
+  module _ (p : ℕ) (past : Summed os cells p) where
+    pub summed_all : length os ≤ p → AllSums cells os
+    summed_all h = record { size = past.size; accounts = rows_all (Numbered 16) row os cells p past.gathered h }
 
-    -- the next record, by its detail
-    pub summed_more : (w : ℕ) → p < n → w ≡ detail_at s p → w < 2 ^ 64 → (cells' : List ℕ) →
-        cells' ≡ added cells (65 + detail_packed w) (detail_remaining w) → Summed s n cells' (p + 1)
-    summed_more w h is_detail word cells' e =
-        let id = id_at s p in
+    -- the next order, by its id and its detail
+    pub summed_more : (id w : ℕ) → p < length os → get_or os p (order_of id w) ≡ order_of id w → w < 2 ^ 64 → (cells' : List ℕ) →
+        cells' ≡ added cells (65 + detail_packed w) (detail_remaining w) → Summed os cells' (p + 1)
+    summed_more id w h here word cells' e =
         let o = order_of id w in
-        let here : o ≡ order_at s p = rw is_detail (sym (order_of_lem s p)) in
         let fits = word_storable id w word in
         let account = fits.packable.0 in
         let instrument = fits.packable.1 in
@@ -67,7 +63,6 @@ module _ (s : List ℕ) (n : ℕ) (cells : List ℕ) where
         omega (arith, row_inside o.side o.account o.instrument account.1 instrument.1, past.size) in
         let few : detail_remaining w ≤ 134217728 = omega (arith, remaining_of id w, fits.remaining) in
         record {
-          upto = omega arith;
           size = rw (e, added_length) past.size;
           small =
               λ j. rw e (omega (
@@ -76,6 +71,8 @@ module _ (s : List ℕ) (n : ℕ) (cells : List ℕ) where
                     (omega (arith, own)) past.small few j,
               ));
           gathered =
-              rows_more (Numbered 16) row s n cells p past.gathered o here h (own_cell row o) (remaining o)
+              rows_more (Numbered 16) row os cells p past.gathered o here h (own_cell row o) (remaining o)
               (adds_own (Numbered 16) row rows o account instrument) inside cells' (e ∙ rw (own, remaining_of id w));
         }
+
+pub ruleset gathering = (summed_none, remaining_below)

@@ -1,20 +1,28 @@
 -- A number that has the bits of others is at least each of them.
-use Rattle.std.specs.Prelude.{◌+◌, ◌*◌, ◌^◌, ◌≤◌, ◌<◌, ◌-ℤ◌}
-use Rattle.integers.specs.Basics.{ℕ, by_cases, pos, nat_abs, ℕ_discrete, arith, signed, magnitude_parts}
+use Rattle.std.specs.Prelude.{◌*◌, ◌^◌, ◌≤◌, ◌<◌, ◌≡◌, ◌-ℤ◌, ◌∷◌}
+use Rattle.integers.specs.Basics.{ℕ, zero, suc, List, [], length, get_or, by_cases, pos, nat_abs, arith, signed, magnitude_parts}
 use Rattle.integers.specs.Basics.{difference_parts}
 use native.Mathlib.Decide.{dec_le}
 use lib.Bits.{bit_or}
+use Rattle.std.specs.List.{fold}
 use Rattle.integers.specs.TwosComplement.{signed_of, signed_small, signed_large}
 use Rattle.words.proofs.Bits.{or_left, or_right}
 use Rattle.ledger.specs.Roster.{Numbered}
 use Rattle.memory_soundness.specs.Cells.{offset_word}
 
--- one number more: r is at least f of the j numbers from k on, x at least f of the next
-pub bits_more : (f : ℕ → ℕ) (k j r x : ℕ) → ((p : ℕ) → k ≤ p → p < k + j → f p ≤ r) → f (k + j) ≤ x → (p : ℕ) → k ≤ p → p < k + (j + 1)
-    → f p ≤ bit_or r x
-bits_more f k j r x was here p h l =
-    by_cases (ℕ_discrete p (k + j)) (λ same. rw same (omega (arith, here, or_right r x)))
-    (λ apart. omega (arith, was p h (omega (arith, apart)), or_left r x))
+-- the bits of f of each element, begun with a
+abbrev pub joined : {A : Type 0} → (A → ℕ) → ℕ → List A → ℕ
+joined f = fold (λ all x. bit_or all (f x))
+
+module _ {A : Type 0} (f : A → ℕ) where
+  joined_more : (a : ℕ) (xs : List A) → a ≤ joined f a xs
+  joined_more a [] = omega arith
+  joined_more a (x ∷ xs) = omega (arith, joined_more (bit_or a (f x)) xs, or_left a (f x))
+
+  pub joined_each : (a r : ℕ) (xs : List A) (d : A) → r ≡ joined f a xs → (p : ℕ) → p < length xs → f (get_or xs p d) ≤ r
+  joined_each a r [] d e p h = absurd (omega arith)
+  joined_each a r (x ∷ xs) d e zero h = omega (arith, e, joined_more (bit_or a (f x)) xs, or_right a (f x))
+  joined_each a r (x ∷ xs) d e (suc p) h = joined_each (bit_or a (f x)) r xs d e p (omega arith)
 
 -- ---- a signed number of 64 bits that is small with the offset added
 pub offset_small : (half n : ℕ) → half ≤ 1000000000 → n < 2 ^ 64 → offset_word half n < half * 2 → nat_abs (signed_of 64 n) ≤ half

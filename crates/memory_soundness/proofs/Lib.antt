@@ -4,10 +4,11 @@ pub mod Asked
 pub mod RosterLaws
 pub mod Records
 pub mod Details
-mod Telling
 mod Passing
+mod EachRecord
 pub mod Gathering
 mod PositionTests
+mod Tables
 mod Whole
 pub mod Questions
 pub mod RosterFacts
@@ -18,3 +19,4 @@ pub mod PositionFacts
 pub mod SoundDesk
 pub mod Bounded
 pub mod Agreement
+mod RowChunks

@@ -1,21 +1,25 @@
 -- The lines' condition as facts, and back: the figures of every line on the roster are in range, and so those that are set.
-use Rattle.std.specs.Prelude.{◌+◌, ◌<◌, ◌≡◌, ◌&&◌}
-use Rattle.integers.specs.Basics.{ℕ, refl, Bool, true, false, cond, List, none, some, leb, arith, leb-true, le-leb}
+use Rattle.std.specs.Prelude.{◌+◌, ◌*◌, ◌/◌, ◌<◌, ◌≡◌, ◌↔◌, ◌&&◌, IsTrue}
+use Rattle.integers.specs.Basics.{ℕ, refl, ◌∙◌, ap, Bool, true, false, cond, List, None, Some, leb, length, arith, leb-true, le-leb}
+use Rattle.words.specs.Words.{lower, upper, part_of}
 use Rattle.ledger.specs.Roster.{Numbered}
-use Rattle.limits.specs.Lines.{Line, GroupLine}
-use Rattle.limits.specs.InBytes.{group_line_at}
+use Rattle.limits.specs.declared.lines.Line.{Line}
+use Rattle.limits.specs.declared.lines.GroupLine.{GroupLine}
+use Rattle.limits.specs.InBytes.{line_at, group_line_at}
 use Rattle.limits.proofs.Answers.{both_true}
 use Rattle.book.specs.Decoding.{between}
 use Rattle.book.specs.Sound.{LineFits, GroupLineFits, LinesFit}
 use Rattle.book.proofs.Tables.{between_numbered}
 use Rattle.memory_layout.specs.Layout.{own_set_row, default_set_row, group_set_row}
 use Rattle.memory_layout.specs.Rosters.{every}
-use Rattle.memory_layout.specs.View.{market_of, roster_of, flag, on_roster, own_figures, default_figures, group_figures, lines_row, lines_of}
+use Rattle.memory_layout.specs.View.{market_of, roster_of, flag, on_roster, own_figures, default_figures, group_figures, own_lines, default_lines, group_lines, lines_row, lines_of}
 use Rattle.memory_layout.specs.Readable.{Readable}
-use Rattle.memory_layout.proofs.LinesInRows.{own_fits, default_fits, group_fits}
+use Rattle.memory_layout.proofs.LinesInRows.{row_long, own_long, default_long, groups_long}
+use Rattle.memory_layout.proofs.LinesInRows.{own_fits, default_fits, group_fits, own_figures_lem, default_figures_lem, group_figures_lem}
 use Rattle.memory_soundness.specs.Soundness.{line_in_range, group_line_in_range, account_lines_sound, lines_sound}
 use Rattle.memory_soundness.specs.SoundMemory.{Figures}
-use Rattle.memory_layout.proofs.Every.{every_out, every_in}
+use Rattle.memory_soundness.proofs.Tables.{lines_told, table_told}
+use Rattle.memory_layout.proofs.Every.{every_out, every_in, every_same}
 
 -- ---- one line
 pub line_out : (largest : ℕ) (l : Line) → line_in_range largest l ≡ true → LineFits largest l
@@ -47,6 +51,42 @@ pub group_line_in : (largest : ℕ) (l : GroupLine) → GroupLineFits largest l 
 unfolding group_line_in_range
 group_line_in largest l f = rw (le-leb l.lcc largest f.lcc) (le-leb l.lvc largest f.lvc)
 
+-- a line is in range where both its words are
+pub line_of_words : (m : List ℕ) (k largest : ℕ) → line_in_range largest (line_at m k)
+    ≡ (group_line_in_range largest (group_line_at m k) && group_line_in_range largest (group_line_at m (k + 1)))
+unfolding line_in_range group_line_in_range line_at group_line_at
+line_of_words m k largest = grind arith
+
+-- ---- an account's lines, asked of the part from number 1 on of the rows that hold them: n is how many they are, and t the answer
+module _ (m : List ℕ) (readable : Readable m) (a : ℕ) (on : Numbered (roster_of m).accounts a) (largest : ℕ)
+    (most : largest ≡ (market_of m).largest) (t : Bool) (row : List ℕ) (n : ℕ) where
+  pub own_row : row ≡ part_of (own_lines m a) 2 (n * 2) → n ≡ (roster_of m).instruments
+      → IsTrue t ↔ ((p : ℕ) → p < length row / 16 → line_in_range largest (line_at row (p * 2)) ≡ true)
+      → t ≡ every (roster_of m).instruments (λ i. line_in_range (market_of m).largest (own_figures m a i))
+  own_row read size told =
+      let long = own_long m readable a on in
+      lines_told (own_lines m a) row n (omega (arith, long, size, readable.instruments)) read (line_in_range largest) t told
+      ∙ rw (size, most) (every_same _ _ _ (λ i h. ap (line_in_range _) (own_figures_lem m readable a on i h)))
+
+  pub default_row : row ≡ part_of (default_lines m a) 2 (n * 2) → n ≡ (roster_of m).contracts
+      → IsTrue t ↔ ((p : ℕ) → p < length row / 16 → line_in_range largest (line_at row (p * 2)) ≡ true)
+      → t ≡ every (roster_of m).contracts (λ i. line_in_range (market_of m).largest (default_figures m a i))
+  default_row read size told =
+      let long = default_long m readable a on in
+      lines_told (default_lines m a) row n (omega (arith, long, size, readable.contracts)) read (line_in_range largest) t told
+      ∙ rw (size, most) (every_same _ _ _ (λ i h. ap (line_in_range _) (default_figures_lem m readable a on i h)))
+
+  pub group_row : row ≡ part_of (group_lines m a) 1 n → n ≡ (roster_of m).groups
+      → IsTrue t ↔ ((p : ℕ) → p < length row / 8 → group_line_in_range largest (group_line_at row p) ≡ true)
+      → t ≡ every (roster_of m).groups (λ i. group_line_in_range (market_of m).largest (group_figures m a i))
+  unfolding group_line_at
+  group_row read size told =
+      let long = groups_long m readable a on in
+      let test = λ (w : ℕ). group_line_in_range largest (record { lcc = lower w; lvc = upper w }) in
+      table_told (group_lines m a) row n (omega (arith, long, size, readable.groups)) read test (λ w. test w ≡ true) (λ w e. e)
+      (λ w e. e) t told
+      ∙ rw (size, most) (every_same _ _ _ (λ i h. ap (group_line_in_range _) (group_figures_lem m readable a on i h)))
+
 -- ---- every word of an account's row in range at once
 pub row_within : (m : List ℕ) → Readable m → (a : ℕ) → Numbered (roster_of m).accounts a
     → ((j : ℕ) → j < 84 → GroupLineFits (market_of m).largest (group_line_at (lines_row m a) j)) → account_lines_sound m a ≡ true
@@ -61,6 +101,9 @@ row_within m readable a on fits =
     )
     (every_in (λ g. group_line_in_range (market_of m).largest (group_figures m a g)) r.groups
     (λ g h. group_line_in _ _ (group_fits m readable a on _ fits g h)))
+
+-- what the test of an account reads
+pub ruleset rows_read = (row_long, own_long, default_long, groups_long, row_within)
 
 -- ---- all lines of the roster
 module _ (m : List ℕ) where
@@ -106,12 +149,12 @@ module _ (m : List ℕ) where
 
   -- ---- those that are set
   set_on : {A : Type 0} (P : A → Type 0) (accounts numbers a n : ℕ) (t : Bool) (x l : A) → (Numbered accounts a → Numbered numbers n → P x)
-      → on_roster accounts numbers a n (cond t (some x) none) none ≡ some l → P l
+      → on_roster accounts numbers a n (cond t (Some x) None) None ≡ Some l → P l
   set_on {A} P accounts numbers a n t x l fits e =
       by (between 1 accounts a && between 1 numbers n) t (λ d. let h = both_true (between 1 accounts a) (between 1 numbers n) d in
       fits (between_numbered accounts a h.0) (between_numbered numbers n h.1)) e
     where
-      by : (u t : Bool) → (u ≡ true → P x) → cond u (cond t (some x) none) none ≡ some l → P l
+      by : (u t : Bool) → (u ≡ true → P x) → cond u (cond t (Some x) None) None ≡ Some l → P l
       by true true f e = let same : l ≡ x = cc in rw same (f refl)
       by true false f e = absurd (let z : ◌≡◌ {A = ℕ} 0 1 = cc in omega arith)
       by false t f e = absurd (let z : ◌≡◌ {A = ℕ} 0 1 = cc in omega arith)

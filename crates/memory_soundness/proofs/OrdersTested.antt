@@ -1,6 +1,7 @@
 -- The orders' conditions by what the passes over them tell.
 use Rattle.std.specs.Prelude.{◌≤◌, ◌<◌, ◌≡◌, ◌&&◌}
-use Rattle.integers.specs.Basics.{ℕ, ap, Bool, true, false, List, nat_abs, arith}
+use Rattle.integers.specs.Basics.{ℕ, ap, Bool, true, List, nat_abs, arith}
+use Rattle.std.specs.Bool.{Decides, one_answer}
 use Rattle.words.specs.Words.{word_at}
 use Rattle.ledger.specs.declared.order.Side.{Side}
 use Rattle.ledger.specs.Derivatives.{one}
@@ -13,15 +14,14 @@ use Rattle.memory_layout.specs.Layout.{count_word}
 use Rattle.memory_layout.specs.View.{roster_of, trading_of, records_of, open_orders}
 use Rattle.memory_soundness.specs.Soundness.{ascend, orders_sound}
 use Rattle.memory_soundness.specs.Cells.{AllSums, SmallSums}
-use Rattle.memory_soundness.specs.Each.{Tells, Each, Remains, TotalFits, Marked}
+use Rattle.memory_soundness.specs.Each.{Each, InOrder, TotalFits, Marked}
 use Rattle.memory_soundness.proofs.Records.{Fit, remaining_small}
 use Rattle.memory_soundness.proofs.OrderFacts.{records_out, records_in_lem}
-use Rattle.memory_soundness.proofs.Telling.{same_told, tells_no}
 
 module _ (m : List ℕ) where
   -- what the pass tells, that every total is in range, and that every order is marked
-  abbrev OrdersFit : Type 0
-  OrdersFit = ((ascend 0 (open_orders m) ≡ true) × Each m Remains) × Each m TotalFits × Each m (Marked m)
+  abbrev pub OrdersFit : Type 0
+  OrdersFit = InOrder m × Each m TotalFits × Each m (Marked m)
 
   out : (ascend 0 (open_orders m) && orders_sound m) ≡ true → OrdersFit
   unfolding orders_sound
@@ -48,23 +48,9 @@ module _ (m : List ℕ) where
         marked = k.marked;
       }))
 
-  told : Tells (ascend 0 (open_orders m) && orders_sound m) OrdersFit
-  told = record { yes_only = out; yes_where = into }
-
   -- what the answers of the passes make together
-  pub refused_order : ((ascend 0 (open_orders m) ≡ true) × Each m Remains → ⊥) → false ≡ (ascend 0 (open_orders m) && orders_sound m)
-  refused_order lacks = same_told false (ascend 0 (open_orders m) && orders_sound m) (tells_no (λ h. lacks h.0)) told
-
-  module _ (ordered : (ascend 0 (open_orders m) ≡ true) × Each m Remains) where
-    pub refused_total : (Each m TotalFits → ⊥) → false ≡ (ascend 0 (open_orders m) && orders_sound m)
-    refused_total lacks = same_told false (ascend 0 (open_orders m) && orders_sound m) (tells_no (λ h. lacks h.1)) told
-
-    module _ (totals : Each m TotalFits) where
-      pub last_told : (t : Bool) → Tells t (Each m (Marked m)) → t ≡ (ascend 0 (open_orders m) && orders_sound m)
-      last_told t marked =
-          same_told t (ascend 0 (open_orders m) && orders_sound m)
-          (record { yes_only = λ e. (ordered, totals, marked.yes_only e); yes_where = λ h. marked.yes_where h.2 })
-          told
+  pub orders_told : (t : Bool) → Decides t OrdersFit → t ≡ (ascend 0 (open_orders m) && orders_sound m)
+  orders_told t h = one_answer t (ascend 0 (open_orders m) && orders_sound m) h (out, into)
 
   -- B and V are small, and so are the cells that hold them
   pub orders_few : word_at m count_word ≤ 256 → orders_sound m ≡ true → (s : Side) (a i : ℕ) →

@@ -2,6 +2,7 @@
 use Rattle.std.specs.Prelude.{◌+◌, ◌≤◌, ◌≡◌, ◌&&◌, ◌+ℤ◌, ◌-ℤ◌}
 use Rattle.integers.specs.Basics.{ℕ, ap, true, List, ℤ, pos, neg_ℤ, nat_abs, le_z, get_or, arith, signed}
 use Rattle.integers.specs.Basics.{magnitude_parts, negation_parts, sum_parts, difference_parts}
+use Rattle.std.specs.Ordering.{int_cmp, is_le}
 use Rattle.ledger.specs.declared.order.Side.{Side}
 use Rattle.ledger.specs.declared.order.Side.TheVariants.{Buy, Sell}
 use Rattle.ledger.specs.Roster.{Numbered}
@@ -9,14 +10,17 @@ use Rattle.ledger.specs.Positions.{Way, long, short, toward, side_to, open_on, o
 use Rattle.ledger.specs.Derivatives.{one}
 use Rattle.positions.specs.Gathered.{cell}
 use Rattle.limits.proofs.Answers.{and_true}
+use Rattle.limits.proofs.Compared.{le_test}
 use Rattle.memory_layout.proofs.MarketRead.{market_unit}
 use Rattle.memory_layout.specs.Rosters.{every}
 use Rattle.memory_layout.specs.View.{market_of, roster_of, balances_of, open_orders}
-use Rattle.memory_soundness.specs.Soundness.{position_sound, instrument_sound}
+use Rattle.memory_soundness.specs.Soundness.{orders_sound, position_sound, instrument_sound, account_sound, positions_sound}
 use Rattle.memory_layout.specs.Readable.{Readable}
+use Rattle.memory_layout.specs.Stores.{Records}
 use Rattle.memory_layout.proofs.FieldsRead.{balance_in}
 use Rattle.memory_soundness.specs.Cells.{row, SmallBalances, SmallSums}
 use Rattle.memory_soundness.proofs.Asked.{same_test}
+use Rattle.memory_soundness.proofs.OrdersTested.{orders_few}
 use Rattle.memory_layout.proofs.Every.{every_in}
 
 -- ---- positions
@@ -78,20 +82,23 @@ module _ (m cells : List ℕ) (a i : ℕ) (readable : Readable m) (gathered : Sm
             (l.0, omega (arith, readable.instruments)),
       )
 
-  -- s is the balance, b and v what the two cells hold
-  pub instrument_tested : (s b v : ℤ) → s ≡ balances_of m a i → b ≡ pos (get_or cells (row a + cell Buy i) 0) →
-      v ≡ pos (get_or cells (row a + cell Sell i) 0) →
-      (le_z s (pos (market_of m).largest +ℤ neg_ℤ b) && le_z (v +ℤ neg_ℤ (pos (market_of m).largest)) s) ≡ instrument_sound m a i
+  -- s is the balance, b and v what the two cells hold, most the market's largest figure
+  pub instrument_tested : (s b v most : ℤ) → s ≡ balances_of m a i → b ≡ pos (get_or cells (row a + cell Buy i) 0) →
+      v ≡ pos (get_or cells (row a + cell Sell i) 0) → most ≡ pos (market_of m).largest →
+      (is_le (int_cmp s (most +ℤ neg_ℤ b)) && is_le (int_cmp (v +ℤ neg_ℤ most) s)) ≡ instrument_sound m a i
   unfolding instrument_sound
-  instrument_tested s b v read buys sells =
+  instrument_tested s b v most read buys sells figure =
       let x = get_or cells (row a + cell Buy i) 0 in
       let y = get_or cells (row a + cell Sell i) 0 in
       rw (
+        le_test s (most +ℤ neg_ℤ b),
+        le_test (v +ℤ neg_ℤ most) s,
         position_cell long,
         position_cell short,
         ← read,
         buys,
         sells,
+        figure,
         ← long_same (market_of m).largest s x,
         ← short_same
             (market_of m).largest s y,
@@ -101,3 +108,16 @@ module _ (m cells : List ℕ) (a i : ℕ) (readable : Readable m) (gathered : Sm
 pub cells_few : (m cells : List ℕ) (a : ℕ) → SmallSums cells (open_orders m) → Numbered 16 a → FewOpen m a
 cells_few m cells a gathered h s i l =
     omega (arith, ap nat_abs ((gathered.sums.accounts a h).sums s i l), gathered.small s a i h l)
+
+-- ---- where balances are small, positions are sound
+pub small_account : (m cells : List ℕ) (a : ℕ) → Readable m → SmallSums cells (open_orders m) → Numbered (roster_of m).accounts a →
+    SmallBalances m (market_of m).largest a → account_sound m a ≡ true
+unfolding account_sound
+small_account m cells a readable gathered on small =
+    row_small m a readable (cells_few m cells a gathered (on.0, omega (arith, on.1, readable.accounts))) on small
+
+pub small_positions : (m : List ℕ) → Readable m → Records m → orders_sound m ≡ true →
+    ((a : ℕ) → Numbered (roster_of m).accounts a → SmallBalances m (market_of m).largest a) → positions_sound m ≡ true
+unfolding positions_sound account_sound
+small_positions m readable held sound small =
+    every_in _ _ (λ a on. row_small m a readable (λ s i l. orders_few m held.count sound s a i) on (small a on))

@@ -4,7 +4,7 @@ use Rattle.integers.specs.Basics.{ℕ, true, List, ListMemᴰ, arith}
 use Rattle.words.specs.Words.{word_at}
 use Rattle.ledger.specs.declared.order.Order.{Order}
 use Rattle.ledger.specs.Records.{order_at}
-use Rattle.book.specs.Sound.{OrderFits, Sound}
+use Rattle.book.specs.Sound.{OrderFits, Sound, Ascending}
 use Rattle.memory_layout.specs.Layout.{count_word}
 use Rattle.memory_layout.specs.View.{roster_of, records_of, open_orders, book_of, trading_of, view}
 use Rattle.memory_layout.specs.Stores.{Records}
@@ -93,6 +93,10 @@ module _ (m : List ℕ) (h : SoundMemory m) where
 
   pub sound_records : Records m
   sound_records = record { long = h.long; count = sound_count; first = h.first }
+
+  pub sound_ids : Ascending 0 (open_orders m)
+  unfolding book_of
+  sound_ids = h.book.ids
 
   pub sound_in : sound_desk m ≡ true
   unfolding book_of

@@ -16,7 +16,8 @@ use Rattle.ledger.specs.Orders.{remaining}
 use Rattle.ledger.specs.Records.{order_at}
 use Rattle.ledger.specs.Roster.{Roster}
 use Rattle.ledger.specs.Positions.{Way, long, short, of_instrument}
-use Rattle.limits.specs.Lines.{Line, GroupLine}
+use Rattle.limits.specs.declared.lines.Line.{Line}
+use Rattle.limits.specs.declared.lines.GroupLine.{GroupLine}
 use Rattle.book.specs.Decoding.{between}
 use Rattle.memory_layout.specs.Layout.{kind_word, count_word}
 use Rattle.memory_layout.specs.Rosters.{every, sizes_fit, names_fit, weights_fit, long_enough}

@@ -1,108 +1,68 @@
 // The positions that a memory holds: S + B and −S + V of each account and instrument.
 ghost use Rattle.std.specs.Prelude.{◌≡◌, ℕ, true};
 ghost use Rattle.ledger.specs.Roster.{Numbered};
-ghost use Rattle.memory_layout.specs.View.{roster_of, open_orders};
-ghost use Rattle.memory_layout.specs.Readable.{MarketOf, Readable};
-ghost use Rattle.memory_layout.specs.Stores.{Records};
+ghost use Rattle.memory_layout.specs.View.{market_of, roster_of, open_orders};
 ghost use Rattle.memory_soundness.specs.Soundness.{orders_sound, instrument_sound, account_sound, positions_sound};
 ghost use Rattle.memory_soundness.specs.Cells.{SmallBalances, SmallSums};
 
 use crate::bits::all_small;
+use crate::held_desk::HeldDesk;
 use crate::sums::gather_sums;
-use book::market::Market;
 use ledger::units::Contracts;
-use memory_layout::readers::{balance, balances};
-use memory_layout::roster::{accounts, instruments};
+use memory_layout::account::DeskAccount;
+use words::part;
 
-// Of account `a` and instrument `i`. No sum with the balance, which may be any word, is computed.
-fn instrument_is_sound(m: &[u8], market: Market, cells: &[u64; 1089], a: usize, i: usize) -> bool
-    requires { Readable m.now
-        × SmallSums cells.now (open_orders m.now)
-        × Numbered (roster_of m.now).accounts a
-        × Numbered (roster_of m.now).instruments i
-        × MarketOf m.now market }
-    ensures { result ≡ instrument_sound m.now a i }
+// Of an account and instrument `i`. No sum with the balance, which may be any word, is computed.
+#[tactic(auto, using(memory_layout::proofs::MarketRead::market_most))]
+fn instrument_is_sound(account: &DeskAccount, cells: &[u64; 1089], i: usize) -> bool
+    requires { SmallSums cells.now (open_orders account.now.memory) × Numbered (roster_of account.now.memory).instruments i }
+    ensures { result ≡ instrument_sound account.now.memory account.now.number i }
 {
-    let s = Contracts(balance(m, a, i));
-    let b = Contracts::of(cells[a * 64 + i]);
-    let v = Contracts::of(cells[a * 64 + (32 + i)]);
-    let most = Contracts::of(market.largest);
-    if !s.at_most(most.less(b)) {
-        return false;
-    }
-    v.less(most).at_most(s)
+    let s = Contracts(account.balance(i));
+    let b = Contracts::of(cells[account.number * 64 + i]);
+    let v = Contracts::of(cells[account.number * 64 + (32 + i)]);
+    let most = Contracts::of(account.memory.market().largest);
+    s <= most - b && v - most <= s
 }
 
-// Do all balances of account `a` lie so far within the market's largest figure that no order can bring a position past it? B and V are at
+// Do all balances of an account lie so far within the market's largest figure that no order can bring a position past it? B and V are at
 // most 256,000,000. The whole row is looked at, on the roster or not: the compiler then knows its length.
-fn balances_are_small(m: &[u8], market: Market, a: usize) -> bool
-    requires { Readable m.now × Numbered (roster_of m.now).accounts a }
-    ensures { result ≡ true → SmallBalances m.now market.largest a }
+#[tactic(auto, using(memory_layout::proofs::FieldsRead::balances_long))]
+fn balances_are_small(account: &DeskAccount) -> bool
+    ensures { result ≡ true → SmallBalances account.now.memory (market_of account.now.memory).largest account.now.number }
 {
-    if market.largest < 1000000000 {
-        return false;
-    }
-    all_small(balances(m, a), 1, 32, 536870912)
+    1000000000 <= account.memory.market().largest
+        && all_small(
+            part(account.memory.balances(account.number), 1, 32),
+            536870912,
+        )
 }
 
-// Of account `a` and each instrument: all balances at once, and where that does not tell, one by one.
-fn account_is_sound(m: &[u8], market: Market, cells: &[u64; 1089], a: usize) -> bool
-    requires { Readable m.now
-        × SmallSums cells.now (open_orders m.now)
-        × Numbered (roster_of m.now).accounts a
-        × MarketOf m.now market }
-    ensures { result ≡ account_sound m.now a }
+// Of an account and each instrument: all balances at once, and where that does not tell, one by one.
+#[tactic(auto, using(crate::proofs::PositionTests::small_account))]
+fn account_is_sound(account: &DeskAccount, cells: &[u64; 1089]) -> bool
+    requires { SmallSums cells.now (open_orders account.now.memory) }
+    ensures { result ≡ account_sound account.now.memory account.now.number }
 {
-    if balances_are_small(m, market, a) {
-        return true;
-    }
-    let n = instruments(m) as usize;
-    for j in 0..n {
-        if !instrument_is_sound(m, market, cells, a, j + 1) {
-            return false;
-        }
-    }
-    true
+    let instruments = account.memory.instruments() as usize;
+    balances_are_small(account) || (1..=instruments).all(|i| instrument_is_sound(account, cells, i))
 }
 
 // Of each account and instrument, by B and V.
-fn positions_by_sums(m: &[u8], market: Market) -> bool
-    requires { Readable m.now × Records m.now × (orders_sound m.now ≡ true) × MarketOf m.now market }
-    ensures { result ≡ positions_sound m.now }
+fn positions_by_sums(desk: &HeldDesk) -> bool
+    requires { orders_sound desk.now ≡ true }
+    ensures { result ≡ positions_sound desk.now }
 {
     let mut cells = [0u64; 1089];
-    gather_sums(m, &mut cells);
-    let n = accounts(m) as usize;
-    for j in 0..n {
-        if !account_is_sound(m, market, &cells, j + 1) {
-            return false;
-        }
-    }
-    true
-}
-
-// Are the balances of all accounts so small?
-fn all_balances_are_small(m: &[u8], market: Market) -> bool
-    requires { Readable m.now }
-    ensures { result ≡ true → (a : ℕ) → Numbered (roster_of m.now).accounts a
-        → SmallBalances m.now market.largest a }
-{
-    let n = accounts(m) as usize;
-    for j in 0..n {
-        if !balances_are_small(m, market, j + 1) {
-            return false;
-        }
-    }
-    true
+    gather_sums(&desk.orders(), &mut cells);
+    (1..=desk.memory.accounts() as usize).all(|a| account_is_sound(&desk.account(a), &cells))
 }
 
 // Of each account and instrument. Where all balances are small, B and V are not gathered.
-pub fn positions_are_sound(m: &[u8], market: Market) -> bool
-    requires { Readable m.now × Records m.now × (orders_sound m.now ≡ true) × MarketOf m.now market }
-    ensures { result ≡ positions_sound m.now }
+pub fn positions_are_sound(desk: &HeldDesk) -> bool
+    requires { orders_sound desk.now ≡ true }
+    ensures { result ≡ positions_sound desk.now }
 {
-    if all_balances_are_small(m, market) {
-        return true;
-    }
-    positions_by_sums(m, market)
+    (1..=desk.memory.accounts() as usize).all(|a| balances_are_small(&desk.account(a)))
+        || positions_by_sums(desk)
 }

@@ -1,97 +1,81 @@
 // The lines that a memory holds: is every figure from 0 to the largest of the market, whether its line is set or not?
-ghost use Rattle.std.specs.Prelude.{◌≡◌, ◌+◌, ◌*◌, ◌≤◌, length};
+ghost use Rattle.std.specs.Prelude.{◌≡◌, ◌↔◌, ℕ, true, ◌+◌, ◌*◌, ◌/◌, ◌<◌, ◌≤◌, length, IsTrue};
 ghost use Rattle.limits.specs.InBytes.{line_at, group_line_at};
-ghost use Rattle.ledger.specs.Roster.{Numbered};
-ghost use Rattle.memory_layout.specs.Rosters.{every};
-ghost use Rattle.memory_layout.specs.View.{roster_of};
-ghost use Rattle.memory_layout.specs.Readable.{MarketOf, Readable};
 ghost use Rattle.memory_soundness.specs.Soundness.{line_in_range, group_line_in_range, account_lines_sound, lines_sound};
 
 use crate::bits::all_in_range;
-use book::market::Market;
-use memory_layout::readers::{default_lines, group_lines, lines_row, own_lines};
-use memory_layout::roster::{accounts, contracts, groups, instruments};
-use words::word;
+use memory_layout::account::DeskAccount;
+use memory_layout::readable::ReadableDesk;
+use words::{part, word};
 
 // Both figures of word `k`.
+#[tactic(auto, unfolding(crate::specs::Soundness::group_line_in_range, limits::specs::InBytes::group_line_at))]
 fn word_in_range(m: &[u8], k: usize, largest: u64) -> bool
     requires { (k + 1) * 8 ≤ length m.now }
     ensures { result ≡ group_line_in_range largest (group_line_at m.now k) }
 {
     let w = word(m, k);
-    if w % 4294967296 > largest {
-        return false;
-    }
-    w / 4294967296 <= largest
+    w % 4294967296 <= largest && w / 4294967296 <= largest
 }
 
-// The line in words `k` and `k + 1`.
-fn line_in_range(m: &[u8], k: usize, largest: u64) -> bool
-    requires { (k + 2) * 8 ≤ length m.now }
-    ensures { result ≡ line_in_range largest (line_at m.now k) }
+// The line in two words.
+#[tactic(auto, using(crate::proofs::LineFacts::line_of_words))]
+fn line_in_range(line: &[u8; 16], largest: u64) -> bool
+    ensures { result ≡ line_in_range largest (line_at line.now 0) }
 {
-    if !word_in_range(m, k, largest) {
-        return false;
-    }
-    word_in_range(m, k + 1, largest)
+    word_in_range(line, 0, largest) && word_in_range(line, 1, largest)
 }
 
-// Lines 1 to `n` of a row.
-fn row_in_range(row: &[u8], n: usize, largest: u64) -> bool
-    requires { (n * 2 + 2) * 8 ≤ length row.now }
-    ensures { result ≡ every n (λ j. line_in_range largest (line_at row.now (j * 2))) }
+// Each line of a row, two words each.
+fn row_in_range(row: &[u8], largest: u64) -> bool
+    ensures { IsTrue result ↔ ((p : ℕ) → p < length row.now / 16 → line_in_range largest (line_at row.now (p * 2)) ≡ true) }
 {
-    for j in 0..n {
-        let i = j + 1;
-        if !line_in_range(row, i * 2, largest) {
-            return false;
-        }
-    }
-    true
+    row.as_chunks::<16>()
+        .0
+        .iter()
+        .all(|line| line_in_range(line, largest))
 }
 
-// Group lines 1 to `n` of a row.
-fn group_row_in_range(row: &[u8], n: usize, largest: u64) -> bool
-    requires { (n + 1) * 8 ≤ length row.now }
-    ensures { result ≡ every n (λ j. group_line_in_range largest (group_line_at row.now j)) }
+// Each group line of a row, a word each.
+fn group_row_in_range(row: &[u8], largest: u64) -> bool
+    ensures { IsTrue result ↔ ((p : ℕ) → p < length row.now / 8 → group_line_in_range largest (group_line_at row.now p) ≡ true) }
 {
-    for j in 0..n {
-        if !word_in_range(row, j + 1, largest) {
-            return false;
-        }
-    }
-    true
+    row.as_chunks::<8>()
+        .0
+        .iter()
+        .all(|line| word_in_range(line, 0, largest))
 }
 
-// The lines of account `a`: all 168 figures of its row at once, on the roster or not, so that the compiler knows their number; and where
+// The lines of an account: all 168 figures of its row at once, on the roster or not, so that the compiler knows their number; and where
 // that does not tell, those on the roster one by one.
-fn account_lines_are_sound(m: &[u8], market: Market, a: usize) -> bool
-    requires { Readable m.now × Numbered (roster_of m.now).accounts a × MarketOf m.now market }
-    ensures { result ≡ account_lines_sound m.now a }
+#[tactic(auto, using(crate::proofs::LineFacts::rows_read))]
+fn account_lines_are_sound(account: &DeskAccount) -> bool
+    ensures { result ≡ account_lines_sound account.now.memory account.now.number }
 {
-    let largest = market.largest;
-    if all_in_range(lines_row(m, a), 84, largest) {
-        return true;
-    }
-    if !row_in_range(own_lines(m, a), instruments(m) as usize, largest) {
-        return false;
-    }
-    if !row_in_range(default_lines(m, a), contracts(m) as usize, largest) {
-        return false;
-    }
-    group_row_in_range(group_lines(m, a), groups(m) as usize, largest)
+    let largest = account.memory.market().largest;
+    let instruments = account.memory.instruments() as usize;
+    let contracts = account.memory.contracts() as usize;
+    let groups = account.memory.groups() as usize;
+    all_in_range(account.memory.lines_row(account.number), largest)
+        || row_in_range(
+            part(account.memory.own_lines(account.number), 2, instruments * 2),
+            largest,
+        ) && row_in_range(
+            part(
+                account.memory.default_lines(account.number),
+                2,
+                contracts * 2,
+            ),
+            largest,
+        ) && group_row_in_range(
+            part(account.memory.group_lines(account.number), 1, groups),
+            largest,
+        )
 }
 
 // All lines of the roster.
-pub fn lines_are_sound(m: &[u8], market: Market) -> bool
-    requires { Readable m.now × MarketOf m.now market }
-    ensures { result ≡ lines_sound m.now }
+pub fn lines_are_sound(desk: &ReadableDesk) -> bool
+    ensures { result ≡ lines_sound desk.now }
 {
-    let n = accounts(m) as usize;
-    for j in 0..n {
-        if !account_lines_are_sound(m, market, j + 1) {
-            return false;
-        }
-    }
-    true
+    (1..=desk.memory.accounts() as usize).all(|a| account_lines_are_sound(&desk.account(a)))
 }

@@ -5,8 +5,5 @@ ghost use Rattle.std.specs.Prelude.{◌≡◌, nat_le, unsigned_abs};
 pub fn is_weight(z: i64) -> bool
     ensures { result ≡ nat_le (unsigned_abs z) 1000000 }
 {
-    if z < -1000000 {
-        return false;
-    }
-    z <= 1000000
+    (-1000000..=1000000).contains(&z)
 }

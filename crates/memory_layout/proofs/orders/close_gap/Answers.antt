@@ -9,12 +9,12 @@ pub returns-then-first-lt256 : goal.returns-then-first-lt256
 returns-then-first-lt256 c =
     let r =
     leaves_before c.args.m.now (search rules) c.requires.0 c.args.p (omega (arith, c.requires.1, c.requires.2)) _
-    _ _ c.requires.1 c.first_of-first.ensures c.if-p-n.true (lt-ltb _ _ c.if-first-lt256.true) c.move_up.ensures in
+    _ _ c.requires.1 c.word-first.ensures c.if-p-n.true (lt-ltb _ _ c.if-first-lt256.true) c.move_up.ensures in
     record { first = r.0; left = r.1 }
 
 pub returns : goal.returns
 returns c =
     let r =
     leaves_behind c.args.m.now (search rules) c.requires.0 c.args.p (omega (arith, c.requires.1, c.requires.2)) _
-    _ _ c.requires.1 c.first_of-first.ensures (⊎_elim (λ w. inl (w.0, le-ltb _ _ w.1)) inr c.else-p-n.either) c.move_down.ensures in
+    _ _ c.requires.1 c.word-first.ensures (⊎_elim (λ w. inl (w.0, le-ltb _ _ w.1)) inr c.else-p-n.either) c.move_down.ensures in
     record { first = r.0; left = r.1 }

@@ -6,4 +6,4 @@ use Rattle.memory_layout.proofs.orders.replace_order.Goals as goal
 pub returns : goal.returns
 returns c =
     c.put_order.ensures
-    ∙ rw c.first_of.ensures (changed c.args.m.now (search rules) c.requires.0 _ c.requires.1 _)
+    ∙ rw c.word.ensures (changed c.args.m.now (search rules) c.requires.0 _ c.requires.1 _)

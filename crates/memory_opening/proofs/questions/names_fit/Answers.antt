@@ -1,30 +1,26 @@
--- Contracts' groups first, then instruments' contracts: the bytes tested are the roster's names (`names_first`, `names_second`).
-use Rattle.integers.specs.Basics.{◌∙◌, arith, rules}
-use Rattle.memory_opening.proofs.Tests.{lengths_out, lengths_long, names_first, names_second}
+-- The group of each contract is tested, and where all are of the roster, the contract of each instrument.
+use Rattle.std.specs.Prelude.{◌≡◌}
+use Rattle.std.proofs.Common.{rules, tests}
+use Rattle.book.specs.Decoding.{between}
+use Rattle.memory_layout.proofs.All.{every_of_all}
+use Rattle.memory_layout.specs.Rosters.{every, names_fit}
+use Rattle.memory_opening.specs.Questions.{roster_from}
 use Rattle.memory_opening.proofs.questions.names_fit.Goals as goal
 
-pub returns : goal.returns
-returns c =
-    c.bytes_within-2.ensures
-    ∙ names_second _ _ _ _ _ c.u16_at-contracts.ensures c.u16_at.ensures c.u16_at-2.ensures
-    c.bytes_within.ensures c.if-not-bytes_within.false
+pub returns-then-all : goal.returns-then-all
+unfolding names_fit
+returns-then-all c =
+    let r = roster_from c.args.roster.now in
+    let groups : c.all.result ≡ every r.contracts (λ k. between 1 r.groups (r.group_of k)) =
+    every_of_all _ _ c.all.ensures.ran (search rules) (λ x b q k. search (rules, tests)) in
+    let contracts : c.all-then-all.result ≡ every r.instruments (λ k. between 1 r.contracts (r.contract_of k)) =
+    every_of_all _ _ c.all-then-all.ensures.ran (search rules) (λ x b q k. search (rules, tests)) in
+    search (rules, groups, contracts)
 
-pub u16_at-contracts-requires : goal.u16_at-contracts-requires
-u16_at-contracts-requires c = omega (arith, lengths_long _ c.requires)
-
-pub u16_at-requires : goal.u16_at-requires
-u16_at-requires c = omega (arith, lengths_long _ c.requires)
-
-pub bytes_within-requires : goal.bytes_within-requires
-bytes_within-requires c = let sizes = lengths_out _ c.requires in omega arith
-
-pub returns-then-not-bytes_within : goal.returns-then-not-bytes_within
-returns-then-not-bytes_within c =
-    names_first _ _ _ _ c.u16_at-contracts.ensures c.u16_at.ensures
-    c.bytes_within.ensures c.if-not-bytes_within.true
-
-pub u16_at-requires-2 : goal.u16_at-requires-2
-u16_at-requires-2 c = omega (arith, lengths_long _ c.requires)
-
-pub bytes_within-requires-2 : goal.bytes_within-requires-2
-bytes_within-requires-2 c = let sizes = lengths_out _ c.requires in omega arith
+pub returns-else-all : goal.returns-else-all
+unfolding names_fit
+returns-else-all c =
+    let r = roster_from c.args.roster.now in
+    let groups : c.all.result ≡ every r.contracts (λ k. between 1 r.groups (r.group_of k)) =
+    every_of_all _ _ c.all.ensures.ran (search rules) (λ x b q k. search (rules, tests)) in
+    search (rules, groups)

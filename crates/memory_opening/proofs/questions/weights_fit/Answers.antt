@@ -1,16 +1,9 @@
--- The lengths fit, so the weights are inside; they are those of the roster that the bytes say.
-use Rattle.integers.specs.Basics.{◌∙◌, arith, rules}
-use Rattle.memory_opening.proofs.Tests.{lengths_out, lengths_long, weights_read}
+-- The weight of each instrument is tested.
+use Rattle.std.proofs.Common.{rules, tests}
+use Rattle.memory_layout.proofs.All.{every_of_all}
+use Rattle.memory_layout.specs.Rosters.{weights_fit}
 use Rattle.memory_opening.proofs.questions.weights_fit.Goals as goal
 
-pub u16_at-instruments-requires : goal.u16_at-instruments-requires
-u16_at-instruments-requires c = omega (arith, lengths_long _ c.requires)
-
-pub u16_at-requires : goal.u16_at-requires
-u16_at-requires c = omega (arith, lengths_long _ c.requires)
-
-pub weights_within-requires : goal.weights_within-requires
-weights_within-requires c = omega (arith, lengths_out _ c.requires)
-
 pub returns : goal.returns
-returns c = c.weights_within.ensures ∙ weights_read _ _ _ c.u16_at.ensures c.u16_at-instruments.ensures
+unfolding weights_fit
+returns c = every_of_all _ _ c.all.ensures.ran (search rules) (λ x b q k. search (rules, tests))

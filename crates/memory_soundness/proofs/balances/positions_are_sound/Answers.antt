@@ -1,13 +1,16 @@
--- Where all balances are small, each position is in range whatever the orders (`row_small`), B and V being small.
-use Rattle.integers.specs.Basics.{sym}
-use Rattle.memory_layout.proofs.Every.{every_in}
-use Rattle.memory_soundness.specs.Soundness.{account_sound, positions_sound}
-use Rattle.memory_soundness.proofs.OrdersTested.{orders_few}
-use Rattle.memory_soundness.proofs.PositionTests.{row_small}
+-- Where all balances are small, each position is in range whatever the orders.
+use Rattle.std.proofs.Common.{rules, tests}
+use Rattle.integers.specs.Basics.{◌∙◌, sym}
+use Rattle.memory_layout.specs.View.{market_of, roster_of}
+use Rattle.memory_layout.proofs.All.{each_of_all}
+use Rattle.memory_soundness.specs.Cells.{SmallBalances}
+use Rattle.memory_soundness.proofs.PositionTests.{small_positions}
 use Rattle.memory_soundness.proofs.balances.positions_are_sound.Goals as goal
 
-pub returns-then-all_balances_are_small : goal.returns-then-all_balances_are_small
-unfolding positions_sound account_sound
-returns-then-all_balances_are_small c =
-    sym (every_in _ _ (λ a on. row_small _ a c.requires.0 (λ v i l. orders_few _ c.requires.1.count c.requires.2 v a i) on
-    (rw c.requires.3 at (c.all_balances_are_small.ensures c.if-all_balances_are_small.true a on))))
+pub returns-then-all : goal.returns-then-all
+returns-then-all c =
+    let m = c.args.desk.now in
+    c.if-all.true
+    ∙ sym (small_positions m (search rules) (search rules) c.requires
+    (each_of_all (roster_of m).accounts (SmallBalances m (market_of m).largest) c.all.ensures.ran (search rules)
+    (λ x b q k. search (rules, tests)) c.if-all.true))

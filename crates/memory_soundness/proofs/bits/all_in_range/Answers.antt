@@ -12,9 +12,9 @@ returns c e j l =
     let first : j * 2 * 4 ≡ j * 8 = omega arith in
     let second : (j * 2 + 1) * 4 ≡ j * 8 + 4 = omega arith in
     let most = leb-true c.bits_of_all.result _ e in
-    let lower = rw first at (c.bits_of_all.ensures (j * 2) (omega arith) (omega arith)) in
-    let upper = rw second at (c.bits_of_all.ensures (j * 2 + 1) (omega arith) (omega arith)) in
+    let lower = rw first at (c.bits_of_all.ensures (j * 2) (omega arith)) in
+    let upper = rw second at (c.bits_of_all.ensures (j * 2 + 1) (omega arith)) in
     record {
-      lcc = rw (← lower_field c.args.m.now j (λ i. (c.shared_slice_known-1.given i).fits)) (omega arith);
-      lvc = rw (← upper_field c.args.m.now j (λ i. (c.shared_slice_known-1.given i).fits)) (omega arith);
+      lcc = rw (← lower_field c.args.row.now j (λ i. (c.type_inv.row i).fits)) (omega arith);
+      lvc = rw (← upper_field c.args.row.now j (λ i. (c.type_inv.row i).fits)) (omega arith);
     }

@@ -1,31 +1,19 @@
--- After j words each of them, with the offset added, is at most `all`: a number with the bits of others is at least each (`bits_more`).
-use Rattle.integers.specs.Basics.{arith}
-use Rattle.words.specs.Words.{word_at}
+-- Each word with the offset added is at most the fold with the bits of all (`joined_each`), and that in chunk p is word p of the row.
+use Rattle.std.specs.Prelude.{◌/◌}
+use Rattle.std.specs.Int.{w64, from_le_bytes}
+use Rattle.std.proofs.Common.{rules}
+use Rattle.std.proofs.lemmas.Iterator.{YieldsList-from_slice}
+use Rattle.std.proofs.lemmas.Iterator.Consumers.{fold_from_yields_List}
+use Rattle.integers.specs.Basics.{[], length, arith}
 use Rattle.memory_soundness.specs.Cells.{offset_word}
-use Rattle.memory_soundness.proofs.Joining.{bits_more}
+use Rattle.memory_soundness.proofs.Joining.{joined_each}
+use Rattle.memory_soundness.proofs.RowChunks.{word_in_chunk}
 use Rattle.memory_soundness.proofs.bits.bits_of_all_offset.Goals as goal
 
-pub loop-j-preserved : goal.loop-j-preserved
-loop-j-preserved c = (
-  omega arith,
-  bits_more (λ p. offset_word c.args.offset (word_at c.args.m.now p)) c.args.k c.loop-j.j c.loop-j.all _ c.loop-j.invariant.1
-      (omega (arith, c.word.ensures, c.wrapping_add_u64-all.ensures)),
-)
-
-pub loop-j-init : goal.loop-j-init
-loop-j-init c = (omega arith, λ p h l. absurd (omega arith))
-
-pub overflow_add-k : goal.overflow_add-k
-overflow_add-k c = omega arith
-
-pub word-requires : goal.word-requires
-word-requires c = omega arith
-
-pub overflow_step-j : goal.overflow_step-j
-overflow_step-j c = omega arith
-
-pub loop-j-smaller : goal.loop-j-smaller
-loop-j-smaller c = omega arith
-
 pub returns : goal.returns
-returns c = λ p h l. c.loop-j.invariant.1 p h (omega arith)
+returns c p inside =
+    let chunks = c.as_chunks.result.0.now in
+    rw (word_in_chunk (length c.args.row.now / 8) c.args.row.now chunks p inside c.as_chunks.ensures.front) at
+    (joined_each (λ x. offset_word c.args.offset (from_le_bytes w64 x)) 0 c.fold.result chunks []
+    (fold_from_yields_List _ _ _ _ c.fold.ensures.ran (YieldsList-from_slice chunks cc) (λ a x b q k. search rules)) p
+    (omega (arith, c.as_chunks.ensures.front_len)))

@@ -1,28 +1,18 @@
--- As `row_in_range`, word by word.
-use Rattle.integers.specs.Basics.{ap, not, arith}
-use Rattle.memory_layout.proofs.Every.{so_far_none, so_far_on, so_far_all, every_no}
+-- Word by word, the answer is that of `word_in_range`.
+use Rattle.std.specs.Prelude.{◌/◌, ◌≡◌}
+use Rattle.std.proofs.Common.{rules, tests}
+use Rattle.integers.specs.Basics.{true, length}
+use Rattle.limits.specs.InBytes.{group_line_at}
+use Rattle.memory_soundness.specs.Soundness.{group_line_in_range}
+use Rattle.memory_soundness.proofs.EachRecord.{decides_elements}
+use Rattle.memory_soundness.proofs.RowChunks.{group_line_in_chunk}
 use Rattle.memory_soundness.proofs.lines.group_row_in_range.Goals as goal
 
-pub loop-j-init : goal.loop-j-init
-loop-j-init c = so_far_none _ _
-
-pub overflow_add-j : goal.overflow_add-j
-overflow_add-j c = omega arith
-
-pub word_in_range-requires : goal.word_in_range-requires
-word_in_range-requires c = omega arith
-
-pub returns-then-not-word_in_range : goal.returns-then-not-word_in_range
-returns-then-not-word_in_range c = every_no _ _ _ _ (omega arith) c.word_in_range.ensures (ap not c.if-not-word_in_range.true)
-
-pub overflow_step-j : goal.overflow_step-j
-overflow_step-j c = omega arith
-
-pub loop-j-smaller : goal.loop-j-smaller
-loop-j-smaller c = omega arith
-
-pub loop-j-preserved : goal.loop-j-preserved
-loop-j-preserved c = so_far_on _ _ c.loop-j.invariant (omega arith) c.word_in_range.ensures (ap not c.if-not-word_in_range.false)
-
 pub returns : goal.returns
-returns c = so_far_all _ c.loop-j.invariant (omega arith)
+returns c =
+    let row = c.args.row.now in
+    let lines = c.as_chunks.result.0.now in
+    let n = length row / 8 in
+    decides_elements (λ l. group_line_in_range c.args.largest l ≡ true) (λ line. group_line_at line 0) (group_line_at row) n lines
+    c.as_chunks.ensures.front_len (λ p h. group_line_in_chunk n row lines p h c.as_chunks.ensures.front) c.all.ensures.ran (cc)
+    (λ x b q k. search (rules, tests))

@@ -1,6 +1,0 @@
--- The range ends with the number of accounts that was read.
-use Rattle.integers.specs.Basics.{◌∙◌, rules}
-use Rattle.memory_layout.proofs.roster.account_known.Goals as goal
-
-pub returns : goal.returns
-returns c = c.between.ensures ∙ rw c.accounts.ensures

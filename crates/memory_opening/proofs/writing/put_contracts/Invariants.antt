@@ -1,0 +1,8 @@
+-- Before turn i the contracts of the instruments before it are written.
+use Rattle.std.specs.Prelude.{◌+◌, ◌-◌, ◌≤◌, ◌≡◌}
+use Rattle.memory_layout.specs.Opening.{contracts_written}
+use Rattle.memory_opening.specs.Questions.{roster_from}
+use Rattle.memory_opening.proofs.writing.put_contracts.Given as goal
+
+abbrev pub invariant-loop-i : goal.invariant-loop-i
+invariant-loop-i l = (l.i ≤ l.i-end + 1) × (l.m ≡ contracts_written (roster_from l.roster).contract_of l.initial.m (l.i - 1))
