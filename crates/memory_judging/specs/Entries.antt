@@ -1,6 +1,6 @@
 -- An order as a NEW enters it, or as a REPLACE makes it of an open one.
 use Rattle.std.specs.Prelude.{◌≤◌, ◌<◌, ◌≡◌}
-use Rattle.integers.specs.Basics.{ℕ, true, List, some, pos}
+use Rattle.integers.specs.Basics.{ℕ, true, List, Some, pos}
 use Rattle.ledger.specs.declared.order.Order.{Order}
 use Rattle.ledger.specs.Orders.{replaced_total}
 use Rattle.book.specs.declared.OrderChange.{OrderChange}
@@ -37,7 +37,7 @@ pub record Fresh (m : List ℕ) (o : Order) (p : ℕ) : Type 0 where
 -- a change of order o, which is open at a sound desk, with its figure in range
 pub record Changeable (m : List ℕ) (o : Order) (c : OrderChange) : Type 0 where
   pub held : SoundMemory m
-  pub found : find o.id (open_orders m) ≡ some o
+  pub found : find o.id (open_orders m) ≡ Some o
   pub figures : change_in_range c ≡ true
 
 -- an open order with its new total, which is above what is filled; n is the former one

@@ -4,46 +4,34 @@ ghost use Rattle.book.specs.Decoding.{between};
 ghost use Rattle.book.specs.Settings.{limited_item, blocked_account, blocked_item};
 ghost use Rattle.book.specs.Table.{where_some, is_listed};
 ghost use Rattle.memory_layout.specs.View.{roster_of};
-ghost use Rattle.memory_soundness.specs.SoundMemory.{SoundMemory};
 
 use book::{Blocked, LimitLine};
-use memory_layout::roster::{account_known, contract_known, group_known, instrument_known};
+use memory_layout::memory::Memory;
 
 // The item of a LIMIT.
-pub fn line_known(m: &[u8], line: LimitLine) -> bool
-    requires { SoundMemory m.now }
+pub fn line_known(m: &Memory, line: LimitLine) -> bool
     ensures { result ≡ is_listed (roster_of m.now) (limited_item line) }
 {
-    match line {
-        LimitLine::Own {
-            instrument,
-            figures,
-        } => instrument_known(m, instrument),
-        LimitLine::Default { contract, figures } => contract_known(m, contract),
-        LimitLine::OfGroup { group, lcc, lvc } => group_known(m, group),
-    }
+    m.item_known(line.item())
 }
 
-// The account of a BLOCK, where it names one.
-pub fn blocked_account_known(m: &[u8], what: Blocked) -> bool
-    requires { SoundMemory m.now }
+// The account of a BLOCK, where it names one. It stands beside the item's test below, alike but for the field: a number here and an `Item`
+// there, each asked of another method of the memory. (`is_none_or` was tried: the goal `returns` stays open, for a number and for an item.)
+pub fn blocked_account_known(m: &Memory, what: Blocked) -> bool
     ensures { result ≡ where_some (between 1 (roster_of m.now).accounts) (blocked_account what) }
 {
-    match what {
-        Blocked::Account { account } => account_known(m, account),
-        Blocked::Instrument { instrument } => true,
-        Blocked::GroupFor { account, group } => account_known(m, account),
+    match what.account() {
+        Some(account) => m.account_known(account),
+        None => true,
     }
 }
 
-// The item of a BLOCK, where it names one.
-pub fn blocked_item_known(m: &[u8], what: Blocked) -> bool
-    requires { SoundMemory m.now }
+// The item of a BLOCK, where it names one. (As above.)
+pub fn blocked_item_known(m: &Memory, what: Blocked) -> bool
     ensures { result ≡ where_some (is_listed (roster_of m.now)) (blocked_item what) }
 {
-    match what {
-        Blocked::Account { account } => true,
-        Blocked::Instrument { instrument } => instrument_known(m, instrument),
-        Blocked::GroupFor { account, group } => group_known(m, group),
+    match what.item() {
+        Some(item) => m.item_known(item),
+        None => true,
     }
 }

@@ -1,86 +1,82 @@
-// The judge of settings: LIMIT, BALANCE and BLOCK.
+// The judge of settings: LIMIT, BALANCE and BLOCK. Each asks 7 to 9 in the same order, of fields that the other two have not: one function
+// of all three would take what each names and its range as options, and no test would be less.
 ghost use Rattle.std.specs.Prelude.{◌≡◌};
 ghost use Rattle.book.specs.declared.Setting.TheVariants.{Limit, Balance, Block};
 ghost use Rattle.book.specs.declared.Event.TheVariants.{Set};
 ghost use Rattle.limits.specs.Answers.{number_of};
 ghost use Rattle.memory_layout.specs.Judged.{judged};
-ghost use Rattle.memory_soundness.specs.SoundMemory.{SoundMemory};
 
 use crate::known::{blocked_account_known, blocked_item_known, line_known};
-use crate::ranges::{in_range, is_balance, limit_fits};
-use book::{Blocked, LimitLine, Setting};
-use limits::answer::Answer;
-use memory_layout::readers::{is_trading, market};
-use memory_layout::roster::{account_known, instrument_known};
+use crate::ranges::{is_balance, is_switch, limit_fits};
+use book::{Blocked, Item, LimitLine, Setting};
+use limits::answer::{Answer, Refusal};
+use memory_soundness::sound_desk::SoundDesk;
 
 // LIMIT: questions 7 to 9.
-pub fn judge_limit(m: &[u8], account: u64, line: LimitLine) -> Answer
-    requires { SoundMemory m.now }
-    ensures { number_of result ≡ judged m.now (Set (Limit account line)) }
+#[tactic(auto, using(crate::proofs::ByKind::limit_judged))]
+pub fn judge_limit(desk: &SoundDesk, account: u64, line: LimitLine) -> Answer
+    ensures { number_of result ≡ judged desk.now (Set (Limit account line)) }
 {
-    if !account_known(m, account) {
-        return Answer::UnknownAccount;
+    if !desk.memory.account_known(account) {
+        return Err(Refusal::UnknownAccount);
     }
-    if !line_known(m, line) {
-        return Answer::UnknownItem;
+    if !line_known(&desk.memory, line) {
+        return Err(Refusal::UnknownItem);
     }
-    let market = market(m);
-    if !limit_fits(market.largest, line) {
-        return Answer::FigureOutOfRange;
+    if !limit_fits(desk.memory.market().largest, line) {
+        return Err(Refusal::FigureOutOfRange);
     }
-    Answer::Accepted
+    Ok(())
 }
 
 // BALANCE: questions 7 to 10.
-pub fn judge_balance(m: &[u8], account: u64, instrument: u64, balance: i64) -> Answer
-    requires { SoundMemory m.now }
-    ensures { number_of result ≡ judged m.now (Set (Balance account instrument balance)) }
+#[tactic(auto, using(crate::proofs::ByKind::balance_judged))]
+pub fn judge_balance(desk: &SoundDesk, account: u64, instrument: u64, balance: i64) -> Answer
+    ensures { number_of result ≡ judged desk.now (Set (Balance account instrument balance)) }
 {
-    if !account_known(m, account) {
-        return Answer::UnknownAccount;
+    if !desk.memory.account_known(account) {
+        return Err(Refusal::UnknownAccount);
     }
-    if !instrument_known(m, instrument) {
-        return Answer::UnknownItem;
+    if !desk.memory.item_known(Item::Instrument(instrument)) {
+        return Err(Refusal::UnknownItem);
     }
-    let market = market(m);
-    if !is_balance(market.largest, balance) {
-        return Answer::FigureOutOfRange;
+    if !is_balance(desk.memory.market().largest, balance) {
+        return Err(Refusal::FigureOutOfRange);
     }
-    if is_trading(m, account as usize) {
-        return Answer::AlreadyTrading;
+    if desk.account(account as usize).is_trading() {
+        return Err(Refusal::AlreadyTrading);
     }
-    Answer::Accepted
+    Ok(())
 }
 
 // BLOCK: questions 7 to 9.
-pub fn judge_block(m: &[u8], what: Blocked, on: i64) -> Answer
-    requires { SoundMemory m.now }
-    ensures { number_of result ≡ judged m.now (Set (Block what on)) }
+#[tactic(auto, using(crate::proofs::ByKind::block_judged))]
+pub fn judge_block(desk: &SoundDesk, what: Blocked, on: i64) -> Answer
+    ensures { number_of result ≡ judged desk.now (Set (Block what on)) }
 {
-    if !blocked_account_known(m, what) {
-        return Answer::UnknownAccount;
+    if !blocked_account_known(&desk.memory, what) {
+        return Err(Refusal::UnknownAccount);
     }
-    if !blocked_item_known(m, what) {
-        return Answer::UnknownItem;
+    if !blocked_item_known(&desk.memory, what) {
+        return Err(Refusal::UnknownItem);
     }
-    if !in_range(0, 1, on) {
-        return Answer::FigureOutOfRange;
+    if !is_switch(on) {
+        return Err(Refusal::FigureOutOfRange);
     }
-    Answer::Accepted
+    Ok(())
 }
 
 // The answer to any setting.
-pub fn judge_setting(m: &[u8], setting: Setting) -> Answer
-    requires { SoundMemory m.now }
-    ensures { number_of result ≡ judged m.now (Set setting) }
+pub fn judge_setting(desk: &SoundDesk, setting: Setting) -> Answer
+    ensures { number_of result ≡ judged desk.now (Set setting) }
 {
     match setting {
-        Setting::Limit { account, line } => judge_limit(m, account, line),
+        Setting::Limit { account, line } => judge_limit(desk, account, line),
         Setting::Balance {
             account,
             instrument,
             balance,
-        } => judge_balance(m, account, instrument, balance),
-        Setting::Block { what, on } => judge_block(m, what, on),
+        } => judge_balance(desk, account, instrument, balance),
+        Setting::Block { what, on } => judge_block(desk, what, on),
     }
 }

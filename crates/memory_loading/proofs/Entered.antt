@@ -1,13 +1,12 @@
 -- An entry as the judge of LIMIT and its worker meet it: a line with its limits, or with −1 throughout where it has none, which
 -- is then asked 7 and 8 alone.
-use Rattle.std.specs.Prelude.{◌≡◌, ◌&&◌, ◌∷◌}
-use Rattle.integers.specs.Basics.{ℕ, refl, ◌∙◌, sym, ap, subst, Bool, true, false, cond, List, [], Option, none, some}
+use Rattle.std.specs.Prelude.{◌≡◌, ◌&&◌, ◌∷◌, is_some}
+use Rattle.integers.specs.Basics.{ℕ, refl, ◌∙◌, sym, ap, subst, Bool, true, false, cond, List, [], Option, None, Some}
 use Rattle.integers.specs.Basics.{eqb}
 use Rattle.integers.specs.Basics.{true≢false, false≢true, eqb-true}
 use Rattle.words.specs.Bytes.{Bytes}
 use Rattle.limits.specs.Answers.{number_of}
 use Rattle.limits.specs.Questions.{first_no}
-use Rattle.limits.specs.Lines.{is_set}
 use Rattle.limits.proofs.Answers.{both_true}
 use Rattle.book.specs.declared.LimitLine.{LimitLine}
 use Rattle.book.specs.declared.LimitLine.TheVariants.{Own, Default}
@@ -45,27 +44,31 @@ limit_answer m a l x y z d e f = rw (d, e, f)
 
 -- the line that stands for an entry, and whether it is to be set
 pub record StandsFor (e : Entry) (l : LimitLine) (sets : Bool) : Type 0 where
-  pub item : entry_item e ≡ some (limited_item l)
+  pub item : entry_item e ≡ Some (limited_item l)
   pub fits : (largest : ℕ) → line_fits largest l ≡ where_some (line_fits largest) (entry_line e)
-  pub set : sets ≡ true → entry_line e ≡ some l
-  pub unset : sets ≡ false → entry_line e ≡ none
+  pub set : sets ≡ true → entry_line e ≡ Some l
+  pub unset : sets ≡ false → entry_line e ≡ None
 
-pub group_stands : (a g : ℕ) (l : Option (Numbers two)) → StandsFor (group_entry a g l) (group_line_or g l) (is_set l)
-group_stands a g none = record { item = refl; fits = λ n. refl; set = λ e. absurd (false≢true e); unset = λ e. refl }
-group_stands a g (some (long, (short, t))) =
+pub group_stands : (a g : ℕ) (l : Option (Numbers two)) → StandsFor (group_entry a g l) (group_line_or g l) (is_some l)
+group_stands a g None = record { item = refl; fits = λ n. refl; set = λ e. absurd (false≢true e); unset = λ e. refl }
+group_stands a g (Some (long, (short, t))) =
     record { item = refl; fits = λ n. refl; set = λ e. refl; unset = λ e. absurd (true≢false e) }
 
-pub contract_stands : (a g c : ℕ) (l : Option (Numbers four)) → StandsFor (contract_entry a g c l) (Default c (figures_or l)) (is_set l)
+pub contract_stands : (a g c : ℕ) (l : Option (Numbers four)) → StandsFor (contract_entry a g c l) (Default c (figures_or l)) (is_some l)
 unfolding unsets
-contract_stands a g c none = record { item = refl; fits = λ n. refl; set = λ e. absurd (false≢true e); unset = λ e. refl }
-contract_stands a g c (some (long, (short, (bid, (offer, t))))) =
+contract_stands a g c None = record { item = refl; fits = λ n. refl; set = λ e. absurd (false≢true e); unset = λ e. refl }
+contract_stands a g c (Some (long, (short, (bid, (offer, t))))) =
     record { item = refl; fits = λ n. refl; set = λ e. refl; unset = λ e. absurd (true≢false e) }
 
-pub instrument_stands : (a c i : ℕ) (l : Option (Numbers four)) → StandsFor (instrument_entry a c i l) (Own i (figures_or l)) (is_set l)
+pub instrument_stands : (a c i : ℕ) (l : Option (Numbers four)) → StandsFor (instrument_entry a c i l) (Own i (figures_or l)) (is_some l)
 unfolding unsets
-instrument_stands a c i none = record { item = refl; fits = λ n. refl; set = λ e. absurd (false≢true e); unset = λ e. refl }
-instrument_stands a c i (some (long, (short, (bid, (offer, t))))) =
+instrument_stands a c i None = record { item = refl; fits = λ n. refl; set = λ e. absurd (false≢true e); unset = λ e. refl }
+instrument_stands a c i (Some (long, (short, (bid, (offer, t))))) =
     record { item = refl; fits = λ n. refl; set = λ e. refl; unset = λ e. absurd (true≢false e) }
+
+-- line and flag as code has them
+pub stands_as : {e : Entry} {l k : LimitLine} {s t : Bool} → StandsFor e l s → k ≡ l → t ≡ s → StandsFor e k t
+stands_as stands d e = rw (d, e) stands
 
 module _ (m : List ℕ) {e : Entry} {l : LimitLine} {sets : Bool} (stands : StandsFor e l sets) where
   pub same_answer : judged m (Set (Limit (entry_account e) l)) ≡ first_no (entry_questions (market_of m) (roster_of m) e)

@@ -1,11 +1,6 @@
 -- A load over a desk's memory: entries passed one after the other, children read, the whole file.
 pub mod Passes
 pub mod Entered
-pub mod Placed
-pub mod HandedOn
-pub mod Steps
 pub mod HeldElements
-pub mod Holders
 pub mod WholeElements
-pub mod LeafElements
 pub mod LoadedFiles

@@ -17,7 +17,7 @@ use Rattle.grammar.specs.Bytes.{all}
 use Rattle.memory_loading.specs.Entries.{Entry}
 use Rattle.memory_loading.specs.Loading.{in_place, entry_account, entry_line, entry_questions, questions_of, where_limited, each_limited}
 use Rattle.memory_loading.specs.Loading.{events_of, all_worked}
-use Rattle.memory_loading.specs.Passing.{first_of, Kept, Passed}
+use Rattle.memory_loading.specs.Passing.{first_of, with_count, Kept, Passed}
 
 -- ---- memories
 pub kept_self : {m : List ℕ} → SoundMemory m → Kept m m
@@ -100,6 +100,26 @@ pub passed_none : {m : List ℕ} {j : Progress} → SoundMemory m → Passed m [
 unfolding all questions_of first_no each_limited all_worked
 passed_none {j = j} held =
     record { right = and_true j.right; first = first_zero (number_of j.first); all_worked_lem = λ z. refl; kept = kept_self held }
+
+right_counted : (j b x t : Bool) → (j && (b && x)) && t ≡ j && ((t && b) && x)
+right_counted false b x t = refl
+right_counted true true true true = refl
+right_counted true true true false = refl
+right_counted true true false true = refl
+right_counted true true false false = refl
+right_counted true false x true = refl
+right_counted true false x false = refl
+
+-- a count besides
+pub passed_counted : {m : List ℕ} {es : List Entry} {b : Bool} {j : Progress} {n : List ℕ} {k : Progress} → Passed m es b j n k
+    → (t : Bool) → Passed m es (t && b) j n (with_count k t)
+passed_counted {m = m} {es = es} {b = b} {j = j} p t =
+    record {
+      right = ap (λ a. a && t) p.right ∙ right_counted j.right b (all (in_place (roster_of m)) es) t;
+      first = p.first;
+      all_worked_lem = p.all_worked_lem;
+      kept = p.kept;
+    }
 
 -- right so far, and then by two parts
 right_on : (i c d x y : Bool) → (i && (c && x)) && (d && y) ≡ i && ((c && d) && (x && y))

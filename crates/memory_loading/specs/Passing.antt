@@ -1,46 +1,36 @@
 -- What reading a part of a file does at a desk: entries are passed, one after the other, and the memory stays one that can be put back.
 use Prim.Native.String.{String}
-use Rattle.std.specs.Prelude.{◌≤◌, ◌≡◌, ◌&&◌}
-use Rattle.integers.specs.Basics.{ℕ, zero, suc, Bool, true, cond, List, Option, none, some, pos, negsuc, eqb}
+use Rattle.std.specs.Prelude.{◌≤◌, ◌≡◌, ◌&&◌, Result, Ok}
+use Rattle.integers.specs.Basics.{ℕ, zero, suc, Bool, true, List, Option, None, Some, pos, negsuc, eqb}
 use Rattle.integers.specs.Basics.{length, get_or}
-use Rattle.limits.specs.declared.answer.Answer.{Answer}
-use Rattle.limits.specs.declared.answer.Answer.TheVariants.{Accepted}
+use Rattle.limits.specs.declared.answer.Refusal.{Refusal}
 use Rattle.limits.specs.Answers.{number_of}
 use Rattle.limits.specs.Questions.{first_no}
 use Rattle.book.specs.declared.Figures.{Figures}
 use Rattle.book.specs.declared.LimitLine.{LimitLine}
 use Rattle.book.specs.declared.LimitLine.TheVariants.{OfGroup}
 use Rattle.grammar.specs.Grammar.{Numbers, Element, Value}
-use Rattle.grammar.specs.Reader.{nothing, up_to, element_at, many_at, closing}
+use Rattle.grammar.specs.Reader.{nothing, element_at, children_at}
 use Rattle.grammar.specs.Document.{file_of}
-use Rattle.limit_file.specs.declared.figures.Limits.{Limits}
-use Rattle.limit_file.specs.Layout.{two, four, limit_file}
+use Rattle.grammar.specs.Place.{Place}
+use Rattle.grammar.specs.Found.{found}
+use Rattle.limit_file.specs.Layout.{two, four, request, limit_file}
 use Rattle.memory_layout.specs.View.{market_of, roster_of, view}
 use Rattle.memory_soundness.specs.SoundMemory.{SoundMemory}
 use Rattle.memory_loading.specs.declared.progress.Progress.{Progress}
-use Rattle.memory_loading.specs.declared.elements.Element.{Element as ReadElement}
-use Rattle.memory_loading.specs.declared.elements.Element.TheVariants as element
-use Rattle.memory_loading.specs.declared.elements.Children.{Children}
-use Rattle.memory_loading.specs.declared.elements.Children.TheVariants as children
 use Rattle.grammar.specs.Bytes.{all}
-use Rattle.memory_loading.specs.Entries.{Entry, entries_of}
+use Rattle.memory_loading.specs.Entries.{Entry, entries_of, entries, counts_right}
 use Rattle.memory_loading.specs.Loading.{in_place, questions_of, events_of, all_worked, file_questions, file_events}
 
 -- ---- limits as code hands them on
-abbrev pub two_of : Limits → Option (Numbers two)
-two_of l = cond l.there (some (l.long, (l.short, tt))) none
-
-abbrev pub four_of : Limits → Option (Numbers four)
-four_of l = cond l.there (some (l.long, (l.short, (l.bid, (l.offer, tt))))) none
-
 -- in an event's order, −1 throughout where there are none: such a line is asked as any other
 abbrev pub figures_or : Option (Numbers four) → Figures
-figures_or none = record { tci = negsuc 0; tvi = negsuc 0; lci = negsuc 0; lvi = negsuc 0 }
-figures_or (some (long, (short, (bid, (offer, t))))) = record { tci = pos bid; tvi = pos offer; lci = pos long; lvi = pos short }
+figures_or None = record { tci = negsuc 0; tvi = negsuc 0; lci = negsuc 0; lvi = negsuc 0 }
+figures_or (Some (long, (short, (bid, (offer, t))))) = record { tci = pos bid; tvi = pos offer; lci = pos long; lvi = pos short }
 
 abbrev pub group_line_or : ℕ → Option (Numbers two) → LimitLine
-group_line_or g none = OfGroup g (negsuc 0) (negsuc 0)
-group_line_or g (some (long, (short, t))) = OfGroup g (pos long) (pos short)
+group_line_or g None = OfGroup g (negsuc 0) (negsuc 0)
+group_line_or g (Some (long, (short, t))) = OfGroup g (pos long) (pos short)
 
 -- ---- entries passed
 -- the first of two answers that is a refusal
@@ -67,29 +57,30 @@ pub record Passed (m : List ℕ) (es : List Entry) (counts : Bool) (j : Progress
   pub all_worked_lem : number_of k.first ≡ 0 → n ≡ all_worked m (events_of es)
   pub kept : Kept m n
 
--- ---- elements read from place p on: f gives the entries of one, c whether its counts are right
-abbrev pub ElementRead : (s : List ℕ) (e : Element) → (Value e → List Entry) → (Value e → Bool) → ℕ → List ℕ → Progress → List ℕ
-    → ReadElement → Type 0
-ElementRead s e f c p m j n element.Nothing = (element_at s e p ≡ nothing) × Kept m n
-ElementRead s e f c p m j n (element.Read q k) = (v : Value e) × (element_at s e p ≡ up_to v q) × Passed m (f v) (c v) j n k
+-- ---- elements read from place p on, up to place q: f gives the entries of one, c whether its counts are right
+abbrev pub ElementRead : (e : Element) → (Value e → List Entry) → (Value e → Bool) → Place → List ℕ → Progress → List ℕ
+    → Option (Progress × Place) → Type 0
+ElementRead e f c p m j n None = (element_at p.bytes e p.at ≡ nothing) × Kept m n
+ElementRead e f c p m j n (Some (k, q)) =
+    (v : Value e) × (found p.bytes (element_at p.bytes e p.at) ≡ Some (v, q)) × Passed m (f v) (c v) j n k
 
-abbrev pub ChildrenRead : (s : List ℕ) (e : Element) → (Value e → List Entry) → (Value e → Bool) → String → ℕ → List ℕ → Progress
-    → List ℕ → Children → Type 0
-ChildrenRead s e f c name p m j n children.Nothing = (many_at s (element_at s e) (closing name) (suc (length s)) p ≡ nothing) × Kept m n
-ChildrenRead s e f c name p m j n (children.Read q count k) =
-    (vs : List (Value e)) × (many_at s (element_at s e) (closing name) (suc (length s)) p ≡ up_to vs q) × (count ≡ length vs)
-    × Passed m (entries_of f vs) (all c vs) j n k
-
--- an element that says how many it holds, by what it holds
-abbrev pub closed_by : ℕ → Children → ReadElement
-closed_by said children.Nothing = element.Nothing
-closed_by said (children.Read q count k) = element.Read q (with_count k (eqb said count))
+-- all those that an element of this name holds, from behind its attributes on; it says how many they are
+abbrev pub ChildrenRead : (e : Element) → (Value e → List Entry) → (Value e → Bool) → String → (said : ℕ) → Place → List ℕ → Progress
+    → List ℕ → Option (Progress × Place) → Type 0
+ChildrenRead e f c name said p m j n None = (children_at p.bytes (element_at p.bytes e) name p.at ≡ nothing) × Kept m n
+ChildrenRead e f c name said p m j n (Some (k, q)) =
+    (vs : List (Value e)) × (found p.bytes (children_at p.bytes (element_at p.bytes e) name p.at) ≡ Some (vs, q))
+    × Passed m (entries_of f vs) (eqb said (length vs) && all c vs) j n k
 
 abbrev pub beginning : Progress
-beginning = record { right = true; first = Accepted }
+beginning = record { right = true; first = Ok tt }
 
 -- ---- the whole file
-pub record Loaded (m s n : List ℕ) (r : Answer) : Type 0 where
+abbrev pub FileRead : List ℕ → List ℕ → List ℕ → Option Progress → Type 0
+FileRead m s n None = (file_of limit_file s ≡ None) × Kept m n
+FileRead m s n (Some k) = (v : Value request) × (file_of limit_file s ≡ Some v) × Passed m (entries v) (counts_right v) beginning n k
+
+pub record Loaded (m s n : List ℕ) (r : Result (Unit {0}) Refusal) : Type 0 where
   pub answer : number_of r ≡ first_no (file_questions (view m) (file_of limit_file s))
   pub all_worked_lem : number_of r ≡ 0 → n ≡ all_worked m (file_events (file_of limit_file s))
   pub kept : Kept m n

@@ -1,216 +1,207 @@
 // What a load has found so far, and how an entry of the file moves it on.
+// The memory is written as the file is read: it is lent as bytes, of which `SoundMemory` is asked, since a `SoundDesk` is read only.
 ghost use Rattle.std.specs.Prelude.{◌≡◌, true, ◌&&◌, cond, ◌∷◌, [], eqb};
 ghost use Rattle.book.specs.declared.Setting.TheVariants.{Limit};
 ghost use Rattle.book.specs.declared.Event.TheVariants.{Set};
+ghost use Rattle.book.specs.Decoding.{between};
 ghost use Rattle.limits.specs.Answers.{number_of};
-ghost use Rattle.limit_file.specs.Starts.{Small};
 ghost use Rattle.memory_layout.specs.View.{roster_of};
 ghost use Rattle.memory_layout.specs.Judged.{judged};
 ghost use Rattle.memory_soundness.specs.SoundMemory.{SoundMemory};
 ghost use Rattle.memory_working.specs.Working.{worked};
 ghost use Rattle.memory_loading.specs.Entries.{account_entry, group_entry, contract_entry, instrument_entry};
 ghost use Rattle.memory_loading.specs.Loading.{contract_in_place, instrument_in_place};
-ghost use Rattle.memory_loading.specs.Passing.{first_of, two_of, four_of, figures_or, group_line_or, with_count, Passed};
+ghost use Rattle.memory_loading.specs.Passing.{first_of, figures_or, group_line_or, with_count, Passed};
 
-use book::{Figures, LimitLine};
-use limit_file::figures::Limits;
-use limits::answer::Answer;
+use book::{Figures, Item, LimitLine};
+use limit_file::figures::{GroupLimits, Limits};
+use limit_file::{AccountTag, ContractTag, GroupTag, InstrumentTag};
+use limits::answer::{Answer, Refusal};
 use memory_judging::settings::judge_limit;
-use memory_layout::roster::{
-    account_known, contract_known, contract_of, group_of, instrument_known,
-};
+use memory_soundness::sound_desk::SoundDesk;
 use memory_working::settings::work_limit;
 
-// Whether every count and place is right, and the first no to 7, 8 and 9.
+// Whether every count and place is right, and the first no to 7, 8 and 9: two findings, since the first of them speaks of the whole file.
 #[derive(Clone, Copy)]
 pub struct Progress {
     pub right: bool,
     pub first: Answer,
 }
 
+impl Progress {
+    // And whether a count or a place is right besides.
+    pub fn and(self, right: bool) -> Progress
+        ensures { result ≡ with_count self right }
+    {
+        Progress {
+            right: self.right && right,
+            ..self
+        }
+    }
+}
+
 // The figures of a contract's or an instrument's line in an event's order; −1 throughout where it has no limits.
-fn figures_of(l: Limits) -> Figures
-    requires { Small l }
-    ensures { result ≡ figures_or (four_of l) }
+fn figures_of(limits: Option<Limits>) -> Figures
+    ensures { result ≡ figures_or limits }
 {
-    if !l.there {
-        return Figures {
+    match limits {
+        Some(l) => Figures {
+            tci: l.bid.cast_signed(),
+            tvi: l.offer.cast_signed(),
+            lci: l.long.cast_signed(),
+            lvi: l.short.cast_signed(),
+        },
+        None => Figures {
             tci: -1,
             tvi: -1,
             lci: -1,
             lvi: -1,
-        };
-    }
-    Figures {
-        tci: l.bid as i64,
-        tvi: l.offer as i64,
-        lci: l.long as i64,
-        lvi: l.short as i64,
+        },
     }
 }
 
 // The line of a group, likewise.
-fn group_line(group: u64, l: Limits) -> LimitLine
-    requires { Small l }
-    ensures { result ≡ group_line_or group (two_of l) }
+fn group_line(group: u64, limits: Option<GroupLimits>) -> LimitLine
+    ensures { result ≡ group_line_or group limits }
 {
-    if !l.there {
-        return LimitLine::OfGroup {
-            group: group,
+    match limits {
+        Some(l) => LimitLine::OfGroup {
+            group,
+            lcc: l.long.cast_signed(),
+            lvc: l.short.cast_signed(),
+        },
+        None => LimitLine::OfGroup {
+            group,
             lcc: -1,
             lvc: -1,
-        };
-    }
-    LimitLine::OfGroup {
-        group: group,
-        lcc: l.long as i64,
-        lvc: l.short as i64,
+        },
     }
 }
 
-// Asks 7, 8 and 9 of a line where all was accepted so far, and works it where it is to be set.
+// Asks 7 of an account.
+fn judge_account(desk: &SoundDesk, account: u64) -> Answer
+    ensures { number_of result ≡ cond (between 1 (roster_of desk.now).accounts account) 0 7 }
+{
+    if desk.memory.account_known(account) {
+        Ok(())
+    } else {
+        Err(Refusal::UnknownAccount)
+    }
+}
+
+// Asks 7, 8 and 9 of a line where all was accepted so far, and works it where it is to be set: an entry without limits is judged as a
+// line of −1 throughout, which passes 9, and not worked.
 fn step(m: &mut [u8], account: u64, line: LimitLine, sets: bool, first: Answer) -> Answer
     requires { SoundMemory m.old }
     ensures answer { number_of result ≡ first_of (number_of first) (judged m.old (Set (Limit account line))) }
     ensures memory { m.new ≡
         cond (eqb (number_of result) 0 && sets) (worked m.old (Set (Limit account line))) m.old }
 {
-    match first {
-        Answer::Accepted => match judge_limit(m, account, line) {
-            Answer::Accepted => {
-                if sets {
-                    work_limit(m, account, line);
-                }
-                Answer::Accepted
-            }
-            no => no,
-        },
-        no => no,
+    first?;
+    judge_limit(&SoundDesk::of(m), account, line)?;
+    if sets {
+        work_limit(m, account, line);
+    }
+    Ok(())
+}
+
+// The accounts of a request.
+#[derive(Clone, Copy)]
+pub struct Accounts;
+
+// The groups of an account.
+#[derive(Clone, Copy)]
+pub struct Groups {
+    pub account: u64,
+}
+
+// The contracts of an account's group.
+#[derive(Clone, Copy)]
+pub struct Contracts {
+    pub account: u64,
+    pub group: u64,
+}
+
+// The instruments of an account's contract.
+#[derive(Clone, Copy)]
+pub struct Instruments {
+    pub account: u64,
+    pub contract: u64,
+}
+
+impl Accounts {
+    // AcctLmt.
+    pub fn enter(&self, m: &[u8], tag: &AccountTag, before: Progress) -> Progress
+        requires { SoundMemory m.now }
+        ensures { Passed m.now (account_entry tag.now.account ∷ []) true before m.now result }
+    {
+        let first = before
+            .first
+            .and(judge_account(&SoundDesk::of(m), tag.account));
+        Progress { first, ..before }
     }
 }
 
-// AcctLmt.
-pub fn enter_account(m: &[u8], account: u64, j: Progress) -> Progress
-    requires { SoundMemory m.now }
-    ensures { Passed m.now (account_entry account ∷ []) true j m.now result }
-{
-    let first = j.first;
-    match first {
-        Answer::Accepted => {
-            if !account_known(m, account) {
-                return Progress {
-                    right: j.right,
-                    first: Answer::UnknownAccount,
-                };
-            }
-            j
-        }
-        no => j,
+impl Groups {
+    // EqvIxmLmt.
+    pub fn enter(&self, m: &mut [u8], tag: &GroupTag, before: Progress) -> Progress
+        requires { SoundMemory m.old }
+        ensures { Passed m.old (group_entry self.now.account tag.now.group tag.now.limits ∷ []) true before m.new result }
+    {
+        let line = group_line(tag.group, tag.limits);
+        let first = step(m, self.account, line, tag.limits.is_some(), before.first);
+        Progress { first, ..before }
     }
 }
 
-// EqvIxmLmt.
-pub fn enter_group(m: &mut [u8], account: u64, group: u64, limits: Limits, j: Progress) -> Progress
-    requires { SoundMemory m.old × Small limits }
-    ensures { Passed m.old (group_entry account group (two_of limits) ∷ []) true j m.new result }
-{
-    let line = group_line(group, limits);
-    let before = j.first;
-    let first = step(m, account, line, limits.there, before);
-    Progress {
-        right: j.right,
-        first: first,
+// A contract is looked up by its group and sets a default line, an instrument by its contract and sets a line of its own: another
+// field of the roster and another line, so that `in_place` and `enter` stand for each.
+impl Contracts {
+    // Does a contract of the roster stand under its own group?
+    fn in_place(&self, desk: &SoundDesk, contract: u64) -> bool
+        ensures { result ≡ contract_in_place (roster_of desk.now) self.now.group contract }
+    {
+        !desk.memory.item_known(Item::Contract(contract))
+            || desk.readable().group_of(contract as usize) as u64 == self.group
+    }
+
+    // ContrtLmt.
+    pub fn enter(&self, m: &mut [u8], tag: &ContractTag, before: Progress) -> Progress
+        requires { SoundMemory m.old }
+        ensures { Passed m.old (contract_entry self.now.account self.now.group tag.now.contract tag.now.limits ∷ []) true before m.new
+            result }
+    {
+        let placed = before.and(self.in_place(&SoundDesk::of(m), tag.contract));
+        let line = LimitLine::Default {
+            contract: tag.contract,
+            figures: figures_of(tag.limits),
+        };
+        let first = step(m, self.account, line, tag.limits.is_some(), placed.first);
+        Progress { first, ..placed }
     }
 }
 
-// Does a contract of the roster stand under its own group?
-fn contract_in_place(m: &[u8], group: u64, contract: u64) -> bool
-    requires { SoundMemory m.now }
-    ensures { result ≡ contract_in_place (roster_of m.now) group contract }
-{
-    if !contract_known(m, contract) {
-        return true;
+impl Instruments {
+    // Does an instrument of the roster stand under its own contract?
+    fn in_place(&self, desk: &SoundDesk, instrument: u64) -> bool
+        ensures { result ≡ instrument_in_place (roster_of desk.now) self.now.contract instrument }
+    {
+        !desk.memory.item_known(Item::Instrument(instrument))
+            || desk.readable().contract_of(instrument as usize) as u64 == self.contract
     }
-    group_of(m, contract as usize) as u64 == group
-}
 
-// Does an instrument of the roster stand under its own contract?
-fn instrument_in_place(m: &[u8], contract: u64, instrument: u64) -> bool
-    requires { SoundMemory m.now }
-    ensures { result ≡ instrument_in_place (roster_of m.now) contract instrument }
-{
-    if !instrument_known(m, instrument) {
-        return true;
+    // IxmLmt.
+    pub fn enter(&self, m: &mut [u8], tag: &InstrumentTag, before: Progress) -> Progress
+        requires { SoundMemory m.old }
+        ensures { Passed m.old (instrument_entry self.now.account self.now.contract tag.now.instrument tag.now.limits ∷ []) true before
+            m.new result }
+    {
+        let placed = before.and(self.in_place(&SoundDesk::of(m), tag.instrument));
+        let line = LimitLine::Own {
+            instrument: tag.instrument,
+            figures: figures_of(tag.limits),
+        };
+        let first = step(m, self.account, line, tag.limits.is_some(), placed.first);
+        Progress { first, ..placed }
     }
-    contract_of(m, instrument as usize) as u64 == contract
-}
-
-// ContrtLmt.
-pub fn enter_contract(
-    m: &mut [u8],
-    account: u64,
-    group: u64,
-    contract: u64,
-    limits: Limits,
-    j: Progress,
-) -> Progress
-    requires { SoundMemory m.old × Small limits }
-    ensures { Passed m.old (contract_entry account group contract (four_of limits) ∷ []) true j m.new result }
-{
-    let placed = contract_in_place(m, group, contract);
-    let line = LimitLine::Default {
-        contract: contract,
-        figures: figures_of(limits),
-    };
-    let before = j.first;
-    let first = step(m, account, line, limits.there, before);
-    Progress {
-        right: both(j.right, placed),
-        first: first,
-    }
-}
-
-// IxmLmt.
-pub fn enter_instrument(
-    m: &mut [u8],
-    account: u64,
-    contract: u64,
-    instrument: u64,
-    limits: Limits,
-    j: Progress,
-) -> Progress
-    requires { SoundMemory m.old × Small limits }
-    ensures { Passed m.old (instrument_entry account contract instrument (four_of limits) ∷ []) true j m.new result }
-{
-    let placed = instrument_in_place(m, contract, instrument);
-    let line = LimitLine::Own {
-        instrument: instrument,
-        figures: figures_of(limits),
-    };
-    let before = j.first;
-    let first = step(m, account, line, limits.there, before);
-    Progress {
-        right: both(j.right, placed),
-        first: first,
-    }
-}
-
-// A count beside the number of children.
-pub fn counted(j: Progress, said: u64, found: u64) -> Progress
-    ensures { result ≡ with_count j (eqb said found) }
-{
-    let first = j.first;
-    Progress {
-        right: both(j.right, said == found),
-        first: first,
-    }
-}
-
-fn both(a: bool, b: bool) -> bool
-    ensures { result ≡ a && b }
-{
-    if !a {
-        return false;
-    }
-    b
 }

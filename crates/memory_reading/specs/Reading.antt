@@ -2,15 +2,12 @@
 use Rattle.std.specs.Prelude.{◌∷◌}
 use Rattle.integers.specs.Basics.{ℕ, cond, List, [], ℤ, eqb}
 use Rattle.ledger.specs.Positions.{Scope, Way, long, short, instrument, group, potential}
-use Rattle.ledger.specs.Roster.{Numbered}
 use Rattle.limits.specs.Questions.{Question, first_no}
 use Rattle.book.specs.Decoding.{between}
-use Rattle.book.specs.Table.{q}
+use Rattle.book.specs.Table.{q, is_listed}
+use Rattle.book.specs.declared.Item.{Item}
 use Rattle.memory_layout.specs.View.{market_of, roster_of, balances_of, open_orders}
 use Rattle.memory_soundness.specs.Soundness.{sound_desk}
-use Rattle.memory_soundness.specs.SoundMemory.{SoundMemory}
-use Rattle.memory_reading.specs.declared.Item.{Item}
-use Rattle.memory_reading.specs.declared.Item.TheVariants.{Instrument, Group}
 
 -- refused by 5, 7 and 8 in that order; `items` is how many instruments or groups there are
 unfoldable pub reading_questions : List ℕ → ℕ → ℕ → ℕ → List Question
@@ -23,18 +20,10 @@ instrument_answer m a i = first_no (reading_questions m (roster_of m).instrument
 unfoldable pub group_answer : List ℕ → ℕ → ℕ → ℕ
 group_answer m a g = first_no (reading_questions m (roster_of m).groups a g)
 
--- how many items of its kind there are, and its number among them
-abbrev pub items_of : List ℕ → Item → ℕ
-items_of m (Instrument i) = (roster_of m).instruments
-items_of m (Group g) = (roster_of m).groups
-
-abbrev pub number_in : Item → ℕ
-number_in (Instrument i) = i
-number_in (Group g) = g
-
--- the answer to a reading of an instrument or a group
+-- the answer to a reading of an item
 unfoldable pub item_answer : List ℕ → ℕ → Item → ℕ
-item_answer m a item = first_no (reading_questions m (items_of m item) a (number_in item))
+item_answer m a item =
+    first_no (q 5 (sound_desk m) ∷ q 7 (between 1 (roster_of m).accounts a) ∷ q 8 (is_listed (roster_of m) item) ∷ [])
 
 -- the potential position that the desk's open orders and balances give
 unfoldable pub position_in : List ℕ → ℕ → Scope → Way → ℤ
@@ -52,8 +41,3 @@ group_report m a g = position_in m a (group g) long ∷ position_in m a (group g
 -- what the output holds: the report, or on a refusal what it held
 unfoldable pub reported : ℕ → List ℤ → List ℤ → List ℤ
 reported answer report before = cond (eqb answer 0) report before
-
--- a sound desk, and an account on its roster
-pub record Read (m : List ℕ) (a : ℕ) : Type 0 where
-  pub held : SoundMemory m
-  pub account : Numbered (roster_of m).accounts a

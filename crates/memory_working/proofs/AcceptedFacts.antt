@@ -1,6 +1,6 @@
 -- What an acceptance tells of the event, kind by kind: its numbers are on the roster, its figures in range, its order open.
 use Rattle.std.specs.Prelude.{◌≤◌, ◌<◌, ◌≡◌, ◌≤ℤ◌}
-use Rattle.integers.specs.Basics.{ℕ, Bool, true, List, Option, none, some, ℤ, pos, neg_ℤ, nat_abs, length, arith}
+use Rattle.integers.specs.Basics.{ℕ, Bool, true, List, Option, None, Some, ℤ, pos, neg_ℤ, nat_abs, length, arith}
 use Rattle.integers.specs.Basics.{ltb-true, signed}
 use Rattle.integers.specs.Magnitude.{within_in}
 use Rattle.words.specs.Words.{word_at}
@@ -12,7 +12,9 @@ use Rattle.book.specs.declared.Event.TheVariants.{Set, New, Change, Junk}
 use Rattle.book.specs.OpenOrders.{find}
 use Rattle.book.specs.Sound.{OrderFits, Sound}
 use Rattle.book.specs.Decoding.{between}
-use Rattle.book.specs.Settings.{Item, an_instrument, a_contract, a_group, setting_account, setting_item}
+use Rattle.book.specs.declared.Item.{Item}
+use Rattle.book.specs.declared.Item.TheVariants as item
+use Rattle.book.specs.Settings.{setting_account, setting_item}
 use Rattle.book.specs.Table.{where_some, account_known, is_listed, item_known, between_ℤ, is_quantity, change_in_range, setting_in_range, figures_fit}
 use Rattle.book.specs.Table.{fits_order, place_free}
 use Rattle.book.proofs.Accepted.{Passed, accepted}
@@ -30,19 +32,19 @@ use Rattle.memory_layout.proofs.Lengths.{length_open}
 
 -- an item is on the roster
 abbrev pub OnRoster : Roster → Item → Type 0
-OnRoster r (an_instrument i) = Numbered r.instruments i
-OnRoster r (a_contract c) = Numbered r.contracts c
-OnRoster r (a_group g) = Numbered r.groups g
+OnRoster r (item.Instrument i) = Numbered r.instruments i
+OnRoster r (item.Contract c) = Numbered r.contracts c
+OnRoster r (item.Group g) = Numbered r.groups g
 
 -- of what is named, where something is
 abbrev pub WhereSome : {A : Type 0} → (A → Type 0) → Option A → Type 0
-WhereSome P none = Unit
-WhereSome P (some x) = P x
+WhereSome P None = Unit
+WhereSome P (Some x) = P x
 
 -- the order with an id is open, and in range
 pub record Found (m : List ℕ) (id : ℕ) : Type 0 where
   pub order : Order
-  pub found : find id (open_orders m) ≡ some order
+  pub found : find id (open_orders m) ≡ Some order
   pub fits : OrderFits (roster_of m) order
 
 abbrev pub Quantity : ℤ → Type 0
@@ -86,14 +88,14 @@ passed m e passes = (accepted (view m) e passes).passed
 
 -- ---- an accepted event
 item_told : (r : Roster) (x : Item) → is_listed r x ≡ true → OnRoster r x
-item_told r (an_instrument i) h = between_numbered r.instruments i h
-item_told r (a_contract c) h = between_numbered r.contracts c h
-item_told r (a_group g) h = between_numbered r.groups g h
+item_told r (item.Instrument i) h = between_numbered r.instruments i h
+item_told r (item.Contract c) h = between_numbered r.contracts c h
+item_told r (item.Group g) h = between_numbered r.groups g h
 
 some_told : {A : Type 0} (f : A → Bool) (P : A → Type 0) → ((x : A) → f x ≡ true → P x) → (y : Option A) → where_some f y ≡ true
     → WhereSome P y
-some_told f P each none h = tt
-some_told f P each (some x) h = each x h
+some_told f P each None h = tt
+some_told f P each (Some x) h = each x h
 
 -- a balance in range
 pub balance_told : (largest : ℕ) (z : ℤ) → between_ℤ (neg_ℤ (pos largest)) (pos largest) z ≡ true → nat_abs z ≤ largest

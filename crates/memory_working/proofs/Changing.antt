@@ -1,6 +1,6 @@
 -- The order that an accepted event names, found at its place: what the code stores there is what the event makes of it.
 use Rattle.std.specs.Prelude.{◌≤◌, ◌<◌, ◌≡◌}
-use Rattle.integers.specs.Basics.{ℕ, refl, ◌∙◌, sym, ap, List, some, ℤ, pos, nat_abs, arith, signed}
+use Rattle.integers.specs.Basics.{ℕ, refl, ◌∙◌, sym, ap, List, Some, ℤ, pos, nat_abs, arith, signed}
 use Rattle.integers.specs.Basics.{magnitude_parts}
 use Rattle.words.specs.Words.{word_at}
 use Rattle.ledger.specs.declared.order.Order.{Order}
@@ -49,7 +49,7 @@ module _ {m : List ℕ} {id w p : ℕ} {c : OrderChange} (ready : Ready m (Chang
   abbrev o : Order
   o = order_of id w
 
-  pub found : find id (open_orders m) ≡ some o
+  pub found : find id (open_orders m) ≡ Some o
   found = named_found m id p w c ready.named
 
   pub change_facts : OrderFits (roster_of m) o × ChangeFacts c o
@@ -75,7 +75,7 @@ module _ {m : List ℕ} {id w p : ℕ} {c : OrderChange} (ready : Ready m (Chang
   inside = (records m ready.held, found_below m id p ready.named.0)
 
   -- the memory is what the change makes of that order's record and of its balance
-  pub changed_memory : worked m (Change id c) ≡ order_changed m id c (some o)
+  pub changed_memory : worked m (Change id c) ≡ order_changed m id c (Some o)
   unfolding worked
   changed_memory = rw found
 

@@ -1,7 +1,7 @@
 -- The cells after a change of one order: its own cell moves with what counts of it, and no other.
 use Rattle.std.specs.Prelude.{◌+◌, ◌-◌, ◌≤◌, ◌≡◌, ◌⊎◌, ◌≢◌, ◌+ℤ◌}
 use Rattle.integers.specs.Basics.{ℕ, refl, ◌∙◌, sym, ap, inl, inr, List, ℤ, pos, neg_ℤ, nat_abs, length}
-use Rattle.integers.specs.Basics.{get_or, set, length-set, arith, signed, sum_parts, difference_parts}
+use Rattle.integers.specs.Basics.{get_or, set, length-set, arith, signed, magnitude_parts, sum_parts, difference_parts}
 use native.Mathlib.Nat.{one-mul}
 use lib.Seq.{get_or-set_same, get_or-set_other}
 use Rattle.ledger.specs.declared.order.Order.{Order}
@@ -33,10 +33,11 @@ module _ (s : Side) (a i : ℕ) (o : Order) (n : ℕ) where
   added_apart : ¬ Stands s a i o → added_on n o s a i ≡ pos 0
   added_apart apart = sym (same_amount n o s a i) ∙ amount_apart one s a i o n apart
 
--- what a cell holds after a shift, counted in contracts
-pub settled : (c a b : ℕ) → b ≤ c + a → (x y : ℤ) → x ≡ pos c +ℤ pos a → y ≡ x +ℤ neg_ℤ (pos b) → y ≡ pos (c + a - b)
-settled c a b enough x y sum rest =
-    omega (signed, sum_parts (pos c) (pos a), difference_parts x (pos b), rest)
+-- what a cell holds after a shift, as the code reckons it in contracts
+pub settled : {c a b n : ℕ} {p q r x y : ℤ} → b ≤ c + a → p ≡ pos c → q ≡ pos a → r ≡ pos b → x ≡ p +ℤ q → y ≡ x +ℤ neg_ℤ r
+    → n ≡ nat_abs y → n ≡ c + a - b
+settled {p = p} {q = q} {r = r} {x = x} {y = y} enough in_cell more less sum rest counted =
+    omega (signed, sum_parts p q, difference_parts x r, magnitude_parts y)
 
 module _ (cells : List ℕ) (orders orders' : List Order) (held : AllSums cells orders) (id w before after : ℕ)
     (shift : SumsChanged (order_of id w) before after orders orders') where

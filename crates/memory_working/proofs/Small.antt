@@ -1,7 +1,7 @@
 -- The figures that an accepted event stores fit their words and halves of words.
 use Rattle.std.specs.Prelude.{◌^◌, ◌≤◌, ◌<◌, ◌≡◌, ◌∷◌}
 use Rattle.integers.specs.Basics.{ℕ, refl, ⊎_elim, List, [], ListMemᴰ, ListMemᴰ_head, ListMemᴰ_tail}
-use Rattle.integers.specs.Basics.{ListMemᴰ_not_nil, Option, none, some, arith}
+use Rattle.integers.specs.Basics.{ListMemᴰ_not_nil, Option, None, Some, arith}
 use mathlib.Core.List.Memᴰ
 use Rattle.words.specs.Bytes.{Bytes}
 use Rattle.words.specs.Fields.{u64_at}
@@ -9,7 +9,8 @@ use Rattle.words.specs.Words.{word_at}
 use Rattle.words.proofs.Numbers.{number_below}
 use Rattle.ledger.specs.declared.order.Order.{Order}
 use Rattle.ledger.specs.Orders.{remaining}
-use Rattle.limits.specs.Lines.{Line, GroupLine}
+use Rattle.limits.specs.declared.lines.Line.{Line}
+use Rattle.limits.specs.declared.lines.GroupLine.{GroupLine}
 use Rattle.book.specs.declared.Event.{Event}
 use Rattle.book.specs.declared.Event.TheVariants.{Set, New, Change, Junk}
 use Rattle.book.specs.Decoding.{decode}
@@ -35,16 +36,16 @@ use Rattle.memory_soundness.proofs.Bounded.{storable}
 use Rattle.memory_working.proofs.AcceptedFacts.{Found, sound, passed, accepted_facts}
 
 -- ---- lines in range
-pub small_line : {largest : ℕ} → largest ≤ 1000000000 → (x : Option Line) → ((l : Line) → x ≡ some l → LineFits largest l) → SmallLine x
+pub small_line : {largest : ℕ} → largest ≤ 1000000000 → (x : Option Line) → ((l : Line) → x ≡ Some l → LineFits largest l) → SmallLine x
 unfolding SmallLine
-small_line most none fits = tt
-small_line most (some l) fits = let f = fits l refl in omega arith
+small_line most None fits = tt
+small_line most (Some l) fits = let f = fits l refl in omega arith
 
 pub small_group_line : {largest : ℕ} → largest ≤ 1000000000 → (x : Option GroupLine)
-    → ((l : GroupLine) → x ≡ some l → GroupLineFits largest l) → SmallGroupLine x
+    → ((l : GroupLine) → x ≡ Some l → GroupLineFits largest l) → SmallGroupLine x
 unfolding SmallGroupLine
-small_group_line most none fits = tt
-small_group_line most (some l) fits = let f = fits l refl in omega arith
+small_group_line most None fits = tt
+small_group_line most (Some l) fits = let f = fits l refl in omega arith
 
 -- ---- open orders
 -- the id of a NEW is a word

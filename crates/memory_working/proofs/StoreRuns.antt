@@ -1,11 +1,12 @@
 -- A run of stores of words: what each store keeps, the run keeps; and what a store of an event is.
 use Rattle.std.specs.Prelude.{◌+◌, ◌≤◌, ◌<◌, ◌≡◌, ◌∷◌}
-use Rattle.integers.specs.Basics.{ℕ, zero, suc, refl, List, [], Option, none, some, ℤ, length, get_or, arith}
+use Rattle.integers.specs.Basics.{ℕ, zero, suc, refl, List, [], Option, None, Some, ℤ, length, get_or, arith}
 use Rattle.integers.specs.TwosComplement.{bits_of}
 use Rattle.words.specs.Words.{put_word, lower, upper, put_signed, put_words}
 use Rattle.ledger.specs.declared.order.Order.{Order}
 use Rattle.ledger.specs.Roster.{Numbered}
-use Rattle.limits.specs.Lines.{Line, GroupLine}
+use Rattle.limits.specs.declared.lines.Line.{Line}
+use Rattle.limits.specs.declared.lines.GroupLine.{GroupLine}
 use Rattle.book.specs.Sound.{LineFits, GroupLineFits}
 use Rattle.memory_layout.specs.Layout.{balance_row}
 use Rattle.memory_layout.specs.View.{market_of, roster_of}
@@ -71,16 +72,16 @@ module _ (S : ℕ → ℕ → Type 0) (P : List ℕ → Type 0) (keeps : (l : Li
   -- a line: its figures are in range
   module _ (m : List ℕ) {largest : ℕ} (most : largest ≤ 1000000000) (s k : ℕ) (set : (v : ℕ) → v ≤ 1 → S s v) (p : P m) where
     pub keeps_line : ((j v : ℕ) → k ≤ j → j < k + 2 → FiguresFit largest v → S j v) → (x : Option Line)
-        → ((l : Line) → x ≡ some l → LineFits largest l) → P (store_line m s k x)
-    keeps_line ok none fits = keeps m s 0 (set 0 (omega arith)) p
-    keeps_line ok (some l) fits =
+        → ((l : Line) → x ≡ Some l → LineFits largest l) → P (store_line m s k x)
+    keeps_line ok None fits = keeps m s 0 (set 0 (omega arith)) p
+    keeps_line ok (Some l) fits =
         keeps (put_words m k (line_words l)) s 1 (set 1 (omega arith))
         (keeps_words (line_words l) m k (λ j h. ok (k + j) _ (omega arith) (omega arith) (line_words_fit most l (fits l refl) j)) p)
 
     pub keeps_group_line : ((j v : ℕ) → k ≤ j → j < k + 1 → FiguresFit largest v → S j v) → (x : Option GroupLine)
-        → ((l : GroupLine) → x ≡ some l → GroupLineFits largest l) → P (store_group_line m s k x)
-    keeps_group_line ok none fits = keeps m s 0 (set 0 (omega arith)) p
-    keeps_group_line ok (some l) fits =
+        → ((l : GroupLine) → x ≡ Some l → GroupLineFits largest l) → P (store_group_line m s k x)
+    keeps_group_line ok None fits = keeps m s 0 (set 0 (omega arith)) p
+    keeps_group_line ok (Some l) fits =
         keeps (put_words m k (group_line_words l)) s 1 (set 1 (omega arith))
         (keeps_words (group_line_words l) m k (λ j h. ok (k + j) _ (omega arith) (omega arith) (group_words_fit most l (fits l refl) j)) p)
 

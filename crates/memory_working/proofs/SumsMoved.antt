@@ -58,35 +58,34 @@ told {m} bytes held e sized accepted o x y small shift =
     }
 
 -- NEW: the quantity comes to count
-pub new_sums : {m : List ℕ} {id w p : ℕ} → Bytes m → id < 2 ^ 64 → Ready m (new_of id w) p w
-    → SumsChanged (order_of id w) 0 (remaining (order_of id w)) (open_orders m) (open_orders (worked m (new_of id w)))
+pub new_sums : {m : List ℕ} {id w p n : ℕ} → Bytes m → id < 2 ^ 64 → Ready m (new_of id w) p w → n ≡ remaining (order_of id w)
+    → SumsChanged (order_of id w) 0 n (open_orders m) (open_orders (worked m (new_of id w)))
 unfolding book_of
-new_sums {m} {id} {w} bytes word ready =
+new_sums {m} {id} {w} bytes word ready counts =
     let e = new_of id w in
     let o = order_of id w in
     let after = (work (view m) e).book.orders in
     let own : CountChanged (market_of m).unit o 0 (remaining o) (open_orders m) after =
     subst (λ (x : Order). CountChanged (market_of m).unit x 0 (remaining x) (open_orders m) after) (sym ready.named.1)
     (new_shift (view m) o.side o.account o.instrument id (pos o.total)) in
-    told bytes ready.held e word ready.accepted o 0 (remaining o)
-    (omega (arith, remaining_most o, (accepted_facts m ready.held e ready.accepted).2.1.1)) own
+    rw counts (told bytes ready.held e word ready.accepted o 0 (remaining o)
+    (omega (arith, remaining_most o, (accepted_facts m ready.held e ready.accepted).2.1.1)) own)
 
--- REPLACE, CANCEL and FILL: what remains after the change counts
-pub change_sums : {m : List ℕ} {id w p : ℕ} {c : OrderChange} → Bytes m → Ready m (Change id c) p w
-    → SumsChanged (order_of id w) (remaining (order_of id w)) (remaining (order_after c (order_of id w))) (open_orders m)
-    (open_orders (worked m (Change id c)))
+-- REPLACE, CANCEL and FILL: what remains of the order after the change counts
+pub change_sums : {m : List ℕ} {id w p n n' : ℕ} {c : OrderChange} {after : Order} → Bytes m → Ready m (Change id c) p w
+    → n ≡ remaining (order_of id w) → after ≡ order_after c (order_of id w) → n' ≡ remaining after
+    → SumsChanged (order_of id w) n n' (open_orders m) (open_orders (worked m (Change id c)))
 unfolding book_of
-change_sums {m} {id} {w} {p} {c} bytes ready =
+change_sums {m} {id} {w} {c = c} bytes ready counted made counts =
     let o = order_of id w in
-    let after = remaining (order_after c o) in
-    told bytes ready.held (Change id c) tt ready.accepted o (remaining o) after
-    (omega (arith, remaining_most (order_after c o), after_in ready)) (change_shift (view m) id o (found ready) c)
+    let most : remaining (order_after c o) ≤ 1000000 = omega (arith, remaining_most (order_after c o), after_in ready) in
+    rw (counted, counts, made) (told bytes ready.held (Change id c) tt ready.accepted o (remaining o) _ most
+    (change_shift (view m) id o (found ready) c))
 
 -- a setting leaves the open orders as they are; it is worked under the name that the match gives it
-pub setting_done : {m cells l : List ℕ} {e : Event} {x : Setting} {p w : ℕ} → Bytes m → e ≡ Set x → Ready m e p w → l ≡ worked m (Set x)
-    → Sums cells (open_orders m) → (l ≡ worked m e) × Sums cells (open_orders l)
+pub setting_sums : {m cells l : List ℕ} {e : Event} {x : Setting} {p w : ℕ} → Bytes m → e ≡ Set x → Ready m e p w → l ≡ worked m (Set x)
+    → Sums cells (open_orders m) → Sums cells (open_orders l)
 unfolding book_of book_after
-setting_done {m} {cells} {l} {e} {x} bytes same ready stored sums =
+setting_sums {m} {x = x} bytes same ready stored sums =
     let r = accepted_as same ready in
-    let kept = after_event_lem m bytes r.held (Set x) tt r.accepted in
-    (rw same stored, rw (stored, kept) sums)
+    rw (stored, after_event_lem m bytes r.held (Set x) tt r.accepted) sums

@@ -1,9 +1,7 @@
 -- The memory after an accepted event, by an equation for each kind.
 use Rattle.std.specs.Prelude.{◌≤◌, ◌≡◌, ◌∷◌, ◌+ℤ◌}
-use Rattle.integers.specs.Basics.{ℕ, Bool, true, not, cond, List, [], Option, none, some, pos, set}
+use Rattle.integers.specs.Basics.{ℕ, Bool, true, not, cond, List, [], Option, None, Some, ℤ, pos, set}
 use Rattle.ledger.specs.declared.order.Order.{Order}
-use Rattle.ledger.specs.declared.find.Found.{Found}
-use Rattle.ledger.specs.declared.find.Found.TheVariants.{At, Nothing}
 use Rattle.ledger.specs.Orders.{closes, place_from}
 use Rattle.ledger.specs.Records.{order_of}
 use Rattle.ledger.specs.Fillings.{fill_moves}
@@ -20,12 +18,14 @@ use Rattle.book.specs.declared.OrderChange.{OrderChange}
 use Rattle.book.specs.declared.Event.TheVariants.{Set, New, Change, Junk}
 use Rattle.book.specs.OpenOrders.{find, insert, change}
 use Rattle.book.specs.Books.{line_of, group_line_of, new_order, changed, filled_in}
-use Rattle.book.specs.Table.{figures_of_line_fit, change_in_range, fits_order}
+use Rattle.book.specs.Table.{line_fits, figures_of_line_fit, change_in_range, fits_order}
+use Rattle.memory_layout.specs.declared.orders.Named.{Named}
 use Rattle.memory_layout.specs.View.{market_of, balances_of, first_of, open_orders}
 use Rattle.memory_layout.specs.Judged.{judged, NamedAt}
 use Rattle.memory_layout.specs.Stores.{store_from, joined_first, left_first, rank, without}
 use Rattle.memory_layout.specs.FieldStores.{store_balance, store_mark, block_account, block_instrument, block_group, store_own, store_default}
 use Rattle.memory_layout.specs.FieldStores.{store_of_group}
+use Rattle.memory_soundness.specs.Cells.{Sums}
 use Rattle.memory_soundness.specs.SoundMemory.{SoundMemory}
 
 -- an accepted event at a sound desk
@@ -38,6 +38,11 @@ pub record Ready (m : List ℕ) (e : Event) (p w : ℕ) : Type 0 where
   pub held : SoundMemory m
   pub accepted : judged m e ≡ 0
   pub named : NamedAt m e p w
+
+-- and beside the memory stand B and V of its open orders, or none
+pub record Workable (m cells : List ℕ) (e : Event) (named : Named) : Type 0 where
+  pub ready : Ready m e named.place named.detail.0
+  pub sums : Sums cells (open_orders m)
 
 -- the NEW that enters the order of an id and a detail
 abbrev pub new_of : ℕ → ℕ → Event
@@ -56,6 +61,12 @@ pub record LineStorable (f : Figures) : Type 0 where
   pub most : largest ≤ 1000000000
   pub fits : figures_of_line_fit largest f ≡ true
 
+-- and the two of a group's line
+pub record GroupLineStorable (lcc lvc : ℤ) : Type 0 where
+  pub largest : ℕ
+  pub most : largest ≤ 1000000000
+  pub fits : line_fits largest (OfGroup 0 lcc lvc) ≡ true
+
 abbrev pub line_stored : List ℕ → ℕ → LimitLine → List ℕ
 line_stored m a (Own i f) = store_own m a i (line_of f)
 line_stored m a (Default c f) = store_default m a c (line_of f)
@@ -73,12 +84,12 @@ setting_stored m (Balance a i z) = store_balance m a i z
 setting_stored m (Block what z) = block_stored m what (not (is_zero z))
 
 -- where the first record stands when the order found at a place leaves
-abbrev pub gone_first : List ℕ → Found → ℕ
-gone_first m Nothing = first_of m
-gone_first m (At p) = left_first m p
+abbrev pub gone_first : List ℕ → Option ℕ → ℕ
+gone_first m None = first_of m
+gone_first m (Some p) = left_first m p
 
 -- and when it becomes what a change makes of it: another place only where it leaves
-abbrev pub first_after : List ℕ → Found → List Order → ℕ
+abbrev pub first_after : List ℕ → Option ℕ → List Order → ℕ
 first_after m found [] = gone_first m found
 first_after m found (o ∷ os) = first_of m
 
@@ -95,8 +106,8 @@ records_changed m id c o =
 -- the memory after a change of the order found: its record changes or leaves, and the balance of its account and instrument moves by what
 -- is filled
 abbrev pub order_changed : List ℕ → ℕ → OrderChange → Option Order → List ℕ
-order_changed m id c none = m
-order_changed m id c (some o) =
+order_changed m id c None = m
+order_changed m id c (Some o) =
     store_balance (records_changed m id c o) o.account o.instrument
     (balances_of m o.account o.instrument +ℤ fill_moves (market_of m).unit o.account o.instrument o (filled_in c))
 

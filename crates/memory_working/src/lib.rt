@@ -9,17 +9,16 @@ pub mod sums;
 ghost use Rattle.std.specs.Prelude.{◌≡◌};
 ghost use Rattle.memory_layout.specs.View.{open_orders};
 ghost use Rattle.memory_soundness.specs.Cells.{Sums};
-ghost use Rattle.memory_working.specs.Working.{Ready, worked};
+ghost use Rattle.memory_working.specs.Working.{Workable, worked};
 
 use crate::orders::{change_order, enter};
 use crate::settings::work_setting;
 use book::Event;
-use ledger::detail::Detail;
+use memory_layout::orders::Named;
 
-// Works an event of any kind. Of a NEW, `w` is the detail of the order that it enters, and `place` where it joins; of a REPLACE, CANCEL or
-// FILL that of the open order that it names, and where it stands.
-pub fn work(m: &mut [u8], cells: &mut [u64], e: Event, place: usize, w: Detail)
-    requires { Ready m.old e place w.0 × Sums cells.old (open_orders m.old) }
+// Works an event of any kind, with the order that it names as the judge hands it on.
+pub fn work(m: &mut [u8], cells: &mut [u64], e: Event, named: Named)
+    requires { Workable m.old cells.old e named }
     ensures memory { m.new ≡ worked m.old e }
     ensures sums { Sums cells.new (open_orders m.new) }
 {
@@ -31,8 +30,8 @@ pub fn work(m: &mut [u8], cells: &mut [u64], e: Event, place: usize, w: Detail)
             instrument,
             id,
             quantity,
-        } => enter(m, cells, id, w, place),
-        Event::Change { id, change } => change_order(m, cells, id, w, place, change),
+        } => enter(m, cells, id, named),
+        Event::Change { id, change } => change_order(m, cells, id, named, change),
         Event::Junk => {}
     }
 }

@@ -1,6 +1,7 @@
-// Working NEW, REPLACE, CANCEL and FILL: `w` is the detail that the judge hands on, of the order of that id which joins at place `place` of
-// the open orders, or stands there. The cells hold B and V of all accounts, before the event and after it, or
-// there are none.
+// Working NEW, REPLACE, CANCEL and FILL: the judge hands on the detail of the order of that id, and the place at which it joins the open
+// orders, or stands there. The cells hold B and V of all accounts, before the event and after it, or there are none.
+// Memory and cells are both written, and what is named of the event is handed on: a struct of them would hold `&mut` fields, whose lender
+// learns nothing.
 ghost use Rattle.std.specs.Prelude.{◌≡◌, ℕ, ◌≤◌, ◌<◌, nat_abs, ◌+ℤ◌};
 ghost use Rattle.words.specs.Words.{word_at};
 ghost use Rattle.ledger.specs.Positions.{toward, way_of};
@@ -11,27 +12,28 @@ ghost use Rattle.memory_layout.specs.Layout.{count_word};
 ghost use Rattle.memory_layout.specs.View.{open_orders};
 ghost use Rattle.memory_layout.specs.Stores.{Records};
 ghost use Rattle.memory_soundness.specs.Cells.{Sums};
-ghost use Rattle.memory_working.specs.Working.{Ready, new_of, Fitting, order_kept, worked};
+ghost use Rattle.memory_working.specs.Working.{Workable, new_of, Fitting, order_kept, worked};
 
 use crate::sums::recount;
 use book::OrderChange;
 use ledger::detail::Detail;
 use ledger::order::Side;
-use ledger::records::account_of;
 use ledger::units::Contracts;
-use memory_layout::orders::{insert_order, remove_order, replace_order};
-use memory_layout::readers::balance;
+use memory_layout::memory::Memory;
+use memory_layout::orders::{Named, insert_order, remove_order, replace_order};
+use memory_layout::readable::ReadableDesk;
 use memory_layout::stores::{set_balance, set_mark};
 
 // NEW: the order joins, and its account is marked as trading.
-pub fn enter(m: &mut [u8], cells: &mut [u64], id: u64, w: Detail, place: usize)
-    requires { Ready m.old (new_of id w.0) place w.0 × Sums cells.old (open_orders m.old) }
-    ensures memory { m.new ≡ worked m.old (new_of id w.0) }
+pub fn enter(m: &mut [u8], cells: &mut [u64], id: u64, named: Named)
+    requires { Workable m.old cells.old (new_of id named.detail.0) named }
+    ensures memory { m.new ≡ worked m.old (new_of id named.detail.0) }
     ensures sums { Sums cells.new (open_orders m.new) }
 {
+    let w = named.detail;
     recount(cells, w, 0, w.remaining());
-    insert_order(m, place, id, w);
-    set_mark(m, account_of(w.0) as usize);
+    insert_order(m, named.place, id, w);
+    set_mark(m, w.account() as usize);
 }
 
 // What a change makes of the order of a detail.
@@ -52,8 +54,8 @@ fn balance_after(side: Side, balance: Contracts, n: Contracts) -> Contracts
     ensures { result.0 ≡ balance.0 +ℤ toward (way_of side) n.0 }
 {
     match side {
-        Side::Buy => balance.plus(n),
-        Side::Sell => balance.less(n),
+        Side::Buy => balance + n,
+        Side::Sell => balance - n,
     }
 }
 
@@ -70,27 +72,21 @@ fn keep_order(m: &mut [u8], place: usize, id: u64, next: Detail)
 }
 
 // REPLACE, CANCEL and FILL: the open order becomes what the change makes of it, and S moves by what is filled.
-pub fn change_order(
-    m: &mut [u8],
-    cells: &mut [u64],
-    id: u64,
-    w: Detail,
-    place: usize,
-    change: OrderChange,
-)
-    requires { Ready m.old (Change id change) place w.0 × Sums cells.old (open_orders m.old) }
+pub fn change_order(m: &mut [u8], cells: &mut [u64], id: u64, named: Named, change: OrderChange)
+    requires { Workable m.old cells.old (Change id change) named }
     ensures memory { m.new ≡ worked m.old (Change id change) }
     ensures sums { Sums cells.new (open_orders m.new) }
 {
+    let w = named.detail;
     let next = detail_after(w, change);
     recount(cells, w, w.remaining(), next.remaining());
-    let o = w.order(id);
-    let account = o.account as usize;
-    let instrument = o.instrument as usize;
-    let side = o.side;
-    let before = Contracts(balance(m, account, instrument));
-    keep_order(m, place, id, next);
+    let account = w.account() as usize;
+    let instrument = w.instrument() as usize;
+    let memory = Memory { bytes: m };
+    let desk = ReadableDesk { memory };
+    let before = Contracts(desk.account(account).balance(instrument));
+    keep_order(m, named.place, id, next);
     let filled = Contracts::of(next.filled() - w.filled());
-    let after = balance_after(side, before, filled);
+    let after = balance_after(w.side(), before, filled);
     set_balance(m, account, instrument, after.0);
 }

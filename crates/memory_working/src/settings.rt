@@ -1,65 +1,45 @@
 // Working a setting, LIMIT, BALANCE or BLOCK: the figures become that line, S or block.
-ghost use Rattle.std.specs.Prelude.{◌≡◌, false, ◌+◌, ◌*◌, ◌≤◌, length};
-ghost use Rattle.std.proofs.Math.Option.{some};
+ghost use Rattle.std.specs.Prelude.{◌≡◌};
 ghost use Rattle.book.specs.declared.Setting.TheVariants.{Limit, Balance, Block};
 ghost use Rattle.book.specs.declared.Event.TheVariants.{Set};
-ghost use Rattle.book.specs.declared.LimitLine.TheVariants.{OfGroup};
-ghost use Rattle.book.specs.Books.{unsets, line_of, group_line_of};
-ghost use Rattle.memory_layout.specs.FieldStores.{store_line, store_of_group, line_with};
-ghost use Rattle.memory_working.specs.Working.{AcceptedEvent, LineStorable, worked};
+ghost use Rattle.book.specs.Books.{line_of, group_line_of};
+ghost use Rattle.memory_working.specs.Working.{AcceptedEvent, LineStorable, GroupLineStorable, worked};
 
 use book::{Blocked, Figures, LimitLine, Setting, is_minus_one};
+use limits::lines::{GroupLine, Line};
 use memory_layout::stores::{
-    LineWords, block_account, block_group, block_instrument, default_line, own_line, set_balance,
-    set_line, set_of_group, unset_line, unset_of_group,
+    block_account, block_group, block_instrument, default_line, own_line, set_balance, set_line,
+    set_of_group,
 };
 
-// The figures of a line that is set.
-#[derive(Clone, Copy)]
-struct Limits {
-    tci: u32,
-    tvi: u32,
-    lci: u32,
-    lvi: u32,
-}
-
-fn limits_of(figures: Figures) -> Limits
-    requires { LineStorable figures × (unsets figures ≡ false) }
-    ensures { line_of figures ≡ some (line_with result.tci result.tvi result.lci result.lvi) }
+// The line that four figures set: −1 throughout and it is set no more.
+fn line_of(figures: Figures) -> Option<Line>
+    requires { LineStorable figures }
+    ensures { result ≡ line_of figures }
 {
-    Limits {
+    if figures.unsets() {
+        return None;
+    }
+    Some(Line {
         tci: figures.tci as u32,
         tvi: figures.tvi as u32,
         lci: figures.lci as u32,
         lvi: figures.lvi as u32,
-    }
-}
-
-// A line of four figures: −1 throughout and it is set no more.
-fn work_line(m: &mut [u8], at: LineWords, figures: Figures)
-    requires { (at.0 * 8 + 8 ≤ length m.old) × (at.1 * 8 + 16 ≤ length m.old) × LineStorable figures }
-    ensures { m.new ≡ store_line m.old at.0 at.1 (line_of figures) }
-{
-    if figures.unsets() {
-        unset_line(m, at);
-    } else {
-        let l = limits_of(figures);
-        set_line(m, at, l.tci, l.tvi, l.lci, l.lvi);
-    }
+    })
 }
 
 // A group's line: an accepted LCC of −1 stands beside an LVC of −1, and the line is set no more.
-fn work_of_group(m: &mut [u8], account: u64, group: u64, lcc: i64, lvc: i64)
-    requires { AcceptedEvent m.old (Set (Limit account (OfGroup group lcc lvc))) }
-    ensures { m.new ≡ store_of_group m.old account group (group_line_of lcc lvc) }
+fn group_line_of(lcc: i64, lvc: i64) -> Option<GroupLine>
+    requires { GroupLineStorable lcc lvc }
+    ensures { result ≡ group_line_of lcc lvc }
 {
-    let a = account as usize;
-    let g = group as usize;
     if is_minus_one(lcc) {
-        unset_of_group(m, a, g);
-    } else {
-        set_of_group(m, a, g, lcc as u32, lvc as u32);
+        return None;
     }
+    Some(GroupLine {
+        lcc: lcc as u32,
+        lvc: lvc as u32,
+    })
 }
 
 // LIMIT: the line of each level.
@@ -72,13 +52,18 @@ pub fn work_limit(m: &mut [u8], account: u64, line: LimitLine)
         LimitLine::Own {
             instrument,
             figures,
-        } => work_line(m, own_line(a, instrument as usize), figures),
-        LimitLine::Default { contract, figures } => work_line(
+        } => set_line(m, own_line(a, instrument as usize), line_of(figures)),
+        LimitLine::Default { contract, figures } => set_line(
             m,
             default_line(a, contract as usize),
-            figures,
+            line_of(figures),
         ),
-        LimitLine::OfGroup { group, lcc, lvc } => work_of_group(m, account, group, lcc, lvc),
+        LimitLine::OfGroup { group, lcc, lvc } => set_of_group(
+            m,
+            a,
+            group as usize,
+            group_line_of(lcc, lvc),
+        ),
     }
 }
 

@@ -6,7 +6,6 @@ ghost use Rattle.memory_soundness.specs.Cells.{Sums};
 ghost use Rattle.memory_working.specs.SumsChanged.{SumsChanged, Countable};
 
 use ledger::detail::Detail;
-use ledger::records::packed_of;
 use ledger::units::Contracts;
 
 // What counts of the order of a detail goes from `before` contracts to `after`.
@@ -17,12 +16,9 @@ pub fn recount(cells: &mut [u64], w: Detail, before: u64, after: u64)
         SumsChanged (order_of id w.0) before after orders orders' →
         Sums cells.new orders' }
 {
-    if cells.len() == 0 {
+    if cells.is_empty() {
         return;
     }
-    let j = 65 + packed_of(w.0) as usize;
-    cells[j] = Contracts::of(cells[j])
-        .plus(Contracts::of(after))
-        .less(Contracts::of(before))
-        .number();
+    let j = 65 + w.packed() as usize;
+    cells[j] = (Contracts::of(cells[j]) + Contracts::of(after) - Contracts::of(before)).number();
 }

@@ -1,91 +1,67 @@
 -- What remains after the change counts; the record and the balance are what the definition says of the order that the event names.
-use Rattle.std.specs.Prelude.{◌+◌, ◌≡◌}
-use Rattle.integers.specs.Basics.{ℕ, ◌∙◌, sym, ap, pos, arith}
-use Rattle.ledger.specs.Records.{order_of}
-use Rattle.book.specs.declared.OrderChange.{OrderChange}
-use Rattle.book.specs.Books.{order_after, filled_in}
-use Rattle.book.proofs.OrderChanges.{after_filled}
+use Rattle.std.specs.Prelude.{◌≡◌}
+use Rattle.integers.specs.Basics.{◌∙◌, ap, pos, arith, rules}
+use Rattle.book.specs.Books.{filled_in}
+use Rattle.memory_soundness.proofs.Bounded.{sound_readable}
 use Rattle.memory_working.proofs.Changing.{fitting, inside, kept_there}
-use Rattle.memory_working.proofs.Filling.{filled_small, balance_room, balance_readable, read_small, change_worked}
+use Rattle.memory_working.proofs.Filling.{filled_small, more_filled, both_on_roster, read_small, change_worked}
 use Rattle.memory_working.proofs.SumsMoved.{change_sums}
 use Rattle.memory_working.proofs.Keeping.{recountable}
 use Rattle.memory_working.proofs.orders.change_order.Goals as goal
 
--- what is filled after a change, by the details w and w', and what is filled by it
-filled : (c : OrderChange) (id w w' : ℕ) {n n' : ℕ} → order_of id w' ≡ order_after c (order_of id w) → n' ≡ (order_of id w').filled
-    → n ≡ (order_of id w).filled → n' ≡ n + filled_in c
-filled c id w w' made after before =
-    after ∙ ap (λ o. o.filled) made ∙ after_filled c (order_of id w) ∙ ap (λ n. n + filled_in c) (sym before)
+pub detail_after-next-requires : goal.detail_after-next-requires
+detail_after-next-requires c = fitting c.requires.ready
 
 pub recount-requires : goal.recount-requires
 recount-requires c =
-    rw (c.remaining.ensures c.args.id, c.remaining-2.ensures c.args.id, c.detail_after-next.ensures c.args.id)
-    (recountable c.args.id _ c.requires.0.held c.requires.1
-    (change_sums (λ i. (c.slice_known-1.given i).fits) c.requires.0))
+    let id = c.args.id in
+    recountable id _ c.requires.ready.held c.requires.sums
+    (change_sums (λ i. search rules) c.requires.ready (c.remaining.ensures.of_order id) (c.detail_after-next.ensures id)
+    (c.remaining-2.ensures.of_order id))
 
-pub of-filled-requires : goal.of-filled-requires
-of-filled-requires c =
-    omega (
-      arith,
-      filled c.args.change c.args.id _ _ (c.detail_after-next.ensures c.args.id) (c.filled.ensures c.args.id)
-          (c.filled-2.ensures c.args.id),
-      filled_small c.requires.0,
-    )
+pub invariant_of-desk : goal.invariant_of-desk
+invariant_of-desk c = sound_readable _ c.requires.ready.held
+
+pub account-requires : goal.account-requires
+account-requires c = (both_on_roster c.requires.ready c.account-account.ensures c.instrument-instrument.ensures).0
+
+pub balance-requires : goal.balance-requires
+balance-requires c = rw c.account.ensures.0 (both_on_roster c.requires.ready c.account-account.ensures c.instrument-instrument.ensures).1
+
+pub keep_order-requires : goal.keep_order-requires
+keep_order-requires c = inside c.requires.ready
+
+pub overflow_sub-filled : goal.overflow_sub-filled
+overflow_sub-filled c =
+    let id = c.args.id in
+    let made = c.detail_after-next.ensures id in
+    let more = more_filled c.requires.ready (c.filled-2.ensures.of_order id) made (c.filled.ensures.of_order id) in
+    omega arith
 
 pub balance_after-after-requires : goal.balance_after-after-requires
 balance_after-after-requires c =
-    let read = rw c.order-o.ensures at c.balance.ensures in
-    let moved : c.of-filled.result.0 ≡ pos (filled_in c.args.change) =
-    c.of-filled.ensures
-    ∙ ap pos (omega (
-      arith,
-      filled c.args.change c.args.id _ _ (c.detail_after-next.ensures c.args.id) (c.filled.ensures c.args.id)
-          (c.filled-2.ensures c.args.id),
-    )) in
-    (read_small c.requires.0 (record { sfits = c.balance.type_inv }) read, rw moved (filled_small c.requires.0))
-
-pub set_balance-requires : goal.set_balance-requires
-set_balance-requires c =
-    rw c.order-o.ensures
-    (omega (arith, balance_room c.requires.0))
+    let id = c.args.id in
+    let made = c.detail_after-next.ensures id in
+    let more = more_filled c.requires.ready (c.filled-2.ensures.of_order id) made (c.filled.ensures.of_order id) in (
+      read_small c.requires.ready c.account-account.ensures c.instrument-instrument.ensures (search rules)
+          (rw (c.account.ensures.0, c.account.ensures.1) at c.balance.ensures),
+      rw c.of-filled.ensures (omega (arith, filled_small c.requires.ready)),
+    )
 
 pub returns : goal.returns
 returns c =
-    let read = rw c.order-o.ensures at c.balance.ensures in
-    let moved : c.of-filled.result.0 ≡ pos (filled_in c.args.change) =
-    c.of-filled.ensures
-    ∙ ap pos (omega (
-      arith,
-      filled c.args.change c.args.id _ _ (c.detail_after-next.ensures c.args.id) (c.filled.ensures c.args.id)
-          (c.filled-2.ensures c.args.id),
-    )) in
-    let stored = change_worked c.requires.0 (record { sfits = c.balance.type_inv }) read
-    (c.keep_order.ensures
-    ∙ kept_there c.requires.0 (c.detail_after-next.ensures c.args.id))
-    (rw (moved, c.order-o.ensures) at c.balance_after-after.ensures)
-    (rw c.order-o.ensures at c.set_balance.ensures) in
+    let id = c.args.id in
+    let made = c.detail_after-next.ensures id in
+    let more = more_filled c.requires.ready (c.filled-2.ensures.of_order id) made (c.filled.ensures.of_order id) in
+    let filled : c.of-filled.result.0 ≡ pos (filled_in c.args.change) = c.of-filled.ensures ∙ ap pos (omega arith) in
+    let stored =
+    change_worked c.requires.ready c.account-account.ensures c.instrument-instrument.ensures (search rules)
+    (rw (c.account.ensures.0, c.account.ensures.1) at c.balance.ensures) (c.keep_order.ensures ∙ kept_there c.requires.ready made)
+    c.side.ensures filled c.balance_after-after.ensures c.set_balance.ensures in
     record {
       memory = stored;
       sums =
           rw stored
-          (c.recount.ensures c.args.id _ _ c.requires.1
-          (rw (c.remaining.ensures c.args.id, c.remaining-2.ensures c.args.id, c.detail_after-next.ensures c.args.id)
-          (change_sums (λ i. (c.slice_known-1.given i).fits) c.requires.0)));
+          (c.recount.ensures id _ _ c.requires.sums
+          (change_sums (λ i. search rules) c.requires.ready (c.remaining.ensures.of_order id) made (c.remaining-2.ensures.of_order id)));
     }
-
-pub detail_after-next-requires : goal.detail_after-next-requires
-detail_after-next-requires c = fitting c.requires.0
-
-pub balance-requires : goal.balance-requires
-balance-requires c = rw c.order-o.ensures (balance_readable c.requires.0)
-
-pub keep_order-requires : goal.keep_order-requires
-keep_order-requires c = inside c.requires.0
-
-pub overflow_sub-filled : goal.overflow_sub-filled
-overflow_sub-filled c =
-    omega (
-      arith,
-      filled c.args.change c.args.id _ _ (c.detail_after-next.ensures c.args.id) (c.filled.ensures c.args.id)
-          (c.filled-2.ensures c.args.id),
-    )

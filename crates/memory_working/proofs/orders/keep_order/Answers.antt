@@ -7,11 +7,11 @@ use Rattle.memory_working.proofs.orders.keep_order.Goals as goal
 pub returns-then-remaining-eq0 : goal.returns-then-remaining-eq0
 unfolding closes
 returns-then-remaining-eq0 c =
-    let none = sym (c.remaining.ensures c.args.id) ∙ c.if-remaining-eq0.true in
+    let none = sym (c.remaining.ensures.of_order c.args.id) ∙ c.if-remaining-eq0.true in
     rw (eq-eqb (remaining (order_of c.args.id c.args.next.0)) 0 none) c.remove_order.ensures
 
 pub returns-else-remaining-eq0 : goal.returns-else-remaining-eq0
 unfolding closes
 returns-else-remaining-eq0 c =
-    let read = c.remaining.ensures c.args.id in
+    let read = c.remaining.ensures.of_order c.args.id in
     rw (ne_eqb (remaining (order_of c.args.id c.args.next.0)) 0 (λ e. c.if-remaining-eq0.false (read ∙ e))) c.replace_order.ensures
