@@ -6,10 +6,10 @@ use Rattle.limits.proofs.Answers.{and_true, Counted, pass_zero, zero_pass, appen
 use Rattle.claim.specs.GateDemands.{OneOf, FirstFailed, Answers}
 
 -- ---- the first that fails
-module _ (n : ℕ) (Some_number : n ≢ 0) where
+module _ (n : ℕ) (some_number : n ≢ 0) where
   fails : (qs : List Question) → first_no qs ≡ n → FirstFailed qs n
   unfolding first_no all_pass
-  fails [] e = absurd (Some_number (sym e))
+  fails [] e = absurd (some_number (sym e))
   fails (q ∷ qs) e = by (fails qs) q.passes refl e
     where
       later : FirstFailed qs n → q.passes ≡ true → FirstFailed (q ∷ qs) n
@@ -40,7 +40,7 @@ module _ (n : ℕ) (Some_number : n ≢ 0) where
 pub answers : (qs : List Question) → Counted qs → Answers qs (first_no qs)
 answers qs counted =
     record {
-      refused = λ n Some_number. (fails n Some_number qs, failed n Some_number qs);
+      refused = λ n some_number. (fails n some_number qs, failed n some_number qs);
       accepted = (zero_pass qs counted, pass_zero qs);
     }
 

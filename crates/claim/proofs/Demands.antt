@@ -1,7 +1,7 @@
 -- The three demands as the claim says them, each taken from what is proved of the gate.
-use Rattle.std.specs.Prelude.{◌≤◌, ◌≡◌, ◌⊎◌, ◌↔◌, ◌≢◌, ◌∷◌, ◌++◌}
+use Rattle.std.specs.Prelude.{◌≤◌, ◌≡◌, ◌↔◌, ◌≢◌, ◌∷◌, ◌++◌}
 use Rattle.integers.specs.Basics.{ℕ, refl, ◌∙◌, ap, subst, inl, inr, ⊎_elim, Bool, true, false, cond, List}
-use Rattle.integers.specs.Basics.{[], map, ListMemᴰ, ListMemᴰ_head, ListMemᴰ_tail, ListMemᴰ_not_nil, Option, none, some}
+use Rattle.integers.specs.Basics.{[], map, ListMemᴰ, ListMemᴰ_head, ListMemᴰ_tail, ListMemᴰ_not_nil, Option, None, Some}
 use Rattle.integers.specs.Basics.{length, arith}
 use mathlib.Core.List.Memᴰ
 use lib.ListN.{length-append, length-map}
@@ -22,7 +22,6 @@ use Rattle.memory_opening.specs.Questions.{roster_from, opening_questions}
 use Rattle.memory_opening.specs.Opening.{after_opening}
 use Rattle.memory_reading.specs.Reading.{reading_questions}
 use Rattle.desk.specs.Step.{event_questions, answer_to, after_event}
-use Rattle.desk.specs.Run.{answered}
 use Rattle.desk.proofs.RunLoop.{length_answers}
 use Rattle.claim.specs.RunList.{Whole}
 use Rattle.claim.specs.GateDemands.{OneOf, FirstFailed, Answers, gate, kept_after}
@@ -40,8 +39,8 @@ unfolding questions questions_before limit_questions position_questions
 numbers_in_order sound k e = rw (at_the_end (entered k.book e))
   where
     at_the_end : (x : Option Order) → numbers_of (positions_after (work k e) x) ≡ cond (is_set x) asked_last []
-    at_the_end none = refl
-    at_the_end (some o) = refl
+    at_the_end None = refl
+    at_the_end (Some o) = refl
 
 event_numbers : (m e : List ℕ) → numbers_of (event_questions m e)
     ≡ asked_first ++ cond (is_set (entered (book_of m) (decode e))) asked_last []

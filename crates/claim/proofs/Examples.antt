@@ -1,6 +1,6 @@
 -- Instances from what is computed of the plain book: each conclusion is drawn by one of the three demands.
 use Rattle.std.specs.Prelude.{◌≡◌, ◌⊎◌, ◌≢◌, ◌∷◌, ◌++◌, ◌<ℤ◌}
-use Rattle.integers.specs.Basics.{ℕ, refl, ◌∙◌, sym, ap, inl, ⊎_elim, true, List, [], some, ℤ, arith}
+use Rattle.integers.specs.Basics.{ℕ, refl, ◌∙◌, sym, ap, inl, ⊎_elim, true, List, [], Some, ℤ, arith}
 use Rattle.words.specs.Bytes.{Bytes}
 use Rattle.ledger.specs.declared.order.Order.{Order}
 use Rattle.ledger.specs.Derivatives.{one}
@@ -56,7 +56,7 @@ abbrev Asks : List ℕ → List (List ℕ) → List ℕ → Order → Type 0
 Asks s events n o =
     let kept = plain_state s events in
     (as_bytes n ≡ n)
-    × (entered kept.book (as_event (written n)) ≡ some o)
+    × (entered kept.book (as_event (written n)) ≡ Some o)
     × (all_pass (questions_before kept (as_event (written n))) ≡ true)
 
 -- no accepted event of the later ones sets the limit of o's position again

@@ -1,6 +1,6 @@
 -- The three demands of the gate over bytes.
 use Rattle.std.specs.Prelude.{◌≤◌, ◌≡◌, ◌≢◌, ◌∷◌, ◌++◌}
-use Rattle.integers.specs.Basics.{ℕ, refl, ◌∙◌, sym, ap, by_cases, List, Option, none, some, ℤ, get_or, ℕ_discrete}
+use Rattle.integers.specs.Basics.{ℕ, refl, ◌∙◌, sym, ap, by_cases, List, Option, None, Some, ℤ, get_or, ℕ_discrete}
 use Rattle.integers.specs.Basics.{arith, eq-eqb, ne_eqb}
 use Rattle.ledger.specs.declared.order.Order.{Order}
 use Rattle.ledger.specs.Positions.{potential, of_instrument}
@@ -43,8 +43,8 @@ is_table m e = refl
 
 counted_table : (m e : List ℕ) (x : Option Order) → Counted (table m e x)
 unfolding questions_before position_questions
-counted_table m e none = omega arith
-counted_table m e (some o) = omega arith
+counted_table m e None = omega arith
+counted_table m e (Some o) = omega arith
 
 event_answers : (m e : List ℕ) → Answers (event_questions m e) (answer_to m e)
 unfolding answer_to

@@ -4,7 +4,7 @@
 -- instrument_answer, group_answer, their reports and `reported` (the readers), and answer_to and after_event along a list of events
 -- (desk_run).
 use Rattle.std.specs.Prelude.{◌≤◌, ◌<◌, ◌≡◌, ◌⊎◌, ◌↔◌, ◌≢◌, ◌∷◌, ◌++◌, ◌+ℤ◌, ◌≤ℤ◌, ◌<ℤ◌}
-use Rattle.integers.specs.Basics.{ℕ, true, false, cond, List, [], map, ListMemᴰ, some, ℤ, neg_ℤ}
+use Rattle.integers.specs.Basics.{ℕ, true, false, cond, List, [], map, ListMemᴰ, Some, ℤ, neg_ℤ}
 use Rattle.integers.specs.Basics.{length, get_or, drop, replicate}
 use Rattle.words.specs.Bytes.{Bytes}
 use Rattle.ledger.specs.declared.order.Order.{Order}
@@ -132,7 +132,7 @@ Demand3 =
     -- "After it let N be a new order, or a replace that raises one (then counted once, at its new total), that passes every check before
     -- the position limits." o is the order that N enters, or raises to its new total
     ((n : RawEvent) (o : Order)
-    → entered book (as_event n) ≡ some o
+    → entered book (as_event n) ≡ Some o
     → all_pass (questions_before kept (as_event n)) ≡ true
     → (let with_n = book_after one book (as_event n) in
     -- "N is refused for a position limit exactly when some filling of the open orders and N, each by any whole number from none to all

@@ -1,6 +1,6 @@
 -- What an instance of the claim shows, over bytes: the premises of a demand met, and its conclusion drawn. Lists are of events written out.
 use Rattle.std.specs.Prelude.{◌≡◌, ◌⊎◌, ◌∷◌, ◌++◌, ◌≤ℤ◌, ◌<ℤ◌}
-use Rattle.integers.specs.Basics.{ℕ, true, List, [], some, ℤ}
+use Rattle.integers.specs.Basics.{ℕ, true, List, [], Some, ℤ}
 use Rattle.ledger.specs.declared.order.Order.{Order}
 use Rattle.ledger.specs.Derivatives.{one}
 use Rattle.ledger.specs.Positions.{Scope, Way, position}
@@ -35,7 +35,7 @@ state_at m s events = state_after gate (after_opening m s) (begun derivatives (r
 -- ---- N after events: an order o is entered, or raised to its new total, and every check before the position limits is passed
 pub record OrderAsked (m s : List ℕ) (events : List (List ℕ)) (n : List ℕ) (o : Order) : Type 0 where
   pub bytes : as_bytes n ≡ n
-  pub enters : entered (state_at m s events).book (as_event (written n)) ≡ some o
+  pub enters : entered (state_at m s events).book (as_event (written n)) ≡ Some o
   pub passes : all_pass (questions_before (state_at m s events) (as_event (written n))) ≡ true
 
 -- some filling of book b's orders puts a position of o's account past its limit on a side to which o's fills move it

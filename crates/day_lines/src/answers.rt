@@ -1,152 +1,129 @@
-// The lines of answers: `E` place answer. Room is made once for a line. The places of ten lines share all digits but the last, and these,
-// the tens, are made once for the ten.
-ghost use Rattle.std.specs.Prelude.{◌+◌, ◌-◌, ◌<◌, ◌≤◌, ◌≡◌, length};
+// The lines of answers: `E` place answer. The places of ten lines share all digits but the last: these, the tens, are made once for the
+// ten, and so is room for the lines.
+ghost use Rattle.std.specs.Prelude.{◌≡◌, ◌+◌, ◌%◌, ◌^◌, ◌<◌, ◌≤◌, length, take, decimal};
 
-use crate::output::{FAILED, flush, put_digits};
+use crate::output::Lines;
+use itoa::Buffer;
+use std::io;
 use std::io::Write;
-
-// The events of a block, each of which has an answer.
-pub const BLOCK_EVENTS: usize = 1024;
 
 // The bytes of the longest line: `E`, two spaces, a place of 20 digits, an answer of 3, and the line's end.
 const LINE: usize = 27;
 
-// How many bytes of the buffer are free; none where `used` is FAILED.
-fn free(buf: &[u8], used: usize) -> usize
-    ensures { result ≡ length buf.now - used }
+// Puts the digits of a number in decimal at the start of `text`: how many they are. Once for ten lines,
+// which share them.
+pub fn put_digits(text: &mut [u8; 20], n: u64) -> usize
+    ensures within { result ≤ 20 }
+    ensures digits { take result text.new ≡ decimal n }
 {
-    if used < buf.len() {
-        buf.len() - used
-    } else {
-        0
+    let mut buffer = Buffer::new();
+    let digits = buffer.format(n).as_bytes();
+    text[..digits.len()].copy_from_slice(digits);
+    digits.len()
+}
+
+// The tens of a place: their digits, and how many they are; none where the place has one digit.
+#[derive(Clone, Copy)]
+struct Tens {
+    text: [u8; 20],
+    count: usize,
+    ghost few: { count ≤ 19 },
+}
+
+impl Tens {
+    fn of(place: u64) -> Tens {
+        let mut text = [0; 20];
+        if place < 10 {
+            return Tens { text, count: 0 };
+        }
+        let count = put_digits(&mut text, place / 10);
+        Tens { text, count }
     }
 }
 
-// Puts a byte: where the next goes.
-fn put_byte(buf: &mut [u8], at: usize, byte: u8) -> usize
-    requires { at < length buf.old }
-    ensures { result ≡ at + 1 }
+// The digit of a number below ten.
+fn digit(number: u8) -> u8
+    requires { number < 10 }
 {
-    buf[at] = byte;
-    at + 1
+    b'0' + number
 }
 
-// Puts a digit: where the next byte goes.
-fn put_digit(buf: &mut [u8], at: usize, digit: u8) -> usize
-    requires { (at < length buf.old) × (digit < 10) }
-    ensures { result ≡ at + 1 }
+// Puts two digits. An answer's are put by hand: it has one or two, and stands at a fixed place behind those of its line.
+fn put_two(text: &mut [u8], number: u8)
+    requires { (2 ≤ length text.old) × (number < 100) }
 {
-    put_byte(buf, at, b'0' + digit)
+    text[0] = digit(number / 10);
+    text[1] = digit(number % 10);
 }
 
-// Puts two digits: where the next byte goes.
-fn put_two(buf: &mut [u8], at: usize, number: u8) -> usize
-    requires { (at + 2 ≤ length buf.old) × (number < 100) }
-    ensures { result ≡ at + 2 }
-{
-    let next = put_digit(buf, at, number / 10);
-    put_digit(buf, next, number % 10)
-}
-
-// Puts an answer, one to three digits: where the next byte goes.
-fn put_answer(buf: &mut [u8], at: usize, answer: u8) -> usize
-    requires { at + 3 ≤ length buf.old }
-    ensures { result ≤ at + 3 }
+// Puts an answer: how many digits it has.
+fn put_answer(text: &mut [u8], answer: u8) -> usize
+    requires { 3 ≤ length text.old }
+    ensures { result ≤ 3 }
 {
     if answer < 10 {
-        return put_digit(buf, at, answer);
+        text[0] = digit(answer);
+        return 1;
     }
     if answer < 100 {
-        return put_two(buf, at, answer);
+        put_two(text, answer);
+        return 2;
     }
-    let next = put_digit(buf, at, answer / 100);
-    put_two(buf, next, answer % 100)
+    text[0] = digit(answer / 100);
+    put_two(&mut text[1..], answer % 100);
+    3
 }
 
-// Puts the tens of a place. All 20 bytes are put, also those behind the digits: a copy of fixed length is two moves.
-fn put_tens(buf: &mut [u8], at: usize, tens: &[u8; 20])
-    requires { at + 20 ≤ length buf.old }
+// Puts the line of a place, whose tens and last digit are given, and its answer: how many bytes it has. All 20 bytes of the tens are put,
+// also those behind their digits. A copy of fixed length by a loop is two moves; `copy_from_slice` was slower: it compares the addresses.
+fn put_line(line: &mut [u8], tens: &Tens, last: u8, answer: u8) -> usize
+    requires { (27 ≤ length line.old) × (last < 10) }
+    ensures { result ≤ 27 }
 {
+    line[0] = b'E';
+    line[1] = b' ';
     for k in 0..20 {
-        buf[at + k] = tens[k];
+        line[2 + k] = tens.text[k];
     }
+    let at = 2 + tens.count;
+    line[at] = digit(last);
+    line[at + 1] = b' ';
+    let end = at + 2 + put_answer(&mut line[at + 2..], answer);
+    line[end] = b'\n';
+    end + 1
 }
 
-// Puts the line of a place, whose tens have so many digits, and its answer: where the next byte goes.
-fn put_line(
-    buf: &mut [u8],
-    at: usize,
-    tens: &[u8; 20],
-    digits: usize,
-    place: u64,
-    answer: u8,
-) -> usize
-    requires { (at + 27 ≤ length buf.old) × (digits ≤ 19) }
-{
-    let mut next = put_byte(buf, at, b'E');
-    next = put_byte(buf, next, b' ');
-    put_tens(buf, next, tens);
-    next = put_digit(buf, next + digits, (place % 10) as u8);
-    next = put_byte(buf, next, b' ');
-    next = put_answer(buf, next, answer);
-    put_byte(buf, next, b'\n')
-}
-
-// Adds such a line, once there is room for it.
-fn answer_line<W: Write>(
-    out: &mut W,
-    buf: &mut [u8],
-    used: usize,
-    tens: &[u8; 20],
-    digits: usize,
-    place: u64,
-    answer: u8,
-) -> usize
-    requires { digits ≤ 19 }
-{
-    let mut at = used;
-    if free(buf, at) < LINE {
-        at = flush(out, buf, at);
-    }
-    if free(buf, at) < LINE {
-        return FAILED;
-    }
-    put_line(buf, at, tens, digits, place, answer)
-}
-
-// Makes the tens of a place: how many digits they have, none where the place has one.
-fn tens_of(place: u64, tens: &mut [u8; 20]) -> usize
-    ensures { result ≤ 19 }
-{
-    if place < 10 {
-        return 0;
-    }
-    put_digits(tens, place / 10)
-}
-
-// The lines of the first `count` answers, `before` events having come before theirs.
-pub fn answer_lines<W: Write>(
-    out: &mut W,
-    buf: &mut [u8],
-    used: usize,
-    answers: &[u8; BLOCK_EVENTS],
-    count: usize,
-    before: u64,
-) -> usize
-    requires { before < 9223372036854775808 }
-{
-    let mut tens = [0u8; 20];
-    let mut digits = tens_of(before, &mut tens);
-    let mut at = used;
-    for k in 0..BLOCK_EVENTS {
-        if count <= k {
-            return at;
+impl<W: Write> Lines<W> {
+    // Adds the lines of answers whose places have the same tens; `place` is the first.
+    fn add_ten(&mut self, answers: &[u8], place: u64) -> io::Result<()>
+        requires { place % 10 + length answers.now ≤ 10 }
+    {
+        if !self.has_room(10 * LINE) {
+            self.write_waiting()?;
         }
-        let place = before + k as u64 + 1;
-        if place % 10 == 0 {
-            digits = tens_of(place, &mut tens);
+        let tens = Tens::of(place);
+        let first = (place % 10) as u8;
+        let mut at = self.used;
+        for (k, answer) in answers.iter().enumerate() {
+            at += put_line(&mut self.buffer[at..], &tens, first + k as u8, *answer);
         }
-        at = answer_line(out, buf, at, &tens, digits, place, answers[k]);
+        self.used = at;
+        Ok(())
     }
-    at
+}
+
+// The lines of answers, `before` events having come before theirs: a turn takes those of one ten.
+pub fn answer_lines<W: Write>(lines: &mut Lines<W>, answers: &[u8], before: u64) -> io::Result<()>
+    requires { before < 2 ^ 63 }
+{
+    let mut place = before + 1;
+    let mut rest = answers;
+    while !rest.is_empty() {
+        let count = rest.len().min(10 - (place % 10) as usize);
+        let (ten, behind) = rest.split_at(count);
+        lines.add_ten(ten, place)?;
+        place += count as u64;
+        rest = behind;
+    }
+    Ok(())
 }

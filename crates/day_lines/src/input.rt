@@ -1,35 +1,20 @@
 // Standard input, in blocks.
-ghost use Rattle.std.specs.Prelude.{◌≤◌, length};
+ghost use Rattle.std.specs.Prelude.{◌≤◌, length, IfOk};
 
-use crate::output::FAILED;
+use std::io;
 use std::io::Read;
 
-// One read to the bytes of `block` from `at` up to `end`: how many came, 0 at the end of the input, or FAILED.
-fn read_between<R: Read>(input: &mut R, block: &mut [u8], at: usize, end: usize) -> usize
-    requires { (at ≤ end) × (end ≤ length block.old) }
+// Reads until the block is full or the input ends: how many bytes came. By a loop: no method of `Read` fills what comes and says how much.
+pub fn fill<R: Read>(input: &mut R, block: &mut [u8]) -> io::Result<usize>
+    ensures { IfOk result (λ n. n ≤ length block.new) }
 {
-    match input.read(&mut block[at..end]) {
-        Ok(came) => came,
-        Err(_) => FAILED,
-    }
-}
-
-// Reads until `end` bytes stand in `block`, of which `start` stand there already, or until the input ends: how many stand there, or FAILED.
-pub fn fill<R: Read>(input: &mut R, block: &mut [u8], start: usize, end: usize) -> usize {
-    if block.len() < end {
-        return FAILED;
-    }
-    let mut done = start;
-    while done < end {
-        let came = read_between(input, block, done, end);
+    let mut done = 0;
+    while done < block.len() {
+        let came = input.read(&mut block[done..])?;
         if came == 0 {
-            return done;
-        }
-        // more than there is room for is FAILED
-        if end - done < came {
-            return FAILED;
+            break;
         }
         done += came;
     }
-    done
+    Ok(done)
 }

@@ -1,93 +1,63 @@
-// Lines for standard output, gathered in a buffer. `used` is how many bytes of it wait to be written, or FAILED where reading or writing
-// failed: then nothing more is added or written, and FAILED comes back.
-ghost use Rattle.std.specs.Prelude.{◌≡◌, ◌≤◌, take, decimal};
+// Lines for a writer, gathered in a buffer of a fixed size: std's `BufWriter` allocates.
+ghost use Rattle.std.specs.Prelude.{◌≡◌, ◌+◌, ◌≤◌, ◌↔◌, IsTrue};
 
-use itoa::Buffer;
+use std::io;
 use std::io::Write;
-use words::signed::bits64;
 
-// More than any buffer holds.
-pub const FAILED: usize = 18446744073709551615;
+// The bytes of the buffer.
+const ROOM: usize = 65536;
 
-// Writes what waits: 0, or FAILED.
-pub fn flush<W: Write>(out: &mut W, buf: &[u8], used: usize) -> usize {
-    if used <= buf.len() {
-        if out.write_all(&buf[0..used]).is_ok() {
-            0
-        } else {
-            FAILED
+// The lines that wait to be written: the first `used` bytes of the buffer.
+#[derive(Drop)]
+pub struct Lines<W> {
+    out: W,
+    pub(crate) buffer: [u8; ROOM],
+    pub(crate) used: usize,
+    ghost within: { used ≤ 65536 },
+}
+
+impl<W: Write> Lines<W> {
+    pub fn new(out: W) -> Lines<W>
+        ensures { result.used ≡ 0 }
+    {
+        Lines {
+            out,
+            buffer: [0; ROOM],
+            used: 0,
         }
-    } else {
-        FAILED
+    }
+
+    // Writes what waits, once: where that fails, it waits no more.
+    pub(crate) fn write_waiting(&mut self) -> io::Result<()>
+        ensures { self.new.used ≡ 0 }
+    {
+        let waiting = self.used;
+        self.used = 0;
+        self.out.write_all(&self.buffer[..waiting])
+    }
+
+    // Is there room for `n` more bytes?
+    pub(crate) fn has_room(&self, n: usize) -> bool
+        ensures { IsTrue result ↔ (self.now.used + n ≤ 65536) }
+    {
+        n <= ROOM - self.used
     }
 }
 
-// Adds a byte.
-fn put<W: Write>(out: &mut W, buf: &mut [u8], used: usize, byte: u8) -> usize {
-    let mut at = used;
-    if at == buf.len() {
-        at = flush(out, buf, at);
+// So that lines are written by `write!`.
+impl<W: Write> Write for Lines<W> {
+    fn write(&mut self, bytes: &[u8]) -> io::Result<usize> {
+        let count = bytes.len().min(ROOM);
+        if !self.has_room(count) {
+            self.write_waiting()?;
+        }
+        self.buffer[self.used..self.used + count].copy_from_slice(&bytes[..count]);
+        self.used += count;
+        Ok(count)
     }
-    if at < buf.len() {
-        buf[at] = byte;
-        at + 1
-    } else {
-        FAILED
+
+    fn flush(&mut self) -> io::Result<()> {
+        self.write_waiting()?;
+        self.out.flush()
     }
-}
-
-// Adds the bytes of `text`.
-pub fn put_all<W: Write>(out: &mut W, buf: &mut [u8], used: usize, text: &[u8]) -> usize {
-    let mut at = used;
-    for k in 0..text.len() {
-        at = put(out, buf, at, text[k]);
-    }
-    at
-}
-
-// Puts the digits of a number in decimal at the start of `text`: how many they are.
-pub fn put_digits(text: &mut [u8; 20], n: u64) -> usize
-    ensures within { result ≤ 20 }
-    ensures digits { take result text.new ≡ decimal n }
-{
-    let mut buffer = Buffer::new();
-    let digits = buffer.format(n).as_bytes();
-    let count = digits.len();
-    text[..count].copy_from_slice(digits);
-    count
-}
-
-// Adds a number in decimal.
-pub fn put_number<W: Write>(out: &mut W, buf: &mut [u8], used: usize, n: u64) -> usize {
-    let mut text = [0u8; 20];
-    let length = put_digits(&mut text, n);
-    put_all(out, buf, used, &text[..length])
-}
-
-// Adds a space and a signed number. A negative one has its highest bit set, and its bits are 2 to the 64th less its magnitude.
-pub fn put_signed<W: Write>(out: &mut W, buf: &mut [u8], used: usize, z: i64) -> usize {
-    let bits = bits64(z);
-    if bits < 9223372036854775808 {
-        let at = put(out, buf, used, b' ');
-        put_number(out, buf, at, bits)
-    } else {
-        let at = put_all(out, buf, used, b" -");
-        put_number(out, buf, at, 18446744073709551615 - bits + 1)
-    }
-}
-
-// Adds a letter and two numbers, with spaces between.
-pub fn put_head<W: Write>(
-    out: &mut W,
-    buf: &mut [u8],
-    used: usize,
-    letter: u8,
-    a: u64,
-    b: u64,
-) -> usize {
-    let mut at = put(out, buf, used, letter);
-    at = put(out, buf, at, b' ');
-    at = put_number(out, buf, at, a);
-    at = put(out, buf, at, b' ');
-    put_number(out, buf, at, b)
 }

@@ -1,8 +1,7 @@
 -- Bytes cut into events.
-use Rattle.std.specs.Prelude.{◌+◌, ◌-◌, ◌≤◌, ◌<◌, ◌≡◌, ◌∷◌}
-use Rattle.integers.specs.Basics.{ℕ, zero, suc, refl, ◌∙◌, sym, ap, List, [], length, take, drop, arith}
-use lib.ListN.{length-take, length-drop}
-use lib.Seq.{take_all, drop-drop}
+use Rattle.std.specs.Prelude.{◌≤◌, ◌<◌, ◌≡◌, ◌∷◌, ◌++◌, min}
+use Rattle.integers.specs.Basics.{ℕ, zero, suc, refl, ◌∙◌, ap, List, [], length, take, drop, arith}
+use lib.ListN.{length-drop}
 use Rattle.desk.specs.Run.{cut_in, cut}
 
 -- any number that is large enough
@@ -29,24 +28,19 @@ cut_more (b ∷ s) h =
     ap (λ l. take 48 (b ∷ s) ∷ l)
     (cut_enough (length s) (length (drop 48 (b ∷ s))) (drop 48 (b ∷ s)) (omega (arith, length-drop 48 (b ∷ s))) (omega arith))
 
--- past the bytes that were taken
-drop_taken : (n : ℕ) (s : List ℕ) → drop (length (take n s)) s ≡ drop n s
-drop_taken zero s = refl
-drop_taken (suc n) [] = refl
-drop_taken (suc n) (b ∷ s) = drop_taken n s
+-- n elements off the front, or all where there are fewer
+front : {A : Type 0} (n : ℕ) (e behind : List A) → length e ≡ min n (length (e ++ behind))
+    → (take n (e ++ behind) ≡ e) × (drop n (e ++ behind) ≡ behind)
+front zero [] behind size = (refl, refl)
+front zero (x ∷ e) behind size = absurd (omega arith)
+front (suc n) [] [] size = (refl, refl)
+front (suc n) [] (y ∷ behind) size = absurd (omega arith)
+front (suc n) (x ∷ e) behind size = let rest = front n e behind (omega arith) in (ap (λ l. x ∷ l) rest.0, rest.1)
 
-pub past : (n at : ℕ) (s : List ℕ) → drop (at + length (take n (drop at s))) s ≡ drop n (drop at s)
-past n at s = sym (drop-drop (length (take n (drop at s))) at s) ∙ drop_taken n (drop at s)
-
--- the last bytes of a list are not cut short
-pub rest_taken : (at : ℕ) (s : List ℕ) → length s - at < 48 → take (length s - at) (drop at s) ≡ take 48 (drop at s)
-rest_taken at s few =
-    let long = length-drop at s in
-    take_all (length s - at) (drop at s) (omega arith) ∙ sym (take_all 48 (drop at s) (omega arith))
-
--- an event has a byte or more, and lies within the bytes
-pub event_within : (at : ℕ) (s e : List ℕ) → at < length s → e ≡ take 48 (drop at s) → (1 ≤ length e) × (at + length e ≤ length s)
-event_within at s e more is =
-    let size = ap length is ∙ length-take 48 (drop at s) in
-    let long = length-drop at s in
-    (omega arith, omega arith)
+-- a chunk of 48 bytes, or of what there is, is the first event
+pub cut_chunk : (s e behind : List ℕ) → 0 < length s → s ≡ e ++ behind → length e ≡ min 48 (length s) → cut s ≡ e ∷ cut behind
+cut_chunk s e behind more parts size =
+    let f = front 48 e behind (rw parts at size) in
+    let taken : take 48 s ≡ e = rw parts f.0 in
+    let dropped : drop 48 s ≡ behind = rw parts f.1 in
+    cut_more s (omega arith) ∙ rw (taken, dropped)

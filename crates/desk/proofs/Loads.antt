@@ -1,7 +1,7 @@
 -- A load as its LIMIT events: where every entry passes 7, 8 and 9, each event is accepted in its turn, and the memory is the same.
 use Rattle.std.specs.Prelude.{◌≤◌, ◌<◌, ◌≡◌, ◌∷◌, ◌++◌, ◌⊎◌}
 use Rattle.integers.specs.Basics.{ℕ, refl, ◌∙◌, sym, ap, Bool, true, false, List, [], inl, inr, ⊎_elim}
-use Rattle.integers.specs.Basics.{Option, none, some, false≢true, leb, length, replicate, arith, leb-true}
+use Rattle.integers.specs.Basics.{Option, None, Some, false≢true, leb, length, replicate, arith, leb-true}
 use Rattle.words.specs.Bytes.{Bytes}
 use Rattle.limits.specs.Questions.{first_no}
 use Rattle.limits.specs.Lines.{is_set}
@@ -13,7 +13,8 @@ use Rattle.book.specs.declared.Event.{Event}
 use Rattle.book.specs.declared.Event.TheVariants.{Set}
 use Rattle.book.specs.Decoding.{between, decode}
 use Rattle.book.specs.LimitBytes.{limit_bytes, number_in}
-use Rattle.book.specs.Settings.{Item, limited_item}
+use Rattle.book.specs.declared.Item.{Item}
+use Rattle.book.specs.Settings.{limited_item}
 use Rattle.book.specs.Sound.{RosterFits}
 use Rattle.book.specs.Table.{q, where_some, is_listed, line_fits}
 use Rattle.book.proofs.LimitBytes.{limit_decoded_fits}
@@ -45,20 +46,20 @@ all_three false y z e = absurd (omega (arith, e))
 
 -- an entry with limits names its line's item
 item_of : Option LimitLine → Option Item
-item_of none = none
-item_of (some l) = some (limited_item l)
+item_of None = None
+item_of (Some l) = Some (limited_item l)
 
-by_line : (e : Entry) → (entry_line e ≡ none) ⊎ (entry_item e ≡ item_of (entry_line e))
+by_line : (e : Entry) → (entry_line e ≡ None) ⊎ (entry_item e ≡ item_of (entry_line e))
 unfolding item_of
 by_line (account_entry a) = inl refl
-by_line (group_entry a g none) = inl refl
-by_line (group_entry a g (some x)) = inr refl
-by_line (contract_entry a g c none) = inl refl
-by_line (contract_entry a g c (some x)) = inr refl
-by_line (instrument_entry a c i none) = inl refl
-by_line (instrument_entry a c i (some x)) = inr refl
+by_line (group_entry a g None) = inl refl
+by_line (group_entry a g (Some x)) = inr refl
+by_line (contract_entry a g c None) = inl refl
+by_line (contract_entry a g c (Some x)) = inr refl
+by_line (instrument_entry a c i None) = inl refl
+by_line (instrument_entry a c i (Some x)) = inr refl
 
-same_item : (e : Entry) (l : LimitLine) → entry_line e ≡ some l → entry_item e ≡ some (limited_item l)
+same_item : (e : Entry) (l : LimitLine) → entry_line e ≡ Some l → entry_item e ≡ Some (limited_item l)
 unfolding item_of
 same_item e l is =
     ⊎_elim (λ missing. absurd (false≢true (ap is_set (sym missing ∙ is)))) (λ item. item ∙ ap item_of is) (by_line e)
@@ -72,7 +73,7 @@ small_item r (Own i f) fits h = small_between h (let b = fits.instruments in ome
 small_item r (Default c f) fits h = small_between h (let b = fits.contracts in omega arith)
 small_item r (OfGroup g x y) fits h = small_between h (let b = fits.groups in omega arith)
 
-module _ (m : List ℕ) (bytes : Bytes m) (held : SoundMemory m) (e : Entry) (l : LimitLine) (is : entry_line e ≡ some l)
+module _ (m : List ℕ) (bytes : Bytes m) (held : SoundMemory m) (e : Entry) (l : LimitLine) (is : entry_line e ≡ Some l)
     (asked : first_no (entry_questions (market_of m) (roster_of m) e) ≡ 0) where
   passes : (between 1 (roster_of m).accounts (entry_account e) ≡ true) × (is_listed (roster_of m) (limited_item l) ≡ true)
       × (line_fits (market_of m).largest l ≡ true)
@@ -114,8 +115,8 @@ entry_then : (m : List ℕ) → Bytes m → SoundMemory m → (e : Entry) → fi
     → OneByOne m (where_limited limit_bytes (entry_account e) x ++ limits)
     (where_limited (λ a l. Set (Limit a l)) (entry_account e) x ++ events)
 unfolding memory_over answers_over all_worked
-entry_then m bytes held e asked limits events rest none is = rest m bytes held refl refl
-entry_then m bytes held e asked limits events rest (some l) is =
+entry_then m bytes held e asked limits events rest None is = rest m bytes held refl refl
+entry_then m bytes held e asked limits events rest (Some l) is =
     let z = limit_judged m bytes held e l is asked in
     let w = limit_worked m bytes held e l is asked in
     let then =

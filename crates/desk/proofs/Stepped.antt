@@ -1,13 +1,12 @@
 -- What a step on a sound desk answers and leaves.
-use Rattle.std.specs.Prelude.{◌≡◌, ◌≢◌}
+use Rattle.std.specs.Prelude.{◌≡◌}
 use Rattle.integers.specs.Basics.{ℕ, ◌∙◌, sym, true, false, List, arith, eq-eqb, ne_eqb}
 use Rattle.book.specs.declared.Event.{Event}
-use Rattle.limits.specs.declared.answer.Answer.{Answer}
-use Rattle.limits.specs.declared.answer.Answer.TheVariants.{Accepted}
-use Rattle.limits.specs.Answers.{number_of}
+use Rattle.limits.specs.declared.answer.Refusal.{Refusal}
+use Rattle.limits.specs.Answers.{refusal_number}
 use Rattle.book.specs.Decoding.{decode}
 use Rattle.book.proofs.Accepted.{unsound_answer}
-use Rattle.limits.proofs.Refused.{Refusal, not_zero}
+use Rattle.limits.proofs.Refused.{not_zero}
 use Rattle.memory_layout.specs.View.{view}
 use Rattle.memory_layout.specs.Judged.{judged}
 use Rattle.memory_soundness.specs.Soundness.{sound_desk}
@@ -16,24 +15,17 @@ use Rattle.memory_working.specs.Working.{worked}
 use Rattle.desk.specs.Step.{event_questions, answer_to, after_event, stepped}
 use Rattle.desk.proofs.Events.{answer_sound, after_refused}
 
--- ---- a judged event, with answer a
-module _ (m : List ℕ) (e : Event) (a : Answer) (told : number_of a ≡ judged m e) where
-  -- is accepted
-  pub is_zero : a ≡ Accepted → judged m e ≡ 0
-  is_zero accepts = sym told ∙ rw accepts
-
-  pub stepped_worked : a ≡ Accepted → worked m e ≡ stepped m e
+-- ---- a judged event
+module _ (m : List ℕ) (e : Event) where
+  -- is worked where it is accepted
+  pub stepped_worked : 0 ≡ judged m e → worked m e ≡ stepped m e
   unfolding stepped
-  stepped_worked accepts = rw (eq-eqb (judged m e) 0 (is_zero accepts))
+  stepped_worked told = rw (eq-eqb (judged m e) 0 (sym told))
 
-  -- or refused
-  module _ (refuses : Refusal a) where
-    not_accepted : judged m e ≢ 0
-    not_accepted z = not_zero a refuses (told ∙ z)
-
-    pub stepped_same : m ≡ stepped m e
-    unfolding stepped
-    stepped_same = rw (ne_eqb (judged m e) 0 not_accepted)
+  -- and else changes nothing
+  pub stepped_same : (r : Refusal) → refusal_number r ≡ judged m e → m ≡ stepped m e
+  unfolding stepped
+  stepped_same r told = rw (ne_eqb (judged m e) 0 (λ z. not_zero r (told ∙ z)))
 
 -- ---- the event entry point
 module _ (m e : List ℕ) where

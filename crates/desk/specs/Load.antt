@@ -1,5 +1,5 @@
 -- A load of limits at a desk: the answer and the memory that it leaves, over any bytes.
-use Rattle.integers.specs.Basics.{ℕ, cond, List, [], Option, none, some, eqb}
+use Rattle.integers.specs.Basics.{ℕ, cond, List, [], Option, None, Some, eqb}
 use Rattle.limits.specs.Questions.{first_no}
 use Rattle.book.specs.LimitBytes.{limit_bytes}
 use Rattle.grammar.specs.Grammar.{Value}
@@ -17,8 +17,8 @@ load_answer m s = first_no (load_questions (sound_desk m) (view m) s)
 
 -- the LIMIT events that a file yields, 48 bytes each, in its order
 abbrev limits_of : Option (Value request) → List (List ℕ)
-limits_of none = []
-limits_of (some v) = each_limited limit_bytes (entries v)
+limits_of None = []
+limits_of (Some v) = each_limited limit_bytes (entries v)
 
 unfoldable pub load_limits : List ℕ → List (List ℕ)
 load_limits s = limits_of (file_of limit_file s)

@@ -1,5 +1,5 @@
 // The desk in its lent memory: the functions that desk_c exports, and the step of an event on a sound desk. Every answer is 0 or the
-// number of the question that is answered no.
+// number of the question that is answered no: `desk_c` exports each function by the same clauses, which include/exported.txt lists.
 #![tactic(auto)]
 
 pub mod run;
@@ -30,9 +30,8 @@ pub fn desk_event(m: &mut [u8], event: &[u8]) -> u8
     ensures answer { result ≡ answer_to m.old event.now }
     ensures memory { m.new ≡ after_event m.old event.now }
 {
-    let mut none = [0u64; 0];
     let sound = is_sound(m);
-    answer_next(m, &mut none, event, sound)
+    answer_next(m, &mut [], event, sound)
 }
 
 // Reads S, PCI and PVI of an account and instrument.

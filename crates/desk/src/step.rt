@@ -10,6 +10,8 @@ ghost use Rattle.desk.specs.Step.{stepped};
 use book::Event;
 use limits::answer::Answer;
 use memory_judging::judge;
+use memory_layout::memory::Memory;
+use memory_soundness::sound_desk::SoundDesk;
 use memory_working::work;
 
 // The cells hold B and V of all accounts, before the event and after it, or there are none.
@@ -19,14 +21,8 @@ pub fn step(m: &mut [u8], cells: &mut [u64], e: Event) -> Answer
     ensures memory { m.new ≡ stepped m.old e }
     ensures sums { Sums cells.new (open_orders m.new) }
 {
-    let verdict = judge(m, cells, e);
-    let answer = verdict.answer;
-    let w = verdict.detail;
-    match answer {
-        Answer::Accepted => {
-            work(m, cells, e, verdict.place, w);
-            Answer::Accepted
-        }
-        no => no,
-    }
+    let memory = Memory { bytes: m };
+    let named = judge(&SoundDesk { memory, cells }, e)?;
+    work(m, cells, e, named);
+    Ok(())
 }

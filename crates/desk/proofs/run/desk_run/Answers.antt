@@ -1,45 +1,29 @@
--- What is left to answer from memory, room and place as they stand is what the whole run answers (`Running`). A turn cuts off one event,
--- which has at least one byte, so the loop ends; question 5 is asked once, since each turn leaves `sound` and the sums true.
-use Rattle.integers.specs.Basics.{refl, ◌∙◌, inr, arith}
+-- What is left to answer from memory, room and bytes as they stand is what the whole run answers (`Running`).
+use Rattle.integers.specs.Basics.{ℕ, refl, ◌∙◌, length-set, arith}
 use Rattle.memory_soundness.proofs.Gathering.{empty_cells}
-use Rattle.desk.proofs.Cutting.{event_within}
-use Rattle.desk.proofs.RunLoop.{begins, turns, events_end, room_ends}
+use Rattle.desk.proofs.RunLoop.{turns, finishes}
 use Rattle.desk.proofs.run.desk_run.Goals as goal
-
-pub overflow_add-at : goal.overflow_add-at
-overflow_add-at c =
-    let fits = event_within _ _ _ c.loop-at-test.true c.event_at-event.ensures in
-    omega arith
-
-pub loop-at-smaller : goal.loop-at-smaller
-loop-at-smaller c =
-    let fits = event_within _ _ _ c.loop-at-test.true c.event_at-event.ensures in
-    omega arith
-
-pub loop-at-preserved : goal.loop-at-preserved
-loop-at-preserved c = (
-  c.answer_next.auto.m ∙ c.loop-at.invariant.0,
-  c.answer_next.auto.cells ∙ c.loop-at.invariant.1,
-  c.answer_next.ensures.sound,
-  c.answer_next.ensures.sums,
-  turns _ _ _ _ _ _ _ c.loop-at.invariant.4 _ _ _ c.loop-at-test.true c.if-count-answers.true c.event_at-event.ensures
-      c.answer_next.ensures.answer c.answer_next.ensures.memory,
-)
 
 pub is_sound_with_sums-sound-requires : goal.is_sound_with_sums-sound-requires
 is_sound_with_sums-sound-requires c = empty_cells 1089 refl
 
-pub loop-at-init : goal.loop-at-init
-loop-at-init c =
-    let cells = c.is_sound_with_sums-sound.ensures.cells in
-    (refl, cells.0, c.is_sound_with_sums-sound.ensures.sound, λ t. inr (cells.1 t).sums, begins _ _ _)
+pub loop-event-preserved : goal.loop-event-preserved
+loop-event-preserved c =
+    let steps = c.in-Some.ensures.steps in
+    let chunk = steps.0.1 in
+    let was = c.loop-event.invariant in
+    let answer = c.answer_next.ensures in
+    record {
+      chunk = steps.0.0 ∙ was.chunk;
+      room = omega (arith, steps.1, length-set {A = ℕ});
+      sound = answer.sound;
+      sums = answer.sums;
+      running =
+          turns _ _ _ _ _ _ _ was.running _ _ _ _ (omega (arith, steps.1)) chunk.2 chunk.0 (rw was.chunk at chunk.1) answer.answer
+          answer.memory;
+    }
 
-pub returns-else-count-answers : goal.returns-else-count-answers
-returns-else-count-answers c =
-    let ran = room_ends _ _ _ _ _ _ _ c.loop-at.invariant.4 c.if-count-answers.false in
-    record { count = ran.0; memory = ran.1.0; answers = ran.1.1 }
-
-pub returns-after-loop-at : goal.returns-after-loop-at
-returns-after-loop-at c =
-    let ran = events_end _ _ _ _ _ _ _ c.loop-at.invariant.4 c.loop-at-test.false in
-    record { count = ran.0; memory = ran.1.0; answers = ran.1.1 }
+pub returns : goal.returns
+returns c =
+    let ran = finishes _ _ _ _ _ _ _ c.loop-event.invariant.running (λ space. (c.in-None.ensures.steps (omega arith)).1.0) in
+    record { count = ran.returned; memory = ran.memory; answers = ran.written }
