@@ -102,7 +102,7 @@ impl Detail {
         self.remaining() * ((near + 1) / 16)
     }
 
-    // The bits of both: each figure is at least that of either.
+    // The bits of both: each figure is at least that of either. No operator: a detail is no set of bits to its callers.
     pub fn with_bits_of(self, other: Detail) -> Detail
         ensures own { (o : Order) → Within self.0 o → Within result.0 o }
         ensures of_other { (id : ℕ) → Within result.0 (order_of id other.0) }

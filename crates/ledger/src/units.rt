@@ -80,7 +80,7 @@ impl Mul<i64> for Contracts {
 }
 
 impl Weighted {
-    // Of a group without instruments.
+    // Of a group without instruments: a name for what a sum begins with.
     pub fn none() -> Weighted
         ensures { result.0 ≡ pos 0 }
     {

@@ -5,7 +5,7 @@ ghost use Rattle.book.specs.Table.{between_ℤ, is_limit, is_quantity, figures_o
 
 use book::{Figures, LimitLine, is_minus_one};
 
-// From 0 to the largest figure?
+// From 0 to the largest figure? The market's largest is handed on as a number: each of these asks nothing else of a market.
 fn is_limit(largest: u64, z: i64) -> bool
     ensures { result ≡ is_limit largest z }
 {

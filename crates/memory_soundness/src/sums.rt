@@ -9,7 +9,8 @@ use ledger::units::Contracts;
 use memory_layout::orders::OrderRecords;
 use positions::add_to;
 
-// In one pass over the records.
+// In one pass over the records. (A cell is named where it is used, by account and instrument or by what a detail packs: a type of these
+// sums would have a method for each.)
 #[tactic(auto, using(crate::proofs::Gathering::gathering))]
 pub fn gather_sums(m: &OrderRecords, cells: &mut [u64; 1089])
     requires { (orders_sound m.now ≡ true) × Empty cells.old }

@@ -24,7 +24,7 @@ use memory_layout::orders::{Named, insert_order, remove_order, replace_order};
 use memory_layout::readable::ReadableDesk;
 use memory_layout::stores::{set_balance, set_mark};
 
-// NEW: the order joins, and its account is marked as trading.
+// NEW: the order joins, and its account is marked as trading. The id stands beside what is named, since it is the event's own.
 pub fn enter(m: &mut [u8], cells: &mut [u64], id: u64, named: Named)
     requires { Workable m.old cells.old (new_of id named.detail.0) named }
     ensures memory { m.new ≡ worked m.old (new_of id named.detail.0) }
