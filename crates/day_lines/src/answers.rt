@@ -1,6 +1,6 @@
 // The lines of answers: `E` place answer. The places of ten lines share all digits but the last: these, the tens, are made once for the
 // ten, and so is room for the lines.
-ghost use Rattle.std.specs.Prelude.{◌≡◌, ◌+◌, ◌%◌, ◌^◌, ◌<◌, ◌≤◌, length, take, decimal};
+ghost use Rattle.std.specs.Prelude.{◌≡◌, ◌+◌, ◌/◌, ◌%◌, ◌^◌, ◌<◌, ◌≤◌, length, get_or, take, decimal};
 
 use crate::output::Lines;
 use itoa::Buffer;
@@ -44,16 +44,20 @@ impl Tens {
 // The digit of a number below ten.
 fn digit(number: u8) -> u8
     requires { number < 10 }
+    ensures { result ≡ 48 + number }
 {
     b'0' + number
 }
 
-// Puts two digits. An answer's are put by hand: it has one or two, and stands at a fixed place behind those of its line.
-fn put_two(text: &mut [u8], number: u8)
+// Puts two digits: how many they are. An answer's are put by hand: it has one or two, and stands at a fixed place behind those of its line.
+fn put_two(text: &mut [u8], number: u8) -> usize
     requires { (2 ≤ length text.old) × (number < 100) }
+    ensures count { result ≡ 2 }
+    ensures digits { (get_or text.new 0 0 ≡ 48 + number / 10) × (get_or text.new 1 0 ≡ 48 + number % 10) }
 {
     text[0] = digit(number / 10);
     text[1] = digit(number % 10);
+    2
 }
 
 // Puts an answer: how many digits it has.
@@ -66,12 +70,10 @@ fn put_answer(text: &mut [u8], answer: u8) -> usize
         return 1;
     }
     if answer < 100 {
-        put_two(text, answer);
-        return 2;
+        return put_two(text, answer);
     }
     text[0] = digit(answer / 100);
-    put_two(&mut text[1..], answer % 100);
-    3
+    1 + put_two(&mut text[1..], answer % 100)
 }
 
 // Puts the line of a place, whose tens and last digit are given, and its answer: how many bytes it has. All 20 bytes of the tens are put,
@@ -98,16 +100,19 @@ impl<W: Write> Lines<W> {
     fn add_ten(&mut self, answers: &[u8], place: u64) -> io::Result<()>
         requires { place % 10 + length answers.now ≤ 10 }
     {
-        if !self.has_room(10 * LINE) {
-            self.write_waiting()?;
-        }
         let tens = Tens::of(place);
         let first = (place % 10) as u8;
-        let mut at = self.used;
         for (k, answer) in answers.iter().enumerate() {
-            at += put_line(&mut self.buffer[at..], &tens, first + k as u8, *answer);
+            if !self.has_room(LINE) {
+                self.write_waiting()?;
+            }
+            self.used += put_line(
+                &mut self.buffer[self.used..],
+                &tens,
+                first + k as u8,
+                *answer,
+            );
         }
-        self.used = at;
         Ok(())
     }
 }

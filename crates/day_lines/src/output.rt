@@ -47,10 +47,10 @@ impl<W: Write> Lines<W> {
 // So that lines are written by `write!`.
 impl<W: Write> Write for Lines<W> {
     fn write(&mut self, bytes: &[u8]) -> io::Result<usize> {
-        let count = bytes.len().min(ROOM);
-        if !self.has_room(count) {
+        if !self.has_room(1) {
             self.write_waiting()?;
         }
+        let count = bytes.len().min(ROOM - self.used);
         self.buffer[self.used..self.used + count].copy_from_slice(&bytes[..count]);
         self.used += count;
         Ok(count)

@@ -4,7 +4,8 @@ use days::kinds::kinds;
 use days::random::Random;
 use program::{ended_well, expected, input, program, run, run_in_pieces};
 use std::collections::BTreeSet;
-use std::fs::File;
+use std::fs::{self, File};
+use std::io::Seek;
 use std::process::{Command, Stdio};
 
 const LISTING: &[u8] = include_bytes!("../../../samples/listing.day");
@@ -148,4 +149,47 @@ fn output_that_cannot_be_written_is_said_on_standard_error() {
         .expect("the program runs");
     ended_well(output.status);
     assert!(!output.stderr.is_empty());
+}
+
+/// The buffer is written where the longest line of an answer, 27 bytes, has no room in its 65,536: the events up to there are read and
+/// answered, and no block behind them is read where that write fails.
+#[test]
+fn answers_are_written_where_the_next_line_has_no_room() {
+    let mut bytes = LISTING[..19].to_vec();
+    for place in 0..9_216 {
+        let mut event = [0; 48];
+        if place < 2_000 {
+            // CANCEL of an order that is not open: 11, of two digits
+            (event[0], event[8]) = (6, 1);
+        }
+        bytes.extend_from_slice(&event);
+    }
+    let mut waiting = "R 0\n".len();
+    let mut place = 1;
+    while waiting + 27 <= 65_536 {
+        let answer = if place <= 2_000 { 11 } else { 6 };
+        waiting += format!("E {place} {answer}\n").len();
+        place += 1;
+    }
+    let blocks = (place - 1) / 1_024 + 1;
+    assert!(blocks < 9, "a block is left to be read");
+
+    let path = std::env::temp_dir().join(format!("day-{}", std::process::id()));
+    fs::write(&path, &bytes).expect("the input is written");
+    let mut input = File::open(&path).expect("the input opens");
+    fs::remove_file(&path).expect("the input is there");
+    let full = File::options()
+        .write(true)
+        .open("/dev/full")
+        .expect("the full device opens");
+    let output = Command::new(program())
+        .stdin(input.try_clone().expect("a second handle"))
+        .stdout(Stdio::from(full))
+        .output()
+        .expect("the program runs");
+    ended_well(output.status);
+    assert_eq!(
+        input.stream_position().expect("a place"),
+        19 + blocks * 49_152
+    );
 }
