@@ -1,10 +1,18 @@
 // Orders in records of two words: the id, then the detail.
 ghost use Rattle.std.specs.Prelude.{◌≡◌};
-ghost use Rattle.ledger.specs.Records.{id_at, detail_at, order_at};
+ghost use Rattle.ledger.specs.Records.{id_at, detail_at, order_at, side_of};
 
 use crate::detail::Detail;
-use crate::order::Order;
+use crate::order::{Order, Side};
 use words::word;
+
+// The side that a number stands for: 1 buy, any other sell.
+#[tactic(auto, unfolding(crate::specs::Records::side_of))]
+pub fn side_of(n: u64) -> Side
+    ensures { result ≡ side_of n }
+{
+    u8::try_from(n).map_or(Side::Sell, Side::from)
+}
 
 // An order's record, as it is lent.
 pub type Record = [u8; 16];

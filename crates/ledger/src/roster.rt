@@ -50,21 +50,21 @@ impl<'a> RosterBytes<'a> {
     }
 
     // The tables: the groups of contracts, the contracts of instruments and their weights. Word n of each is that of number n.
-    pub fn group_table(&self) -> &[u8]
+    pub fn group_table(&self) -> &'a [u8]
         ensures table { result.now ≡ group_table self.now }
         ensures long { length result.now ≡ 72 }
     {
         part(self.bytes, 3, 9)
     }
 
-    pub fn contract_table(&self) -> &[u8]
+    pub fn contract_table(&self) -> &'a [u8]
         ensures table { result.now ≡ contract_table self.now }
         ensures long { length result.now ≡ 264 }
     {
         part(self.bytes, 11, 33)
     }
 
-    pub fn weight_table(&self) -> &[u8]
+    pub fn weight_table(&self) -> &'a [u8]
         ensures table { result.now ≡ weight_table self.now }
         ensures long { length result.now ≡ 264 }
     {

@@ -78,7 +78,7 @@ impl<'a> Model for OrderRecords<'a> {
 
 impl<'a> OrderRecords<'a> {
     // The 256 records of the region from the first in use on.
-    fn region(&self) -> &'a [Record]
+    pub fn region(&self) -> &'a [Record]
         ensures records { result.now ≡ first_chunks 16 256 (records_of self.now) }
         ensures length { length result.now ≡ 256 }
     {

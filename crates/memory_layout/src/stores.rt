@@ -3,7 +3,7 @@
 // the memory is long enough (memory.rt says why that is no type) and that its numbers have a place, which a caller knows by the roster.
 #![tactic(auto, unfolding(words::specs::Words::put_words))]
 
-ghost use Rattle.std.specs.Prelude.{◌≡◌, ◌+◌, ◌*◌, ◌≤◌, length};
+ghost use Rattle.std.specs.Prelude.{◌≡◌, ◌+◌, ◌*◌, ◌≤◌, length, IfSome};
 ghost use Rattle.words.specs.Words.{put_word};
 ghost use Rattle.memory_layout.specs.Layout.{memory_bytes, own_set_row, default_set_row, own_row, default_row};
 ghost use Rattle.memory_layout.specs.FieldStores.{bit, store_balance, store_mark, block_account, block_instrument, block_group};
@@ -95,7 +95,7 @@ pub fn default_line(a: usize, c: usize) -> LineWords
 
 // Sets a line, or no more.
 pub fn set_line(m: &mut [u8], at: LineWords, line: Option<Line>)
-    requires { (at.set * 8 + 8 ≤ length m.old) × (at.figures * 8 + 16 ≤ length m.old) }
+    requires { (at.set * 8 + 8 ≤ length m.old) × IfSome line (λ _. at.figures * 8 + 16 ≤ length m.old) }
     ensures { m.new ≡ store_line m.old at.set at.figures line }
 {
     if let Some(line) = line {

@@ -2,6 +2,8 @@
 // a place is its region's first word less what number 1 adds.
 pub const MEMORY_BYTES: usize = 65536;
 
+pub const MEMORY_WORDS: usize = 8192;
+
 pub const KIND: usize = 0;
 
 // The roster, of 76 words: its sizes, then each contract's group, each instrument's contract and weight.

@@ -1,5 +1,5 @@
 -- What the functions over a desk's fields ask of an accepted setting: its places are inside the memory.
-use Rattle.std.specs.Prelude.{◌≤◌}
+use Rattle.std.specs.Prelude.{◌≤◌, IfSome}
 use Rattle.integers.specs.Basics.{ℕ, List, Option, None, Some, length}
 use Rattle.integers.specs.Basics.{arith}
 use Rattle.ledger.specs.Roster.{Numbered}
@@ -41,3 +41,8 @@ room {m} {x} r =
       where_some_lem (Numbered (roster_of m).accounts) (λ a. a ≤ 16) (λ a on. omega (arith, held.sized.accounts)) (setting_account x) t.0,
       where_some_lem (OnRoster (roster_of m)) ItemRoom (item_room m held) (setting_item x) t.1,
     )
+
+-- what holds in any case holds of what there is
+pub if_any : {A : Type 0} {P : A → Type 0} (o : Option A) → ((x : A) → P x) → IfSome o P
+if_any None p = tt
+if_any (Some x) p = p x

@@ -40,3 +40,9 @@ module _ (f : List ℕ → List ℕ) where
   past_words (x ∷ vs) k passes m =
       past_words vs (k + 1) (λ i low high. passes i (omega arith) (omega arith)) (put_word m k x)
       ∙ ap (λ (l : List ℕ). put_words l (k + 1) vs) (past_store 8 (k * 8) x (λ i low high. passes i (omega arith) (omega arith)) m)
+
+-- a word, and the words behind it
+pub put_past_words : (vs m : List ℕ) (j k v : ℕ) → j < k → put_word (put_words m k vs) j v ≡ put_words (put_word m j v) k vs
+unfolding put_word
+put_past_words vs m j k v h =
+    past_words (λ l. put_word l j v) vs k (λ i low high. store_passes i 8 (j * 8) v (λ a b. omega arith)) m

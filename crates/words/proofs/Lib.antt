@@ -1,5 +1,5 @@
 -- Little-endian numbers in lent bytes: words stored, moved and left, parts, halves, bits, and two's complement.
-mod Complement
+pub mod Complement
 pub mod Numbers
 pub mod Memory
 pub mod HalfWords

@@ -1,7 +1,7 @@
 -- Each level's line, by the name that the match gives it, is judged, so its words are inside the memory; what is stored there is what
 -- `worked` stores.
 use Rattle.integers.specs.Basics.{arith, rules}
-use Rattle.memory_working.proofs.Rooms.{room}
+use Rattle.memory_working.proofs.Rooms.{room, if_any}
 use Rattle.memory_working.proofs.LineFigures.{storable, ready_line, worked_line, group_handed}
 use Rattle.memory_working.proofs.settings.work_limit.Goals as goal
 
@@ -12,7 +12,7 @@ pub line_of-requires : goal.line_of-requires
 line_of-requires c = storable (ready_line c.in-Own.is c.requires)
 
 pub set_line-requires : goal.set_line-requires
-set_line-requires c = let r = room (ready_line c.in-Own.is c.requires) in omega arith
+set_line-requires c = let r = room (ready_line c.in-Own.is c.requires) in (omega arith, if_any c.line_of.result (λ x. omega arith))
 
 pub default_line-requires : goal.default_line-requires
 default_line-requires c = let r = room (ready_line c.in-Default.is c.requires) in (r.1, r.2)
@@ -21,7 +21,8 @@ pub line_of-requires-in-Default : goal.line_of-requires-in-Default
 line_of-requires-in-Default c = storable (ready_line c.in-Default.is c.requires)
 
 pub set_line-requires-in-Default : goal.set_line-requires-in-Default
-set_line-requires-in-Default c = let r = room (ready_line c.in-Default.is c.requires) in omega arith
+set_line-requires-in-Default c = let r = room (ready_line c.in-Default.is c.requires) in
+    (omega arith, if_any c.line_of-in-Default.result (λ x. omega arith))
 
 pub group_line_of-requires : goal.group_line_of-requires
 group_line_of-requires c = storable (ready_line (group_handed c.in-OfGroup.is (search rules) (search rules)) c.requires)
