@@ -3,6 +3,7 @@ pub mod Tests
 pub mod Places
 pub mod Spans
 pub mod Starts
+pub mod Comparing
 pub mod Readings
 pub mod Within
 pub mod Standing
@@ -17,6 +18,7 @@ pub mod Files
 pub mod Wholes
 pub mod Values
 pub mod UpToQuote
+pub mod ByLibrary
 pub mod Openings
 pub mod Ends
 pub mod Straight

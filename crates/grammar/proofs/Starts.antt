@@ -1,26 +1,31 @@
--- Laws of bytes that begin with others: by the library's word for it; where they do; and where they cannot, since they differ.
-use Rattle.std.specs.Prelude.{◌+◌, ◌-◌, ◌≤◌, ◌<◌, ◌≡◌, ◌&&◌, ◌∷◌, ◌++◌}
-use Rattle.integers.specs.Basics.{ℕ, refl, sym, ap, true, false, false≢true, List, [], None, Some, eqb, length, take}
+-- Laws of bytes that begin with others: turn by turn, for a loop that compares; where they do; and where they cannot, since they differ.
+use Rattle.std.specs.Prelude.{◌+◌, ◌≤◌, ◌<◌, ◌≡◌, ◌∷◌, ◌++◌}
+use Rattle.integers.specs.Basics.{ℕ, refl, sym, ap, true, false, false≢true, List, [], None, Some, eqb, length, get_or}
 use Rattle.integers.specs.Basics.{drop, arith, eqb-true, eqb-false, eq-eqb, ne_eqb}
 use mathlib.Core.Bool.{and-eq-true_iff}
-use lib.ListN.{length-append}
-use Rattle.std.proofs.lemmas.List.{take_rest}
-use Rattle.std.specs.List.{starts_with}
+use lib.ListN.{drop_of_length-le, length-append, length-drop}
+use lib.Seq.{drop-cons}
+use native.Mathlib.Numerals.{add-one}
 use Rattle.grammar.specs.Reader.{starts, literal_at}
 use Rattle.grammar.specs.Place.{Place, place}
 use Rattle.grammar.specs.Found.{past_literal}
 use Rattle.grammar.specs.Readable.{apart}
 use Rattle.grammar.proofs.Tests.{by_test}
 
--- ---- by the library's word for it
-starts_with_is : (l s : List ℕ) → starts_with eqb s l ≡ starts l s
-unfolding starts
-starts_with_is [] s = refl
-starts_with_is (b ∷ l) [] = refl
-starts_with_is (b ∷ l) (c ∷ s) = ap (λ t. eqb b c && t) (starts_with_is l s)
+-- ---- turn by turn: byte i of a literal l beside byte p of s
+module _ (l s : List ℕ) (i p : ℕ) where
+  pub starts_done : length l ≤ i → starts (drop i l) (drop p s) ≡ true
+  unfolding starts
+  starts_done h = rw (drop_of_length-le l h)
 
-pub literal_from_starts_with : (s l : List ℕ) (p : ℕ) → starts_with eqb (take (length s - p) (drop p s)) l ≡ literal_at s l p
-literal_from_starts_with s l p = rw (take_rest s p) (starts_with_is l (drop p s))
+  pub starts_on : i < length l → p < length s → get_or l i 0 ≡ get_or s p 0
+      → starts (drop i l) (drop p s) ≡ starts (drop (i + 1) l) (drop (p + 1) s)
+  unfolding starts
+  starts_on h g e = rw (drop-cons l i 0, drop-cons s p 0, eq-eqb (get_or l i 0) (get_or s p 0) e, add-one i, add-one p)
+
+  pub starts_off : i < length l → p < length s → (get_or l i 0 ≡ get_or s p 0 → ⊥) → starts (drop i l) (drop p s) ≡ false
+  unfolding starts
+  starts_off h g ne = rw (drop-cons l i 0, drop-cons s p 0, ne_eqb (get_or l i 0) (get_or s p 0) ne)
 
 -- what code finds of a literal: the place behind it, or none
 module _ (s l : List ℕ) (p : ℕ) where
@@ -51,6 +56,9 @@ starts_within l s h = omega (arith, ap length (starts_split l s h), length-appen
 
 pub starts_short : (l s : List ℕ) → length s < length l → starts l s ≡ false
 starts_short l s h = by_test (starts l s) (λ e. absurd (omega (arith, starts_within l s e))) (λ e. e)
+
+pub literal_within : (s l : List ℕ) (p : ℕ) → p ≤ length s → literal_at s l p ≡ true → p + length l ≤ length s
+literal_within s l p h e = omega (arith, h, starts_within l (drop p s) e, length-drop p s)
 
 -- ---- where they differ
 pub apart_sym : (x y : List ℕ) → apart x y ≡ true → apart y x ≡ true

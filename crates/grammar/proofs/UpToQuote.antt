@@ -15,7 +15,7 @@ use Rattle.grammar.specs.Reader.{starts, span, literal_at, digits_at, plain_at}
 use Rattle.grammar.specs.Place.{Place, place}
 use Rattle.grammar.specs.Found.{place_of, found, past_literal}
 use Rattle.grammar.proofs.Tests.{by_test}
-use Rattle.grammar.proofs.Spans.{span_is, prefix_len-take, prefix_len_all}
+use Rattle.grammar.proofs.Spans.{span_is, prefix_len-take}
 
 abbrev quote : List ℕ
 quote = bytes "\""
@@ -121,4 +121,4 @@ module _ (s : List ℕ) (p : ℕ) (h : p ≤ length s) where
         rw (le-leb 1 k (omega (arith, some, same)), both.0, both.1, next, take-take n (e - p) (drop p s) within, same))
         (λ t. absurd (let found = rw t at (sym quoted ∙ there) in some_none (sym found)))
 
-pub ruleset number_read = (prefix_len_all, digits_none, digits_unquoted, digits_quoted)
+pub ruleset number_read = (digits_none, digits_unquoted, digits_quoted)

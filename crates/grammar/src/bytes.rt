@@ -3,10 +3,11 @@ ghost use Rattle.std.specs.Prelude.{◌≡◌, ◌<◌, ◌≤◌, length, eqb};
 ghost use Rattle.std.specs.List.{prefix_len};
 ghost use Rattle.grammar.specs.Bytes.{is_blank, is_digit, is_plain};
 ghost use Rattle.grammar.specs.Place.{place};
-ghost use Rattle.grammar.specs.Reader.{past_blanks};
+ghost use Rattle.grammar.specs.Reader.{literal_at, past_blanks};
 ghost use Rattle.grammar.specs.Found.{past_literal};
 
 use std::marker::Model;
+use words::fields::Field;
 
 // A class of bytes.
 pub trait Class {
@@ -63,8 +64,54 @@ pub fn prefix<C: Class>(s: &[u8]) -> usize
     s.iter().take_while(|b| C::has(**b)).count()
 }
 
+// The place behind the blanks from `at` on. The loop runs on the place itself, not on a count: after counts the compiler takes each place
+// for the sum of all that was counted before it, and keeps them all at hand.
+#[tactic(auto, using(crate::proofs::Spans::blanks_passed))]
+#[inline(always)]
+fn behind_blanks(s: &[u8], at: usize) -> usize
+    requires { at ≤ length s.now }
+    ensures place { result ≡ past_blanks s.now at }
+    ensures within { result ≤ length s.now }
+{
+    let mut p = at;
+    while p < s.len() {
+        if !Blank::has(s[p]) {
+            return p;
+        }
+        p += 1;
+    }
+    p
+}
+
+// Do the bytes `l` stand at `at`? Eight at a time, then one by one: in the code of a caller that spells them out no loop is left.
+// (So too the hints on the readers of a `Cursor`: they are read where the caller's bytes are known.)
+#[tactic(auto, using(crate::proofs::Comparing::compared))]
+#[inline(always)]
+fn stands(s: &[u8], at: usize, l: &[u8]) -> bool
+    requires { at ≤ length s.now }
+    ensures { result ≡ literal_at s.now l.now at }
+{
+    if s.len() - at < l.len() {
+        return false;
+    }
+    let mut i = 0;
+    while 8 <= l.len() - i {
+        if u64::at(s, at + i) != u64::at(l, i) {
+            return false;
+        }
+        i += 8;
+    }
+    while i < l.len() {
+        if s[at + i] != l[i] {
+            return false;
+        }
+        i += 1;
+    }
+    true
+}
+
 // A place in the bytes of a file that is read.
-#[derive(Drop)]
+#[derive(Clone, Drop)]
 pub struct Cursor<'a> {
     pub(crate) bytes: &'a [u8],
     pub(crate) at: usize,
@@ -108,6 +155,13 @@ impl<'a> Cursor<'a> {
         }
     }
 
+    // The number of the place.
+    pub fn place(&self) -> usize
+        ensures { result ≡ self.now.at }
+    {
+        self.at
+    }
+
     // Do the bytes end here?
     pub fn at_end(&self) -> bool
         ensures { result ≡ eqb self.now.at (length self.now.bytes) }
@@ -116,23 +170,24 @@ impl<'a> Cursor<'a> {
     }
 
     // The place behind the blanks that stand here: a number of 64 bits, which bounds what a caller counts by places.
-    #[tactic(auto, using(crate::proofs::Spans::past_from_prefix))]
+    #[inline(always)]
     pub fn past_blanks(&self) -> Cursor<'a>
         ensures place { result ≡ place self.now.bytes (past_blanks self.now.bytes self.now.at) }
         ensures small { result.at < 18446744073709551616 }
     {
         Cursor {
             bytes: self.bytes,
-            at: self.at + prefix::<Blank>(&self.bytes[self.at..]),
+            at: behind_blanks(self.bytes, self.at),
         }
     }
 
     // The place behind the bytes `l`, where they stand here.
-    #[tactic(auto, using(crate::proofs::Starts::literal_from_starts_with))]
+    #[tactic(auto, using(crate::proofs::Starts::literal_within))]
+    #[inline(always)]
     pub fn literal(&self, l: &[u8]) -> Option<Cursor<'a>>
         ensures { result ≡ past_literal self.now.bytes l.now self.now.at }
     {
-        if self.bytes[self.at..].starts_with(l) {
+        if stands(self.bytes, self.at, l) {
             Some(Cursor {
                 bytes: self.bytes,
                 at: self.at + l.len(),

@@ -5,7 +5,7 @@ ghost use Rattle.grammar.specs.Inside.{inside_at};
 use crate::bytes::Cursor;
 
 // It closes with "/>", or holds what stands from the place behind ">" and blanks on.
-#[derive(Drop)]
+#[derive(Clone, Drop)]
 pub enum Inside<'a> {
     Closed(Cursor<'a>),
     Holds(Cursor<'a>),

@@ -51,6 +51,7 @@ impl Model for Limits {
 impl GroupLimits {
     // The limits of a group at `at`.
     #[tactic(auto, unfolding(grammar::specs::Reader::numbers_at))]
+    #[inline(always)]
     pub fn read<'a>(at: &Cursor<'a>) -> Option<(GroupLimits, Cursor<'a>)>
         ensures { result ≡ found at.now.bytes (numbers_at at.now.bytes two at.now.at) }
     {
@@ -61,8 +62,10 @@ impl GroupLimits {
 }
 
 impl Limits {
-    // The limits of a contract or an instrument at `at`: those that a group has, and two more.
+    // The limits of a contract or an instrument at `at`: those that a group has, and two more. A function of its own in the program too:
+    // in the code of a whole load its loops would be short of registers.
     #[tactic(auto, unfolding(grammar::specs::Reader::numbers_at))]
+    #[inline(never)]
     pub fn read<'a>(at: &Cursor<'a>) -> Option<(Limits, Cursor<'a>)>
         ensures { result ≡ found at.now.bytes (numbers_at at.now.bytes four at.now.at) }
     {

@@ -8,14 +8,14 @@ use memory_layout::account::DeskAccount;
 use memory_layout::readable::ReadableDesk;
 use words::{part, word};
 
-// Both figures of word `k`.
+// Both figures of word `k`. Both are tested, and the two words of a line, with no branch between: a row is then passed faster.
 #[tactic(auto, unfolding(crate::specs::Soundness::group_line_in_range, limits::specs::InBytes::group_line_at))]
 fn word_in_range(m: &[u8], k: usize, largest: u64) -> bool
     requires { (k + 1) * 8 ≤ length m.now }
     ensures { result ≡ group_line_in_range largest (group_line_at m.now k) }
 {
     let w = word(m, k);
-    w % 4294967296 <= largest && w / 4294967296 <= largest
+    (w % 4294967296 <= largest) & (w / 4294967296 <= largest)
 }
 
 // The line in two words.
@@ -23,7 +23,7 @@ fn word_in_range(m: &[u8], k: usize, largest: u64) -> bool
 fn line_in_range(line: &[u8; 16], largest: u64) -> bool
     ensures { result ≡ line_in_range largest (line_at line.now 0) }
 {
-    word_in_range(line, 0, largest) && word_in_range(line, 1, largest)
+    word_in_range(line, 0, largest) & word_in_range(line, 1, largest)
 }
 
 // Each line of a row, two words each.
