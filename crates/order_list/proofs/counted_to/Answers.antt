@@ -20,8 +20,9 @@ sum-requires-clause-fits c =
 pub returns : goal.returns
 returns c =
     let a = c.args in
-    sum_by_from_yields_List _ _ c.map.result _ c.sum.ensures.ran
+    let sum = sum_by_from_yields_List _ _ c.map.result _ c.sum.ensures.ran
     (YieldsList-from_map _ (λ o. counted o a.side a.account a.instrument)
     (YieldsList-at c.map.ensures.source (YieldsList-from_slice a.orders.now cc)) c.map.ensures.closure
     (λ o r q k. search (rules, tests)))
-    ∙ counted_whole a.orders.now a.side a.account a.instrument
+    ∙ counted_whole a.orders.now a.side a.account a.instrument in
+    omega (arith, sum)
