@@ -4,4 +4,5 @@ pub mod Stepped
 pub mod Cutting
 mod SoundAfter
 pub mod RunLoop
+pub mod NextLeft
 pub mod Loads

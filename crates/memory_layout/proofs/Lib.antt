@@ -1,6 +1,7 @@
 -- Laws of the memory: which words a field of the view is made of, what each store changes, and records that move. One module a subject.
 pub mod RosterLaws
 pub mod Every
+pub mod SoFar
 pub mod All
 pub mod RosterRead
 pub mod MarketRead

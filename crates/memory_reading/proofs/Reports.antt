@@ -1,6 +1,6 @@
 -- What a reader answers and reports.
 use Rattle.std.specs.Prelude.{◌≡◌, ◌∷◌}
-use Rattle.integers.specs.Basics.{ℕ, refl, ◌∙◌, sym, true, List, [], ℤ, arith, eq-eqb, ne_eqb}
+use Rattle.integers.specs.Basics.{ℕ, refl, ◌∙◌, sym, true, false, List, [], ℤ, arith, eq-eqb, ne_eqb}
 use Rattle.positions.specs.declared.InstrumentPosition.{InstrumentPosition}
 use Rattle.positions.specs.declared.GroupPosition.{GroupPosition}
 use Rattle.ledger.specs.Roster.{Numbered}
@@ -29,6 +29,21 @@ use Rattle.memory_reading.specs.Reading.{item_answer, instrument_answer, group_a
 use Rattle.memory_reading.specs.Reading.{instrument_report, group_report, reported}
 
 -- ---- the answers
+-- `items` and `n` are the roster's number of instruments or groups and the one asked for
+module _ (m : List ℕ) (items a n : ℕ) where
+  pub unsound : sound_desk m ≡ false → 5 ≡ first_no (reading_questions m items a n)
+  unfolding first_no reading_questions
+  unsound h = rw h
+
+  module _ (sound : sound_desk m ≡ true) where
+    pub no_account : between 1 (roster_of m).accounts a ≡ false → 7 ≡ first_no (reading_questions m items a n)
+    unfolding first_no reading_questions
+    no_account h = rw (sound, h)
+
+    pub no_item : between 1 (roster_of m).accounts a ≡ true → between 1 items n ≡ false → 8 ≡ first_no (reading_questions m items a n)
+    unfolding first_no reading_questions
+    no_item known h = rw (sound, known, h)
+
 pub answered : (m : List ℕ) (items a n : ℕ) → sound_desk m ≡ true → between 1 (roster_of m).accounts a ≡ true → between 1 items n ≡ true
     → 0 ≡ first_no (reading_questions m items a n)
 unfolding first_no reading_questions

@@ -10,6 +10,7 @@ pub mod Gathering
 mod PositionTests
 mod Tables
 mod Whole
+mod AskedInOrder
 pub mod Questions
 pub mod RosterFacts
 pub mod LineFacts
