@@ -1,5 +1,5 @@
 // The lines of answers: `E` place answer. The places of ten lines share all digits but the last: these, the tens, are made once for the
-// ten, and so is room for the lines.
+// ten. Room is made line by line.
 ghost use Rattle.std.specs.Prelude.{◌≡◌, ◌+◌, ◌/◌, ◌%◌, ◌^◌, ◌<◌, ◌≤◌, length, get_or, take, decimal};
 
 use crate::output::Lines;
