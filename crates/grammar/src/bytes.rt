@@ -20,7 +20,8 @@ pub trait Class {
         ensures { result ≡ test b };
 }
 
-// A space, a tab, a carriage return or a line feed: `is_ascii_whitespace` takes a form feed too.
+// A space, a tab, a carriage return or a line feed: `is_ascii_whitespace` takes a form feed too. Spelled out: the compiler then asks all
+// four by one bit of a word, and with `matches!` by a branch for each, which takes twice the time where blanks are of several kinds.
 pub struct Blank;
 
 // 0 to 9.
@@ -34,7 +35,7 @@ impl Class for Blank {
 
     #[tactic(auto, unfolding(crate::specs::Bytes::is_blank))]
     fn has(b: u8) -> bool {
-        matches!(b, b' ' | b'\t' | b'\r' | b'\n')
+        b == b' ' || b == b'\t' || b == b'\r' || b == b'\n'
     }
 }
 

@@ -6,6 +6,8 @@ use Rattle.grammar.specs.Bytes.{all}
 use Rattle.grammar.specs.Grammar.{Attribute, Element, holding, Values, Value}
 use Rattle.grammar.specs.Reader.{Reading, nothing, up_to, with, tag_at, children_at, element_at}
 use Rattle.grammar.specs.Found.{found}
+use Rattle.grammar.specs.declared.tags.Inside.{Inside}
+use Rattle.grammar.specs.Inside.{inside_at}
 use Rattle.grammar.specs.Place.{Place, place}
 use Rattle.grammar.proofs.Handed.{found_some}
 use Rattle.memory_soundness.specs.SoundMemory.{SoundMemory}
@@ -13,6 +15,7 @@ use Rattle.memory_loading.specs.declared.progress.Progress.{Progress}
 use Rattle.memory_loading.specs.Entries.{Entry, entries_of}
 use Rattle.memory_loading.specs.Passing.{Kept, Passed, ElementRead, ChildrenRead}
 use Rattle.memory_loading.proofs.Passes.{kept_self, kept_on, passed_on}
+use Rattle.memory_loading.proofs.HeldElements.{children_inside}
 
 -- what code hands on of a reading r of bytes s, made by g of what is read
 module _ {A T : Type 0} (s : List ℕ) (g : A → T) where
@@ -44,6 +47,16 @@ module _ (p : Place) (name : String) (l : List Attribute) (c : Element) {T : Typ
   pub tag_missing : {m : List ℕ} → SoundMemory m → r ≡ None → (element_at p.bytes (holding name l c) p.at ≡ nothing) × Kept m m
   unfolding element_at
   tag_missing sound none = (rw (not_found p.bytes g (tag_at p.bytes name l p.at) (sym read ∙ none)), kept_self sound)
+
+  -- nor is it one where its tag does not end behind the attributes
+  pub tag_unended : {m : List ℕ} {x : T × Place} {i : Option Inside} → SoundMemory m → r ≡ Some x → i ≡ inside_at x.1.bytes x.1.at
+      → i ≡ None → (element_at p.bytes (holding name l c) p.at ≡ nothing) × Kept m m
+  unfolding element_at
+  tag_unended {x = x} sound there is none =
+      let (v, reads, tag) = was_found p.bytes g (tag_at p.bytes name l p.at) (sym read ∙ there) in
+      let (up, same) = found_some p.bytes (tag_at p.bytes name l p.at) reads in
+      let ends : None ≡ inside_at p.bytes x.1.at = sym none ∙ rw same at is in
+      (rw (up, children_inside p.bytes (element_at p.bytes c) name x.1.at ends), kept_self sound)
 
   module _ (entered : T → List Entry) (below : T → Value c → List Entry) (said : T → ℕ) (counts : Value c → Bool) where
     abbrev pub WholeRead : List ℕ → Progress → List ℕ → Option (Progress × Place) → Type 0

@@ -97,7 +97,7 @@ impl Children for Instruments {
     }
 }
 
-// ContrtLmt, in an EqvIxmLmt.
+// ContrtLmt, in an EqvIxmLmt. Nothing of it is entered before its tag is known to end.
 impl Children for Contracts {
     ghost layout = { contract };
 
@@ -118,6 +118,7 @@ impl Children for Contracts {
         before: Progress,
     ) -> Option<(Progress, Cursor<'a>)> {
         let (tag, next) = contract_tag(at)?;
+        next.inside()?;
         let progress = self.enter(m, &tag, before);
         let instruments = Instruments {
             account: self.account,
@@ -127,7 +128,7 @@ impl Children for Contracts {
     }
 }
 
-// EqvIxmLmt, in an AcctLmt.
+// EqvIxmLmt, in an AcctLmt, likewise.
 impl Children for Groups {
     ghost layout = { group };
 
@@ -148,6 +149,7 @@ impl Children for Groups {
         before: Progress,
     ) -> Option<(Progress, Cursor<'a>)> {
         let (tag, next) = group_tag(at)?;
+        next.inside()?;
         let progress = self.enter(m, &tag, before);
         let contracts = Contracts {
             account: self.account,

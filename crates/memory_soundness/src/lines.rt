@@ -6,28 +6,29 @@ ghost use Rattle.memory_soundness.specs.Soundness.{line_in_range, group_line_in_
 use crate::bits::all_in_range;
 use memory_layout::account::DeskAccount;
 use memory_layout::readable::ReadableDesk;
-use words::{part, word};
+use words::fields::Field;
+use words::part;
 
-// Both figures of word `k`. Both are tested, and the two words of a line, with no branch between: a row is then passed faster.
-#[tactic(auto, unfolding(crate::specs::Soundness::group_line_in_range, limits::specs::InBytes::group_line_at))]
-fn word_in_range(m: &[u8], k: usize, largest: u64) -> bool
+// Both figures of word `k`, as numbers of 32 bits. Both are tested, and the two words of a line, with no branch between: the compiler then
+// tests the four figures of a line at once.
+#[tactic(auto, using(words::proofs::HalfWords::lower_field, words::proofs::HalfWords::upper_field), unfolding(crate::specs::Soundness::group_line_in_range, limits::specs::InBytes::group_line_at))]
+fn word_in_range(m: &[u8], k: usize, largest: u32) -> bool
     requires { (k + 1) * 8 ≤ length m.now }
     ensures { result ≡ group_line_in_range largest (group_line_at m.now k) }
 {
-    let w = word(m, k);
-    (w % 4294967296 <= largest) & (w / 4294967296 <= largest)
+    (u32::at(m, k * 8) <= largest) & (u32::at(m, k * 8 + 4) <= largest)
 }
 
 // The line in two words.
 #[tactic(auto, using(crate::proofs::LineFacts::line_of_words))]
-fn line_in_range(line: &[u8; 16], largest: u64) -> bool
+fn line_in_range(line: &[u8; 16], largest: u32) -> bool
     ensures { result ≡ line_in_range largest (line_at line.now 0) }
 {
     word_in_range(line, 0, largest) & word_in_range(line, 1, largest)
 }
 
 // Each line of a row, two words each.
-fn row_in_range(row: &[u8], largest: u64) -> bool
+fn row_in_range(row: &[u8], largest: u32) -> bool
     ensures { IsTrue result ↔ ((p : ℕ) → p < length row.now / 16 → line_in_range largest (line_at row.now (p * 2)) ≡ true) }
 {
     row.as_chunks::<16>()
@@ -37,7 +38,7 @@ fn row_in_range(row: &[u8], largest: u64) -> bool
 }
 
 // Each group line of a row, a word each.
-fn group_row_in_range(row: &[u8], largest: u64) -> bool
+fn group_row_in_range(row: &[u8], largest: u32) -> bool
     ensures { IsTrue result ↔ ((p : ℕ) → p < length row.now / 8 → group_line_in_range largest (group_line_at row.now p) ≡ true) }
 {
     row.as_chunks::<8>()
@@ -47,29 +48,30 @@ fn group_row_in_range(row: &[u8], largest: u64) -> bool
 }
 
 // The lines of an account: all 168 figures of its row at once, on the roster or not, so that the compiler knows their number; and where
-// that does not tell, those on the roster one by one.
+// that does not tell, those on the roster line by line.
 #[tactic(auto, using(crate::proofs::LineFacts::rows_read))]
 fn account_lines_are_sound(account: &DeskAccount) -> bool
     ensures { result ≡ account_lines_sound account.now.memory account.now.number }
 {
     let largest = account.memory.market().largest;
+    let most = largest as u32;
     let instruments = account.memory.instruments() as usize;
     let contracts = account.memory.contracts() as usize;
     let groups = account.memory.groups() as usize;
     all_in_range(account.memory.lines_row(account.number), largest)
         || row_in_range(
             part(account.memory.own_lines(account.number), 2, instruments * 2),
-            largest,
+            most,
         ) && row_in_range(
             part(
                 account.memory.default_lines(account.number),
                 2,
                 contracts * 2,
             ),
-            largest,
+            most,
         ) && group_row_in_range(
             part(account.memory.group_lines(account.number), 1, groups),
-            largest,
+            most,
         )
 }
 

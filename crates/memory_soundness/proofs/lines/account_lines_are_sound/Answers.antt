@@ -1,10 +1,14 @@
--- Each row says its part.
+-- Each row says its part. The largest figure of any market is a number of 32 bits.
 use Rattle.std.proofs.lemmas.Grind.{common_steps}
 use Rattle.integers.specs.Basics.{arith}
+use Rattle.memory_layout.proofs.MarketRead.{market_most}
 use Rattle.memory_soundness.specs.Soundness.{account_lines_sound}
 use Rattle.memory_soundness.proofs.LineFacts.{own_row, default_row, group_row}
 use Rattle.memory_soundness.proofs.lines.account_lines_are_sound.Goals as goal
 use Rattle.memory_soundness.proofs.lines.account_lines_are_sound.Goals.{then-row_in_range, else-row_in_range}
+
+pub overflow_cast-most : goal.overflow_cast-most
+overflow_cast-most c = omega (arith, c.market-largest.ensures, market_most c.args.account.now.memory)
 
 pub returns-then-row_in_range-2 : goal.returns-then-row_in_range-2
 unfolding account_lines_sound
