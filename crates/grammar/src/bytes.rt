@@ -21,7 +21,7 @@ pub trait Class {
 }
 
 // A space, a tab, a carriage return or a line feed: `is_ascii_whitespace` takes a form feed too. Spelled out: the compiler then asks all
-// four by one bit of a word, and with `matches!` by a branch for each, which takes twice the time where blanks are of several kinds.
+// four by one bit of a word, and with `matches!` by a branch for each, which is slower where blanks are of several kinds.
 pub struct Blank;
 
 // 0 to 9.

@@ -1,7 +1,10 @@
 -- The lines' condition as facts, and back: the figures of every line on the roster are in range, and so those that are set.
 use Rattle.std.specs.Prelude.{◌+◌, ◌*◌, ◌/◌, ◌<◌, ◌≡◌, ◌↔◌, ◌&&◌, IsTrue}
 use Rattle.integers.specs.Basics.{ℕ, refl, ◌∙◌, ap, Bool, true, false, cond, List, None, Some, leb, length, arith, leb-true, le-leb}
+use Rattle.words.specs.Bytes.{Bytes}
+use Rattle.words.specs.Fields.{u32_at}
 use Rattle.words.specs.Words.{lower, upper, part_of}
+use Rattle.words.proofs.HalfWords.{lower_field, upper_field}
 use Rattle.ledger.specs.Roster.{Numbered}
 use Rattle.limits.specs.declared.lines.Line.{Line}
 use Rattle.limits.specs.declared.lines.GroupLine.{GroupLine}
@@ -50,6 +53,12 @@ group_line_out largest l e =
 pub group_line_in : (largest : ℕ) (l : GroupLine) → GroupLineFits largest l → group_line_in_range largest l ≡ true
 unfolding group_line_in_range
 group_line_in largest l f = rw (le-leb l.lcc largest f.lcc) (le-leb l.lvc largest f.lvc)
+
+-- a word is in range where both its fields of 32 bits are
+pub word_of_fields : (m : List ℕ) (k largest : ℕ) → Bytes m → group_line_in_range largest (group_line_at m k)
+    ≡ (leb (u32_at m (k * 8)) largest && leb (u32_at m (k * 8 + 4)) largest)
+unfolding group_line_in_range group_line_at
+word_of_fields m k largest bytes = rw (lower_field m k bytes, upper_field m k bytes) refl
 
 -- a line is in range where both its words are
 pub line_of_words : (m : List ℕ) (k largest : ℕ) → line_in_range largest (line_at m k)

@@ -11,7 +11,7 @@ use words::part;
 
 // Both figures of word `k`, as numbers of 32 bits. Both are tested, and the two words of a line, with no branch between: the compiler then
 // tests the four figures of a line at once.
-#[tactic(auto, using(words::proofs::HalfWords::lower_field, words::proofs::HalfWords::upper_field), unfolding(crate::specs::Soundness::group_line_in_range, limits::specs::InBytes::group_line_at))]
+#[tactic(auto, using(crate::proofs::LineFacts::word_of_fields))]
 fn word_in_range(m: &[u8], k: usize, largest: u32) -> bool
     requires { (k + 1) * 8 ≤ length m.now }
     ensures { result ≡ group_line_in_range largest (group_line_at m.now k) }

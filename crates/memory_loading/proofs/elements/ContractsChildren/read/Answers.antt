@@ -1,4 +1,5 @@
--- The start tag is read and the contract entered, and then the instruments that it holds; or there is no contract, nor is there where the tag does not end.
+-- The start tag is read and the contract entered, and then the instruments that it holds; or there is no contract: no tag, or one that
+-- does not end.
 use Rattle.std.specs.Prelude.{◌∷◌}
 use Rattle.integers.specs.Basics.{[]}
 use Rattle.limit_file.specs.declared.ContractTag.{ContractTag}
@@ -17,8 +18,8 @@ returns-in_err-tag c =
 pub returns-in_err-inside : goal.returns-in_err-inside
 returns-in_err-inside c =
     rw c.from_residual-in_err-inside.ensures
-    (tag_unended c.args.at.now "ContrtLmt" of_contract instrument contract_tag c.contract_tag.ensures c.requires c.in_ok-tag.was c.inside.ensures
-    c.in_err-inside.was)
+    (tag_unended c.args.at.now "ContrtLmt" of_contract instrument contract_tag c.contract_tag.ensures c.requires c.in_ok-tag.was
+    c.inside.ensures c.in_err-inside.was)
 
 pub returns : goal.returns
 returns c =

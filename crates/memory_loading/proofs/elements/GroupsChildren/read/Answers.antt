@@ -1,4 +1,5 @@
--- The start tag is read and the group entered, and then the contracts that it holds; or there is no group, nor is there where the tag does not end.
+-- The start tag is read and the group entered, and then the contracts that it holds; or there is no group: no tag, or one that
+-- does not end.
 use Rattle.std.specs.Prelude.{◌∷◌}
 use Rattle.integers.specs.Basics.{[]}
 use Rattle.limit_file.specs.declared.GroupTag.{GroupTag}
@@ -16,8 +17,8 @@ returns-in_err-tag c =
 pub returns-in_err-inside : goal.returns-in_err-inside
 returns-in_err-inside c =
     rw c.from_residual-in_err-inside.ensures
-    (tag_unended c.args.at.now "EqvIxmLmt" of_group contract group_tag c.group_tag.ensures c.requires c.in_ok-tag.was c.inside.ensures
-    c.in_err-inside.was)
+    (tag_unended c.args.at.now "EqvIxmLmt" of_group contract group_tag c.group_tag.ensures c.requires c.in_ok-tag.was
+    c.inside.ensures c.in_err-inside.was)
 
 pub returns : goal.returns
 returns c =
